@@ -1,0 +1,182 @@
+-- Demand 1: every refusal exactly when its row says, and nothing changes; 14 keeps the bytes before it. Assumes nothing.
+use Prim.Native.Nat.{ℕ, zero, suc, _+_, _≤_, _<_}
+use mathlib.Core.Path.{_≡_, refl, sym, ap, _∙_}
+use mathlib.Core.Bool.{Bool, true, false, _&&_, cond, true≢false, false≢true}
+use mathlib.Core.List.{List, [], _∷_, _++_}
+use mathlib.Core.Logic.{_↔_}
+use native.Mathlib.Omega.{arith}
+use lib.ListN.{length, take}
+use lib.Seq.{length-take-le, take-take}
+use lib.Dec.{ltb, eqb, lit<}
+use borrow.Author.Tests.{eqb-true, eqb-false, eq-eqb, ne-eqb, ltb-true, ltb-false, lt-ltb, le-ltb}
+use Rattle.lists.specs.Scan.{Rule, verdict, number, Given, Refuses}
+use Rattle.lists.specs.List.{listRules, listRefusal, badLength, badRecord, noStart}
+use Rattle.lists.proofs.Scanning.{both}
+use Rattle.lists.proofs.Rules.{refuses, exactly, numbered, number-lt, verdict-lt, passes, passes-changed}
+use Rattle.flows.specs.Engine.{Engine, Outcome, room, run, consumed, ended, refused, feed}
+use Rattle.flows.specs.Flow.{flowLayout, frontierOf, offsetOf, mostOffset, badFlow, otherStart, tooLong, feedRules}
+use Rattle.flows.proofs.Runs.{consumed-most, consumed-again, length-take-most}
+use Rattle.flows.proofs.Going.{unfed}
+use Rattle.plain.specs.Plain.{plain, opened, openRules, openRefusal, openSaved, plainFeed}
+use Rattle.plain.proofs.Plain.{plain-refusal}
+use Rattle.tables.specs.Table.{Table, sizeRules, tableRules, tableRefusal}
+use Rattle.splits.specs.Split.{stuck, split, splitRules, splitFeed}
+use Rattle.demands.specs.Demands.{Unchanged, Same, Demand1}
+
+-- a feed that a rule refuses changes nothing
+pub refused-unchanged : {C : Type 0} (E : Engine C) (K : Rattle.flows.specs.Engine.Layout C) (R piece out : List ℕ) (rules : List Rule) → (verdict rules ≡ 0 → ⊥)
+    → Unchanged R out (feed rules E K R piece out)
+refused-unchanged E K R piece out rules v =
+    rw (unfed E K R piece out rules v) (record { bytes = refl; pairs = refl; all = refl; words = refl; saved = refl })
+
+open-refused : (L R : List ℕ) → (openRefusal L R ≡ 0 → ⊥) → openSaved L R ≡ R
+open-refused L R v = rw (ne-eqb (openRefusal L R) 0 v)
+
+table-refuses : (L : List ℕ) (b : ℕ) (T : Table) → Refuses (tableRules L b T) (tableRefusal L b T)
+unfolding tableRefusal
+table-refuses L b T = refuses (tableRules L b T) refl
+
+-- ---- the split feed
+
+module _ (L : List ℕ) (b : ℕ) (T : Table) (R : List ℕ) (at : ℕ) (piece out : List ℕ) where
+  rules : List Rule
+  rules = splitRules L b T R at piece
+
+  few : ℕ
+  few = consumed (split L b T) (frontierOf R) (room out) piece
+
+  front : List ℕ
+  front = take few piece
+
+  -- it passes, and ends after its front; or a rule refuses it
+  goes : verdict (splitRules L b T R at piece) ≡ 0 → splitFeed L b T R at piece out ≡ ended (split L b T) flowLayout R front (length piece) out
+  unfolding feed front few
+  goes v = rw (eq-eqb (verdict (splitRules L b T R at piece)) 0 v)
+
+  front-long : length front ≡ few
+  unfolding front few
+  front-long = length-take-le few piece (consumed-most (split L b T) (frontierOf R) (room out) piece)
+
+  bytes-few : verdict (splitRules L b T R at piece) ≡ 0 → splitFeed L b T R at piece out .bytes ≡ few
+  unfolding ended
+  bytes-few v = rw (goes v) front-long
+
+  -- the refusal, where no rule refuses
+  halting : Bool
+  halting = ltb (length front) (length piece) && stuck b T (run (split L b T) (frontierOf R) front)
+
+  ended-refusal : verdict (splitRules L b T R at piece) ≡ 0 → splitFeed L b T R at piece out .refusal ≡ cond halting 14 0
+  unfolding ended halting
+  ended-refusal v = rw (goes v)
+
+  refused-refusal : (verdict (splitRules L b T R at piece) ≡ 0 → ⊥) → splitFeed L b T R at piece out .refusal ≡ verdict (splitRules L b T R at piece)
+  refused-refusal v = rw (unfed (split L b T) flowLayout R piece out (splitRules L b T R at piece) v)
+
+  is-14 : (t : Bool) → _≡_ {A = ℕ} (cond t 14 0) 14 → t ≡ true
+  is-14 true e = refl
+  is-14 false e = absurd (omega arith)
+
+  small : (t : Bool) (n : ℕ) → cond t 14 0 ≡ n → n < 14 → n ≡ 0
+  small true n e h = absurd (omega arith)
+  small false n e h = sym e
+
+  verdict-small : verdict (splitRules L b T R at piece) < 14
+  verdict-small = verdict-lt 14 (splitRules L b T R at piece) (lit< tt) refl
+
+  decide : (P : Type 0) → (verdict (splitRules L b T R at piece) ≡ 0 → P) → ((verdict (splitRules L b T R at piece) ≡ 0 → ⊥) → P) → P
+  decide P f g = elim (native.Mathlib.Decide.ℕ-discrete (verdict (splitRules L b T R at piece)) 0) [ yes e ↦ f e | no n ↦ g n ]
+
+  -- 1 to 8
+  by-rule : (i : ℕ) → i < 8 → (splitFeed L b T R at piece out .refusal ≡ number (splitRules L b T R at piece) i) ↔ Given (splitRules L b T R at piece) i
+  by-rule i h = (
+    λ e. exactly (splitRules L b T R at piece) refl i h .0 (there e),
+    λ g. let e = exactly (splitRules L b T R at piece) refl i h .1 g in refused-refusal (λ z. numbered (splitRules L b T R at piece) refl i h (sym e ∙ z)) ∙ e,
+  )
+    where
+      there : splitFeed L b T R at piece out .refusal ≡ number (splitRules L b T R at piece) i → verdict (splitRules L b T R at piece) ≡ number (splitRules L b T R at piece) i
+      there e =
+          decide (verdict (splitRules L b T R at piece) ≡ number (splitRules L b T R at piece) i)
+          (λ v. absurd (numbered (splitRules L b T R at piece) refl i h
+          (small halting (number (splitRules L b T R at piece) i) (sym (ended-refusal v) ∙ e) (number-lt 14 (splitRules L b T R at piece) refl i h))))
+          (λ v. sym (refused-refusal v) ∙ e)
+
+  passed-14 : splitFeed L b T R at piece out .refusal ≡ 14 → verdict (splitRules L b T R at piece) ≡ 0
+  passed-14 e =
+      decide (verdict (splitRules L b T R at piece) ≡ 0) (λ v. v) (λ v. absurd (omega (arith, verdict-small, sym (refused-refusal v) ∙ e)))
+
+  halts-14 : splitFeed L b T R at piece out .refusal ≡ 14 → (few < length piece) × (stuck b T (run (split L b T) (frontierOf R) front) ≡ true)
+  unfolding halting
+  halts-14 e =
+      let h = both (ltb (length front) (length piece)) (stuck b T (run (split L b T) (frontierOf R) front)) (is-14 halting (sym (ended-refusal (passed-14 e)) ∙ e)) in
+      (rw front-long at (ltb-true (length front) (length piece) (h .0)), h .1)
+
+  by-halt : (splitFeed L b T R at piece out .refusal ≡ 14)
+      ↔ ((verdict (splitRules L b T R at piece) ≡ 0) × (splitFeed L b T R at piece out .bytes < length piece)
+      × (stuck b T (run (split L b T) (frontierOf R) (take (splitFeed L b T R at piece out .bytes) piece)) ≡ true))
+  unfolding front halting
+  by-halt = (
+    λ e. let v = passed-14 e in rw (bytes-few v) (v, halts-14 e .0, halts-14 e .1),
+    λ w. ended-refusal (w .0) ∙ back (rw (bytes-few (w .0)) at (w .1)) (rw (bytes-few (w .0)) at (w .2)),
+  )
+    where
+      back : few < length piece → stuck b T (run (split L b T) (frontierOf R) (take few piece)) ≡ true → _≡_ {A = ℕ} (cond halting 14 0) 14
+      back l s = rw (lt-ltb (length front) (length piece) (rw front-long l), s)
+
+  not-all : splitFeed L b T R at piece out .refusal ≡ 14 → splitFeed L b T R at piece out .all ≡ false
+  unfolding ended
+  not-all e = rw (goes (passed-14 e)) (ne-eqb (length front) (length piece) (λ q. omega (arith, halts-14 e .0, front-long, q)))
+
+-- a piece cut to a front of it passes where it passes
+cut-passes : (L : List ℕ) (b : ℕ) (T : Table) (R : List ℕ) (at : ℕ) (piece : List ℕ) (n : ℕ) → verdict (splitRules L b T R at piece) ≡ 0 → verdict (splitRules L b T R at (take n piece)) ≡ 0
+cut-passes L b T R at piece n v =
+    passes-changed ((1, badLength L) ∷ (2, badRecord L) ∷ (3, noStart L) ∷ (4, badFlow R) ∷ (5, otherStart R at) ∷ []) 5 (tooLong R piece) (tooLong R (take n piece)) (sizeRules b T) v
+    (le-ltb mostOffset (offsetOf R + length (take n piece)) (omega (arith, length-take-most n piece, ltb-false mostOffset (offsetOf R + length piece) short)))
+  where
+    short : tooLong R piece ≡ false
+    short =
+        let r1 = passes 0 _ _ v in
+        let r2 = passes 1 _ _ (r1 .1) in
+        let r3 = passes 2 _ _ (r2 .1) in
+        let r4 = passes 3 _ _ (r3 .1) in
+        let r5 = passes 4 _ _ (r4 .1) in
+        passes 5 _ _ (r5 .1) .0
+
+-- 14 leaves what the bytes before it leave
+kept : (L : List ℕ) (b : ℕ) (T : Table) (R : List ℕ) (at : ℕ) (piece out : List ℕ) → splitFeed L b T R at piece out .refusal ≡ 14
+    → Same (splitFeed L b T R at piece out) (splitFeed L b T R at (take (splitFeed L b T R at piece out .bytes) piece) out)
+unfolding front few ended
+kept L b T R at piece out e =
+    let v = passed-14 L b T R at piece out e in
+    let n = few L b T R at piece out in
+    let w = cut-passes L b T R at piece n v in
+    let again : take (consumed (split L b T) (frontierOf R) (room out) (take n piece)) (take n piece) ≡ take n piece =
+    ap (λ (m : ℕ). take m (take n piece)) (consumed-again (split L b T) (frontierOf R) (room out) piece) ∙ take-take n n piece (omega arith) in
+    rw (bytes-few L b T R at piece out v, goes L b T R at piece out v, goes L b T R at (take n piece) out w, again)
+    (record { bytes = sym (front-long L b T R at piece out); pairs = refl; words = refl; saved = refl })
+
+pub demand-1 : Demand1
+demand-1 =
+    record {
+      lists = λ L. refuses (listRules L) refl;
+      opens = λ L R. refuses (openRules L R) refl;
+      opens-not = open-refused;
+      feeds = λ L R at piece out. rw (plain-refusal L R at piece out) (refuses (feedRules L R at piece) refl);
+      feeds-not = λ L R at piece out v. refused-unchanged (plain L) flowLayout R piece out (feedRules L R at piece) (rw (plain-refusal L R at piece out) at v);
+      tables = table-refuses;
+      splits = by-rule;
+      splits-not =
+          λ L b T R at piece out v w.
+          refused-unchanged (split L b T) flowLayout R piece out (splitRules L b T R at piece) (λ z. neither-of L b T R at piece out v w z);
+      halts = by-halt;
+      halts-not-all = not-all;
+      halts-kept = kept;
+    }
+  where
+    two : (t : Bool) → (_≡_ {A = ℕ} (cond t 14 0) 0 → ⊥) → (_≡_ {A = ℕ} (cond t 14 0) 14 → ⊥) → ⊥
+    two true v w = w refl
+    two false v w = v refl
+
+    neither-of : (L : List ℕ) (b : ℕ) (T : Table) (R : List ℕ) (at : ℕ) (piece out : List ℕ)
+        → (splitFeed L b T R at piece out .refusal ≡ 0 → ⊥) → (splitFeed L b T R at piece out .refusal ≡ 14 → ⊥) → verdict (splitRules L b T R at piece) ≡ 0 → ⊥
+    neither-of L b T R at piece out v w z =
+        two (halting L b T R at piece out) (λ e. v (ended-refusal L b T R at piece out z ∙ e)) (λ e. w (ended-refusal L b T R at piece out z ∙ e))

@@ -1,0 +1,181 @@
+-- Demand 2 over any list of calls from any record, and what holds of each call, plain or split. Assumes nothing.
+use Prim.Native.Nat.{ℕ, zero, suc, _+_, _*_, _^_, _≤_, _<_}
+use mathlib.Core.Path.{_≡_, refl, sym, ap, _∙_, subst}
+use mathlib.Core.Bool.{Bool, true, false, _&&_, cond, true≢false}
+use mathlib.Core.List.{List, [], _∷_, _++_}
+use native.Mathlib.Omega.{arith}
+use native.Mathlib.Nat.{mul-add}
+use native.Mathlib.Decide.{ℕ-discrete}
+use lib.ListN.{length, take}
+use lib.Seq.{length-take-le}
+use lib.Dec.{ltb, eqb}
+use borrow.Author.Tests.{eq-eqb, lt-ltb}
+use Rattle.sets.specs.Set.{states, signatures}
+use Rattle.lists.specs.Scan.{verdict}
+use Rattle.lists.proofs.Rules.{passes}
+use Rattle.flows.specs.Engine.{Engine, Layout, Outcome, room, run, costs, told, consumed, ended, refused, feed}
+use Rattle.flows.specs.Flow.{flowLayout, frontierOf, offsetOf, rowsOf, flow, badFlow, otherStart, mostOffset}
+use Rattle.flows.specs.Calls.{Bytes, Asked, answer, recordAfter, allTold, allBytes, Along}
+use Rattle.flows.proofs.Runs.{consumed-most, consumed-fits, consumed-longest, moves, costs-most, bytes-take, length-take-most}
+use Rattle.flows.proofs.Follows.{follows-within}
+use Rattle.flows.proofs.Records.{frontier-lt, flow-good}
+use Rattle.flows.proofs.Going.{unfed}
+use Rattle.flows.proofs.Whole.{Sound, flow-sound, Pieces, Passed, Fair, whole, never-halts, one-engine, by-answer}
+use Rattle.flows.proofs.Cuts.{along-map, Equal, ByOne, One}
+use Rattle.flows.proofs.Cuts as cut
+use Rattle.plain.specs.Plain.{plain}
+use Rattle.plain.proofs.Plain.{plain-cheap, plain-kept}
+use Rattle.demands.specs.Calls.{Via, byList, byTable, Call, engineOf, asked, allAsked, outcome}
+use Rattle.demands.specs.Demands.{Unchanged, Longest, OneCall, InBytes, Each, Plainly, bytesOf, wordsOf, after, Demand2}
+use Rattle.demands.proofs.Engines.{call-passes, rows-few, cost-most}
+use Rattle.demands.proofs.Demand1.{refused-unchanged}
+
+-- ---- calls as feeds that are asked for
+
+pub in-bytes : (R : List ℕ) (cs : List Call) → InBytes cs → Along flowLayout Pieces R (allAsked cs)
+in-bytes R [] h = tt
+in-bytes R (c ∷ cs) h = (h .0, in-bytes (outcome R c .saved) cs (h .1))
+
+pub each-along : (P : List ℕ → Call → Type 0) (Q : List ℕ → Asked ℕ → Type 0) → ((R : List ℕ) (c : Call) → P R c → Q R (asked c))
+    → (R : List ℕ) (cs : List Call) → Each P R cs → Along flowLayout Q R (allAsked cs)
+each-along P Q f R [] h = tt
+each-along P Q f R (c ∷ cs) h = (f R c (h .0), each-along P Q f (outcome R c .saved) cs (h .1))
+
+pub along-each : (P : List ℕ → Call → Type 0) (Q : List ℕ → Asked ℕ → Type 0) → ((R : List ℕ) (c : Call) → Q R (asked c) → P R c)
+    → (R : List ℕ) (cs : List Call) → Along flowLayout Q R (allAsked cs) → Each P R cs
+along-each P Q f R [] h = tt
+along-each P Q f R (c ∷ cs) h = (f R c (h .0), along-each P Q f (outcome R c .saved) cs (h .1))
+
+-- ---- demand 2
+
+-- sets of states
+abbrev pub IsSet : ℕ → Type 0
+IsSet F = F < 2 ^ states
+
+pub sound : Sound flowLayout (Equal IsSet) states
+sound = flow-sound (Equal IsSet) (λ F G r. r .1)
+
+plainly-engine : (L : List ℕ) (c : Call) → c .list ≡ L → c .via ≡ byList → asked c .engine ≡ plain L
+plainly-engine L c p q = ap (λ (v : Via). engineOf v (c .list)) q ∙ ap plain p
+
+-- a plain feed on L that no rule refuses is fed by the automaton of L
+pub plainly-one : (L R : List ℕ) (c : Call) → Plainly L R c → One flowLayout (plain L) states R (asked c)
+plainly-one L R c f v =
+    let g = f v in
+    let p = call-passes R c v in
+    record { engine = plainly-engine L c (g .0) (g .1); rows-few = rows-few R (p .0); short = p .1 }
+
+pub plainly-fair : (L R : List ℕ) (c : Call) → Plainly L R c → Fair flowLayout (plain L) (Equal IsSet) states R (asked c)
+plainly-fair L R c f v =
+    let q = plainly-one L R c f v in
+    record {
+      follows = rw (q .engine) (follows-within (plain L) IsSet (plain-kept L));
+      cheap = λ F G r. rw (q .engine) (plain-cheap L F);
+      rows-few = q .rows-few;
+      short = q .short;
+    }
+
+pub demand-2 : (L R : List ℕ) (cs : List Call) → Bytes R → InBytes cs → Each (Plainly L) R cs → Demand2 L R cs
+demand-2 L R cs hR hb h =
+    let fair = each-along (Plainly L) (Fair flowLayout (plain L) (Equal IsSet) states) (plainly-fair L) R cs h in
+    let pieces = in-bytes R cs hb in
+    let at = frontier-lt R hR in
+    let w = whole flowLayout (plain L) (Equal IsSet) states sound (allAsked cs) R (frontierOf R) fair pieces (refl, at) in
+    let same = each-along (Plainly L) (λ Q a. verdict (a .rules Q) ≡ 0 → (F G : ℕ) → Equal IsSet F G → a .engine .cost F ≡ plain L .cost G)
+    (λ Q c f v F G r. ap (λ (E : Engine ℕ). E .cost F) (plainly-one L Q c f v .engine) ∙ ap (plain L .cost) (r .0)) R cs h in
+    record {
+      tells = w .tells;
+      frontier = w .related .0;
+      offset = w .moved;
+      rows = w .rows ∙ ap (λ (n : ℕ). rowsOf R + n) (one-engine flowLayout (plain L) (Equal IsSet) states sound (plain L) refl (allAsked cs) R (frontierOf R) fair pieces (refl, at) same);
+      refused =
+          along-each (λ Q c. outcome Q c .refusal ≡ verdict (asked c .rules Q)) (λ Q a. answer flowLayout Q a .refusal ≡ verdict (a .rules Q)) (λ Q c e. e) R cs
+          (never-halts flowLayout (plain L) (Equal IsSet) states sound (λ F. refl) (allAsked cs) R (frontierOf R) fair pieces (refl, at));
+    }
+
+-- ---- of one call
+
+-- what it consumes, where no rule refuses it
+call-bytes : (R : List ℕ) (c : Call) → verdict (asked c .rules R) ≡ 0 → outcome R c .bytes ≡ consumed (asked c .engine) (frontierOf R) (room (c .out)) (c .piece)
+unfolding feed ended
+call-bytes R c v =
+    rw (eq-eqb (verdict (asked c .rules R)) 0 v)
+    (length-take-le (consumed (asked c .engine) (frontierOf R) (room (c .out)) (c .piece)) (c .piece) (consumed-most (asked c .engine) (frontierOf R) (room (c .out)) (c .piece)))
+
+call-longest : (R : List ℕ) (c : Call) → verdict (asked c .rules R) ≡ 0 → Longest (asked c .engine) (frontierOf R) (room (c .out)) (c .piece) (outcome R c .bytes)
+call-longest R c v =
+    rw (call-bytes R c v)
+    (record {
+      front = consumed-most (asked c .engine) (frontierOf R) (room (c .out)) (c .piece);
+      fits = consumed-fits (asked c .engine) (frontierOf R) (room (c .out)) (c .piece);
+      longest = consumed-longest (asked c .engine) (frontierOf R) (room (c .out)) (c .piece);
+    })
+
+-- a rule refuses it: its refusal is the rules', and nothing changes
+call-refused : (R : List ℕ) (c : Call) → (verdict (asked c .rules R) ≡ 0 → ⊥) → outcome R c .refusal ≡ verdict (asked c .rules R)
+call-refused R c v = rw (unfed (asked c .engine) flowLayout R (c .piece) (c .out) (asked c .rules R) v)
+
+call-elsewhere : (R : List ℕ) (c : Call) → otherStart R (c .at) ≡ true → (outcome R c .refusal ≡ 0 → ⊥) × Unchanged R (c .out) (outcome R c)
+call-elsewhere R c e =
+    (λ z. refuses (sym (call-refused R c refuses) ∙ z), refused-unchanged (asked c .engine) flowLayout R (c .piece) (c .out) (asked c .rules R) refuses)
+  where
+    refuses : verdict (asked c .rules R) ≡ 0 → ⊥
+    refuses v = true≢false (sym e ∙ call-passes R c v .2)
+
+call-good : (R : List ℕ) (c : Call) → Bytes (c .piece) → badFlow R ≡ false → badFlow (outcome R c .saved) ≡ false
+unfolding ended
+call-good R c h g = by-answer flowLayout R (asked c) (λ o. badFlow (o .saved) ≡ false) runs g
+  where
+    E : Engine ℕ
+    E = asked c .engine
+
+    runs : verdict (asked c .rules R) ≡ 0 → (n : ℕ) → badFlow (ended (asked c .engine) flowLayout R (take n (c .piece)) (length (c .piece)) (c .out) .saved) ≡ false
+    runs v n =
+        let front = take n (c .piece) in
+        let few : costs (asked c .engine) (frontierOf R) front ≤ states * length front =
+        costs-most (asked c .engine) (λ F. Unit {0}) (λ F d l p. tt) states (λ F p. cost-most (c .via) (c .list) F) (frontierOf R) front tt (bytes-take n (c .piece) h) in
+        flow-good (run (asked c .engine) (frontierOf R) front) (offsetOf R + length front) (rowsOf R + costs (asked c .engine) (frontierOf R) front)
+        (omega (arith, length-take-most n (c .piece), call-passes R c v .1))
+        (rw mul-add (omega (arith, few, rows-few R g)))
+
+-- an engine that halts at once consumes nothing of a piece, and the refusal is 14
+halts-first : (E : Engine ℕ) (F most c : ℕ) (cs : List ℕ) → E .halts F ≡ true → consumed E F most (c ∷ cs) ≡ 0
+unfolding consumed
+halts-first E F most c cs h = rw h
+
+halts-14 : (E : Engine ℕ) (R out : List ℕ) (c : ℕ) (cs : List ℕ) → E .halts (frontierOf R) ≡ true
+    → ended E flowLayout R (take (consumed E (frontierOf R) (room out) (c ∷ cs)) (c ∷ cs)) (suc (length cs)) out .refusal ≡ 14
+unfolding ended run
+halts-14 E R out c cs h = rw (halts-first E (frontierOf R) (room out) c cs h, lt-ltb 0 (suc (length cs)) (omega arith), h)
+
+-- so one that ends without a refusal does not
+ends-free : (E : Engine ℕ) (R out piece : List ℕ) → zero < length piece
+    → ended E flowLayout R (take (consumed E (frontierOf R) (room out) piece) piece) (length piece) out .refusal ≡ 0 → E .halts (frontierOf R) ≡ false
+ends-free E R out [] l z = absurd (omega arith)
+ends-free E R out (c ∷ cs) l z = go (E .halts (frontierOf R)) refl
+  where
+    go : (t : Bool) → E .halts (frontierOf R) ≡ t → t ≡ false
+    go true e = absurd (omega (arith, z, halts-14 E R out c cs e))
+    go false e = refl
+
+moves-on : (E : Engine ℕ) (F most : ℕ) (piece : List ℕ) → zero < length piece → signatures ≤ most → E .halts F ≡ false → zero < consumed E F most piece
+moves-on E F most [] l r h = absurd (omega arith)
+moves-on E F most (c ∷ cs) l r h = moves E F most c cs r h
+
+call-ends : (R : List ℕ) (c : Call) → verdict (asked c .rules R) ≡ 0
+    → outcome R c ≡ ended (asked c .engine) flowLayout R (take (consumed (asked c .engine) (frontierOf R) (room (c .out)) (c .piece)) (c .piece)) (length (c .piece)) (c .out)
+unfolding feed
+call-ends R c v = rw (eq-eqb (verdict (asked c .rules R)) 0 v)
+
+call-moves : (R : List ℕ) (c : Call) → outcome R c .refusal ≡ 0 → zero < length (c .piece) → signatures ≤ room (c .out) → zero < outcome R c .bytes
+call-moves R c z l r = elim (ℕ-discrete (verdict (asked c .rules R)) 0) [ yes v ↦ goes v | no n ↦ absurd (n (sym (call-refused R c n) ∙ z)) ]
+  where
+    goes : verdict (asked c .rules R) ≡ 0 → zero < outcome R c .bytes
+    goes v =
+        let e = call-ends R c v in
+        rw (call-bytes R c v)
+        (moves-on (asked c .engine) (frontierOf R) (room (c .out)) (c .piece) l r
+        (ends-free (asked c .engine) R (c .out) (c .piece) l (sym (ap (λ (o : Outcome). o .refusal) e) ∙ z)))
+
+pub one-call : OneCall
+one-call = record { longest = call-longest; elsewhere = call-elsewhere; never-4 = call-good; moves = call-moves }

@@ -1,0 +1,92 @@
+-- The two list engines on a flow: what rules 4 and 6 give a call that passes, what a byte costs, and that an accepted table follows the list. Assumes nothing.
+use Prim.Native.Nat.{ℕ, zero, suc, _+_, _*_, _^_, _≤_, _<_}
+use mathlib.Core.Path.{_≡_, refl, sym, ap, _∙_, subst}
+use mathlib.Core.Bool.{Bool, true, false, _||_, cond}
+use mathlib.Core.List.{List, [], _∷_, _++_}
+use native.Mathlib.Omega.{arith}
+use lib.ListN.{length}
+use lib.Dec.{ltb, eqb}
+use borrow.Author.Tests.{ltb-false}
+use Rattle.sets.specs.Set.{states}
+use Rattle.lists.specs.Scan.{Rule, verdict}
+use Rattle.lists.specs.Automaton.{start, step, accepted}
+use Rattle.lists.proofs.Scanning.{neither}
+use Rattle.lists.proofs.Rules.{passes, passes-front}
+use Rattle.lists.proofs.Steps.{step-lt}
+use Rattle.flows.specs.Engine.{Engine}
+use Rattle.flows.specs.Flow.{flowLayout, offsetOf, rowsOf, badFlow, otherStart, mostOffset, feedRules}
+use Rattle.flows.specs.Calls.{Follows}
+use Rattle.flows.proofs.Records.{good-flow}
+use Rattle.plain.specs.Plain.{plain}
+use Rattle.plain.proofs.Plain.{plain-cheap}
+use Rattle.tables.specs.Table.{Table, unusedSlot, slots, takenSlots, isSplit, badBound, sizeRules, tableRefusal, mostBound}
+use Rattle.tables.proofs.Accepted.{Accepted, accepted as accepted-table}
+use Rattle.splits.specs.Split.{splitOf, taken, splitStep, split, splitRules}
+use Rattle.splits.proofs.Exact.{few, free, same, stays}
+use Rattle.demands.specs.Calls.{Via, byList, byTable, Call, engineOf, rulesOf, asked}
+
+-- ---- a call that no rule refuses
+
+-- it passes the rules of every feed
+passes-feed : (v : Via) (L R : List ℕ) (at : ℕ) (piece : List ℕ) → verdict (rulesOf v L R at piece) ≡ 0 → verdict (feedRules L R at piece) ≡ 0
+passes-feed byList L R at piece e = e
+passes-feed (byTable b T) L R at piece e = passes-front (feedRules L R at piece) (sizeRules b T) e
+
+-- so its record is good, its piece ends at an offset, and begins at the flow's
+pub call-passes : (R : List ℕ) (c : Call) → verdict (asked c .rules R) ≡ 0
+    → (badFlow R ≡ false) × (offsetOf R + length (c .piece) ≤ mostOffset) × (otherStart R (c .at) ≡ false)
+call-passes R c e =
+    let r1 = passes 0 _ _ (passes-feed (c .via) (c .list) R (c .at) (c .piece) e) in
+    let r2 = passes 1 _ _ (r1 .1) in
+    let r3 = passes 2 _ _ (r2 .1) in
+    let r4 = passes 3 _ _ (r3 .1) in
+    let r5 = passes 4 _ _ (r4 .1) in
+    let r6 = passes 5 _ _ (r5 .1) in
+    (r4 .0, ltb-false mostOffset (offsetOf R + length (c .piece)) (r6 .0), r5 .0)
+
+pub rows-few : (R : List ℕ) → badFlow R ≡ false → rowsOf R ≤ states * offsetOf R
+rows-few R e = good-flow R e .2
+
+-- ---- what a byte costs
+
+taken-most : (xs : List ℕ) → length (takenSlots xs) ≤ length xs
+unfolding takenSlots
+taken-most [] = omega arith
+taken-most (x ∷ xs) = go (unusedSlot x) (taken-most xs)
+  where
+    go : (b : Bool) → length (takenSlots xs) ≤ length xs → length (cond {A = List ℕ} b [] (x ∷ takenSlots xs)) ≤ suc (length xs)
+    go true h = omega arith
+    go false h = omega arith
+
+four-slots : (S : List ℕ) (i : ℕ) → length (slots S i) ≡ 4
+unfolding slots
+four-slots S i = refl
+
+-- by any list or table at most as many rows as there are states
+pub cost-most : (v : Via) (L : List ℕ) (F : ℕ) → engineOf v L .cost F ≤ states
+unfolding taken
+cost-most byList L F = plain-cheap L F
+cost-most (byTable b T) L F =
+    omega (arith, taken-most (slots (T .splits) (splitOf (T .splits) F)), four-slots (T .splits) (splitOf (T .splits) F))
+
+-- ---- an accepted table follows the list
+
+-- the same frontier, a split, and a set of states
+abbrev pub AtSplit : Table → ℕ → ℕ → Type 0
+AtSplit T F G = (F ≡ G) × (isSplit (T .splits) F ≡ true) × (F < 2 ^ states)
+
+pub split-follows : (L : List ℕ) (b : ℕ) (T : Table) → tableRefusal L b T ≡ 0 → Follows (split L b T) (plain L) (AtSplit T)
+split-follows L b T e =
+    let a = accepted-table L b T e in
+    record {
+      same = λ F G c l r. ap (accepted L) (same L b T a F (r .1) c l ∙ ap (λ (H : ℕ). step L H c) (r .0));
+      goes = λ F G r. free L b T a F (r .1);
+      stays = λ F G c l r. (
+        same L b T a F (r .1) c l ∙ ap (λ (H : ℕ). step L H c) (r .0),
+        rw (same L b T a F (r .1) c l) (stays L b T a F (r .1) c l),
+        rw (same L b T a F (r .1) c l) (step-lt L F c),
+      );
+    }
+
+pub split-few : (L : List ℕ) (b : ℕ) (T : Table) → tableRefusal L b T ≡ 0 → (F G : ℕ) → AtSplit T F G → split L b T .cost F ≤ b
+split-few L b T e F G r = few L b T (accepted-table L b T e) F (r .1)

@@ -1,0 +1,78 @@
+-- The barn examples marked P hold of the definitions: one table, one statement. Assumes nothing.
+use Prim.Native.Nat.{ℕ}
+use mathlib.Core.Path.{_≡_, refl, ap₂}
+use mathlib.Core.Bool.{Bool, true, false, _&&_}
+use mathlib.Core.List.{List, [], _∷_}
+use lib.Count.{onesIn}
+use lib.Dec.{T, eqb, eqb→eq}
+use Rattle.sets.specs.Set.{num, digits, holds, join, insert, size, members, setAt, before}
+use Rattle.lists.specs.Scan.{some, every, first, gather, verdict}
+use Rattle.lists.specs.List.{goodRecord, badLength, badRecord, noStart}
+use Rattle.lists.specs.Automaton.{start, step, accepted}
+use Rattle.flows.specs.Engine.{run, costs, due, pairsAt, told, consumed, ended, feed}
+use Rattle.flows.specs.Flow.{flow, badFlow}
+use Rattle.tables.specs.Table.{largest, part, row, splitSet, slots, usedSlots, takenSlots, allBelow, rising, joined, badClasses, badCount, badRowsLength, badLengths, goodSlots, inOrder, badSplits, badRows, badUnion, noStartSplit, notClosed, tableRefusal}
+use Rattle.splits.specs.Split.{splitOf, taken, stuck, splitStep}
+use Rattle.demands.specs.Examples.{Row, Agree, feedRows, acceptedRow, boundRow, closedRow, startRow, examples}
+
+-- rows are compared by computing; what computes as the same is the same
+abbrev same : List ℕ → List ℕ → Bool
+same [] [] = true
+same [] (y ∷ ys) = false
+same (x ∷ xs) [] = false
+same (x ∷ xs) (y ∷ ys) = eqb x y && same xs ys
+
+abbrev agree : List Row → Bool
+agree [] = true
+agree (r ∷ rs) = same (r .0) (r .1) && agree rs
+
+both : (x y : Bool) → T (x && y) → T x × T y
+both true y t = (tt, t)
+both false y t = absurd t
+
+same-sound : (xs ys : List ℕ) → T (same xs ys) → xs ≡ ys
+same-sound [] [] t = refl
+same-sound [] (y ∷ ys) t = absurd t
+same-sound (x ∷ xs) [] t = absurd t
+same-sound (x ∷ xs) (y ∷ ys) t =
+    let r = both (eqb x y) (same xs ys) t in
+    ap₂ (λ (u : ℕ) (v : List ℕ). u ∷ v) (eqb→eq x y (r .0)) (same-sound xs ys (r .1))
+
+agree-sound : (rs : List Row) → T (agree rs) → Agree rs
+agree-sound [] t = tt
+agree-sound (r ∷ rs) t =
+    let w = both (same (r .0) (r .1)) (agree rs) t in
+    (same-sound (r .0) (r .1) (w .0), agree-sound rs (w .1))
+
+-- each row that runs the table check is computed by itself, and the feeds' rows together
+accepted-holds : T (same (acceptedRow .0) (acceptedRow .1))
+unfolding num digits holds join insert size onesIn members setAt before some every first gather verdict goodRecord badLength badRecord noStart start step accepted run costs due pairsAt told consumed ended feed flow badFlow largest part row splitSet slots usedSlots takenSlots allBelow rising joined badClasses badCount badRowsLength badLengths goodSlots inOrder badSplits badRows badUnion noStartSplit notClosed tableRefusal splitOf taken stuck splitStep
+accepted-holds = tt
+
+bound-holds : T (same (boundRow .0) (boundRow .1))
+unfolding num digits holds join insert size onesIn members setAt before some every first gather verdict goodRecord badLength badRecord noStart start step accepted run costs due pairsAt told consumed ended feed flow badFlow largest part row splitSet slots usedSlots takenSlots allBelow rising joined badClasses badCount badRowsLength badLengths goodSlots inOrder badSplits badRows badUnion noStartSplit notClosed tableRefusal splitOf taken stuck splitStep
+bound-holds = tt
+
+closed-holds : T (same (closedRow .0) (closedRow .1))
+unfolding num digits holds join insert size onesIn members setAt before some every first gather verdict goodRecord badLength badRecord noStart start step accepted run costs due pairsAt told consumed ended feed flow badFlow largest part row splitSet slots usedSlots takenSlots allBelow rising joined badClasses badCount badRowsLength badLengths goodSlots inOrder badSplits badRows badUnion noStartSplit notClosed tableRefusal splitOf taken stuck splitStep
+closed-holds = tt
+
+start-holds : T (same (startRow .0) (startRow .1))
+unfolding num digits holds join insert size onesIn members setAt before some every first gather verdict goodRecord badLength badRecord noStart start step accepted run costs due pairsAt told consumed ended feed flow badFlow largest part row splitSet slots usedSlots takenSlots allBelow rising joined badClasses badCount badRowsLength badLengths goodSlots inOrder badSplits badRows badUnion noStartSplit notClosed tableRefusal splitOf taken stuck splitStep
+start-holds = tt
+
+feeds-hold : T (agree feedRows)
+unfolding num digits holds join insert size onesIn members setAt before some every first gather verdict goodRecord badLength badRecord noStart start step accepted run costs due pairsAt told consumed ended feed flow badFlow largest part row splitSet slots usedSlots takenSlots allBelow rising joined badClasses badCount badRowsLength badLengths goodSlots inOrder badSplits badRows badUnion noStartSplit notClosed tableRefusal splitOf taken stuck splitStep
+feeds-hold = tt
+
+pub examples-hold : Agree examples
+examples-hold = (
+  same-sound (acceptedRow .0) (acceptedRow .1) accepted-holds,
+  (
+    same-sound (boundRow .0) (boundRow .1) bound-holds,
+    (
+      same-sound (closedRow .0) (closedRow .1) closed-holds,
+      (same-sound (startRow .0) (startRow .1) start-holds, agree-sound feedRows feeds-hold),
+    ),
+  ),
+)

@@ -1,0 +1,148 @@
+-- The order's three demands as statements about the definitions. Each entry point of the code promises to be its definition, so they are statements about the code.
+use Prim.Native.Nat.{ℕ, zero, suc, _+_, _*_, _^_, _≤_, _<_}
+use mathlib.Core.Bool.{Bool, true, false}
+use mathlib.Core.List.{List, [], _∷_, _++_}
+use mathlib.Core.Logic.{_⊎_, _↔_}
+use mathlib.Core.Path.{_≡_}
+use lib.ListN.{length, take, drop, getD}
+use Rattle.sets.specs.Set.{states, signatures}
+use Rattle.lists.specs.Scan.{Rule, verdict, number, Given, Refuses}
+use Rattle.lists.specs.List.{listRules, listRefusal}
+use Rattle.lists.specs.Automaton.{start, step}
+use Rattle.flows.specs.Engine.{Engine, Outcome, run, costs, told, amount, room}
+use Rattle.flows.specs.Flow.{flowLayout, frontierOf, offsetOf, rowsOf, badFlow, otherStart, feedRules}
+use Rattle.flows.specs.Calls.{Bytes, recordAfter, allTold, allBytes, allRows, refusals, Along, Asked}
+use Rattle.plain.specs.Plain.{plain, opened, openPairs, pairsOf, openRules, openRefusal, openSaved, plainFeed}
+use Rattle.tables.specs.Table.{Table, tableRules, tableRefusal}
+use Rattle.splits.specs.Split.{taken, stuck, split, splitRules, splitFeed}
+use Rattle.demands.specs.Calls.{Via, byList, byTable, Call, engineOf, rulesOf, asked, allAsked, outcome}
+
+-- ==== Demand 1: each refusal has a number, is given exactly when the rules say, and changes nothing in the buffers;
+-- ==== only 14, met by the split feed at some byte, keeps the bytes before it.
+
+-- zero bytes, zero pairs, not all, and both buffers as they were
+pub record Unchanged (R out : List ℕ) (o : Outcome) : Type 0 where
+  pub bytes : o .bytes ≡ 0
+  pub pairs : o .pairs ≡ 0
+  pub all : o .all ≡ false
+  pub words : o .words ≡ out
+  pub saved : o .saved ≡ R
+
+-- two calls that consume the same, tell the same and leave the same buffers
+pub record Same (o p : Outcome) : Type 0 where
+  pub bytes : o .bytes ≡ p .bytes
+  pub pairs : o .pairs ≡ p .pairs
+  pub words : o .words ≡ p .words
+  pub saved : o .saved ≡ p .saved
+
+pub record Demand1 : Type 0 where
+  -- the list check: 1 to 3
+  pub lists : (L : List ℕ) → Refuses (listRules L) (listRefusal L)
+  -- opening: 1 to 4; a refusal leaves the record
+  pub opens : (L R : List ℕ) → Refuses (openRules L R) (openRefusal L R)
+  pub opens-not : (L R : List ℕ) → (openRefusal L R ≡ 0 → ⊥) → openSaved L R ≡ R
+  -- the plain feed: 1 to 6
+  pub feeds : (L R : List ℕ) (at : ℕ) (piece out : List ℕ) → Refuses (feedRules L R at piece) (plainFeed L R at piece out .refusal)
+  pub feeds-not : (L R : List ℕ) (at : ℕ) (piece out : List ℕ) → (plainFeed L R at piece out .refusal ≡ 0 → ⊥) → Unchanged R out (plainFeed L R at piece out)
+  -- the table check: 1 to 3 and 7 to 13
+  pub tables : (L : List ℕ) (b : ℕ) (T : Table) → Refuses (tableRules L b T) (tableRefusal L b T)
+  -- the split feed: 1 to 8
+  pub splits : (L : List ℕ) (b : ℕ) (T : Table) (R : List ℕ) (at : ℕ) (piece out : List ℕ) (i : ℕ) → i < 8
+      → (splitFeed L b T R at piece out .refusal ≡ number (splitRules L b T R at piece) i) ↔ Given (splitRules L b T R at piece) i
+  pub splits-not : (L : List ℕ) (b : ℕ) (T : Table) (R : List ℕ) (at : ℕ) (piece out : List ℕ)
+      → (splitFeed L b T R at piece out .refusal ≡ 0 → ⊥) → (splitFeed L b T R at piece out .refusal ≡ 14 → ⊥) → Unchanged R out (splitFeed L b T R at piece out)
+  -- and 14: no other rule applies, bytes are left, and the frontier after those consumed is stuck; it never says that all was consumed
+  pub halts : (L : List ℕ) (b : ℕ) (T : Table) (R : List ℕ) (at : ℕ) (piece out : List ℕ)
+      → (splitFeed L b T R at piece out .refusal ≡ 14)
+      ↔ ((verdict (splitRules L b T R at piece) ≡ 0)
+      × (splitFeed L b T R at piece out .bytes < length piece)
+      × (stuck b T (run (split L b T) (frontierOf R) (take (splitFeed L b T R at piece out .bytes) piece)) ≡ true))
+  pub halts-not-all : (L : List ℕ) (b : ℕ) (T : Table) (R : List ℕ) (at : ℕ) (piece out : List ℕ)
+      → splitFeed L b T R at piece out .refusal ≡ 14 → splitFeed L b T R at piece out .all ≡ false
+  -- 14 answers and leaves what a feed of just the bytes before it answers and leaves
+  pub halts-kept : (L : List ℕ) (b : ℕ) (T : Table) (R : List ℕ) (at : ℕ) (piece out : List ℕ)
+      → splitFeed L b T R at piece out .refusal ≡ 14
+      → Same (splitFeed L b T R at piece out) (splitFeed L b T R at (take (splitFeed L b T R at piece out .bytes) piece) out)
+
+-- ==== Demand 2: the plain feed reports exactly the pairs that the automaton's definition gives for the bytes consumed, going on from
+-- ==== the flow's saved frontier, each once, by offset and then signature. It consumes as many bytes as have room for their pairs.
+-- ==== A piece that doesn't begin at the flow's offset is refused.
+
+-- what any list of calls on the record R consumes and tells, and the record after it
+abbrev pub bytesOf : List ℕ → List Call → List ℕ
+bytesOf R cs = allBytes flowLayout R (allAsked cs)
+
+abbrev pub wordsOf : List ℕ → List Call → List ℕ
+wordsOf R cs = allTold flowLayout R (allAsked cs)
+
+abbrev pub after : List ℕ → List Call → List ℕ
+after R cs = recordAfter flowLayout R (allAsked cs)
+
+-- each call's piece is bytes
+abbrev pub InBytes : List Call → Type 0
+InBytes [] = Unit {0}
+InBytes (c ∷ cs) = Bytes (c .piece) × InBytes cs
+
+-- P holds of each call, at the record that it meets
+abbrev pub Each : (List ℕ → Call → Type 0) → List ℕ → List Call → Type 0
+Each P R [] = Unit {0}
+Each P R (c ∷ cs) = P R c × Each P (outcome R c .saved) cs
+
+-- a call that no rule refuses is a plain feed on L; one that is refused may hold anything
+abbrev pub Plainly : List ℕ → List ℕ → Call → Type 0
+Plainly L R c = verdict (asked c .rules R) ≡ 0 → (c .list ≡ L) × (c .via ≡ byList)
+
+-- the longest front of a piece whose pairs all fit: it fits, and one byte more would not, or halts
+pub record Longest (E : Engine ℕ) (F most : ℕ) (piece : List ℕ) (n : ℕ) : Type 0 where
+  pub front : n ≤ length piece
+  pub fits : amount E F (take n piece) ≤ most
+  pub longest : n < length piece → (E .halts (run E F (take n piece)) ≡ true) ⊎ (most < amount E F (take (suc n) piece))
+
+pub record Demand2 (L R : List ℕ) (cs : List Call) : Type 0 where
+  -- exactly the pairs of the definition on the bytes consumed, going on from the saved frontier
+  pub tells : wordsOf R cs ≡ told (plain L) (frontierOf R) (offsetOf R) (bytesOf R cs)
+  -- and the record goes on from there
+  pub frontier : frontierOf (after R cs) ≡ run (plain L) (frontierOf R) (bytesOf R cs)
+  pub offset : offsetOf (after R cs) ≡ offsetOf R + length (bytesOf R cs)
+  pub rows : rowsOf (after R cs) ≡ rowsOf R + costs (plain L) (frontierOf R) (bytesOf R cs)
+  -- a refusal is one of the rules', never 14
+  pub refused : Each (λ Q c. outcome Q c .refusal ≡ verdict (asked c .rules Q)) R cs
+
+-- cut anywhere: calls that consume the same bytes tell the same words and leave the same record, whatever the pieces, the rooms and the refusals between
+pub record Alike (R : List ℕ) (cs ds : List Call) : Type 0 where
+  pub words : wordsOf R cs ≡ wordsOf R ds
+  pub record-after : after R cs ≡ after R ds
+
+-- of one call, plain or split
+pub record OneCall : Type 0 where
+  -- a call that no rule refuses consumes the longest front
+  pub longest : (R : List ℕ) (c : Call) → verdict (asked c .rules R) ≡ 0 → Longest (asked c .engine) (frontierOf R) (room (c .out)) (c .piece) (outcome R c .bytes)
+  -- a piece that does not begin at the flow's offset is refused and changes nothing
+  pub elsewhere : (R : List ℕ) (c : Call) → otherStart R (c .at) ≡ true → (outcome R c .refusal ≡ 0 → ⊥) × Unchanged R (c .out) (outcome R c)
+  -- a feed leaves no record that a later feed refuses with 4
+  pub never-4 : (R : List ℕ) (c : Call) → Bytes (c .piece) → badFlow R ≡ false → badFlow (outcome R c .saved) ≡ false
+  -- with room for all signatures a non-empty piece that gives no refusal moves by a byte or more
+  pub moves : (R : List ℕ) (c : Call) → outcome R c .refusal ≡ 0 → zero < length (c .piece) → signatures ≤ room (c .out) → zero < outcome R c .bytes
+
+-- ==== Demand 3: if the check accepts a split table for a list at bound b, then from a flow opened on that list and fed only through it,
+-- ==== that table and bound, cut anywhere and with refused calls between, no call ends in 14, the pairs told are those of demand 2,
+-- ==== and the rows read are the sum of the active parts before each byte, at most b times the bytes consumed.
+
+-- a call that no rule refuses is a split feed on L through T at b; one that is refused may hold anything
+abbrev pub Through : List ℕ → ℕ → Table → List ℕ → Call → Type 0
+Through L b T R c = verdict (asked c .rules R) ≡ 0 → (c .list ≡ L) × (c .via ≡ byTable b T)
+
+-- the automaton of L, where a byte costs the slots taken at the frontier before it
+abbrev pub activeParts : List ℕ → Table → Engine ℕ
+activeParts L T = record { next = plain L .next; alerts = plain L .alerts; cost = λ F. length (taken T F); halts = plain L .halts }
+
+pub record Demand3 (L : List ℕ) (b : ℕ) (T : Table) (cs : List Call) : Type 0 where
+  -- no call ends in 14
+  pub never-14 : Each (λ Q c. outcome Q c .refusal ≡ 14 → ⊥) (opened L) cs
+  -- the pairs told are those of demand 2's definition, from the start set on
+  pub tells : openPairs L ++ wordsOf (opened L) cs ≡ pairsOf L (bytesOf (opened L) cs)
+  pub frontier : frontierOf (after (opened L) cs) ≡ run (plain L) (start L) (bytesOf (opened L) cs)
+  pub offset : offsetOf (after (opened L) cs) ≡ length (bytesOf (opened L) cs)
+  -- the rows read are the active parts before each byte, summed, and at most b for each byte
+  pub rows : rowsOf (after (opened L) cs) ≡ costs (activeParts L T) (start L) (bytesOf (opened L) cs)
+  pub ceiling : rowsOf (after (opened L) cs) ≤ b * length (bytesOf (opened L) cs)

@@ -1,0 +1,161 @@
+-- The barn examples marked P: the list L, the table T, and one table of rows, each what a definition gives beside what the paper expects.
+use Prim.Native.Nat.{ℕ, _-_, _*_}
+use mathlib.Core.Bool.{cond}
+use mathlib.Core.List.{List, [], _∷_, _++_}
+use mathlib.Core.Path.{_≡_}
+use lib.ListN.{length, replicate}
+use Rattle.sets.specs.Set.{setSize, digits, setBytes}
+use Rattle.lists.specs.List.{listRefusal}
+use Rattle.flows.specs.Engine.{Outcome}
+use Rattle.flows.specs.Flow.{flow, rowsOf}
+use Rattle.plain.specs.Plain.{opened}
+use Rattle.tables.specs.Table.{Table, tableRefusal}
+use Rattle.demands.specs.Calls.{Via, byList, byTable, Call, outcome}
+
+-- a row: what a definition gives, and what the paper expects
+abbrev pub Row : Type 0
+Row = List ℕ × List ℕ
+
+-- every row agrees
+abbrev pub Agree : List Row → Type 0
+Agree [] = Unit {0}
+Agree (r ∷ rs) = (r .0 ≡ r .1) × Agree rs
+
+-- ---- list L: signature 7 after any "ab"
+
+abbrev pub edges : List ℕ
+edges =
+    0x01 ∷ 0x00 ∷ 0xFF ∷ 0x00 ∷ 0x00 ∷ 0x00 ∷ 0x00 ∷ 0x00
+    ∷ 0x01 ∷ 0x61 ∷ 0x61 ∷ 0x00 ∷ 0x00 ∷ 0x00 ∷ 0x01 ∷ 0x00
+    ∷ 0x01 ∷ 0x62 ∷ 0x62 ∷ 0x00 ∷ 0x01 ∷ 0x00 ∷ 0x02 ∷ 0x00 ∷ []
+
+abbrev pub starts : List ℕ
+starts = 0x02 ∷ 0x00 ∷ 0x00 ∷ 0x00 ∷ 0x00 ∷ 0x00 ∷ 0x00 ∷ 0x00 ∷ []
+
+abbrev pub accepts : List ℕ
+accepts = 0x03 ∷ 0x00 ∷ 0x00 ∷ 0x00 ∷ 0x02 ∷ 0x00 ∷ 0x07 ∷ 0x00 ∷ []
+
+abbrev pub L : List ℕ
+L = edges ++ (starts ++ accepts)
+
+-- ---- table T
+
+-- the bytes of some sets: {0} is the number 1, {0,1} is 3, {2} is 4, {0,2} is 5
+abbrev pub setsOf : List ℕ → List ℕ
+setsOf [] = []
+setsOf (n ∷ ns) = setBytes n ++ setsOf ns
+
+-- a split with parts p and q; 65,535 for an unused slot
+abbrev pub splitOf₂ : ℕ → ℕ → ℕ → List ℕ
+splitOf₂ n p q = setBytes n ++ (digits 8 2 p ++ (digits 8 2 q ++ digits 8 4 0xFFFFFFFF))
+
+abbrev pub s0 : List ℕ
+s0 = splitOf₂ 1 0 65535
+
+abbrev pub s01 : List ℕ
+s01 = splitOf₂ 3 0 1
+
+abbrev pub s02 : List ℕ
+s02 = splitOf₂ 5 0 2
+
+-- classes 1 for a, 2 for b, else 0; parts {0}, {1}, {2}; rows {0} {0,1} {0}, {} {} {2}, {} {} {}
+abbrev pub tableOf : List ℕ → Table
+tableOf splits =
+    record {
+      classes = replicate 97 0 ++ (1 ∷ 2 ∷ replicate 157 0);
+      parts = setsOf (1 ∷ 2 ∷ 4 ∷ []);
+      rows = setsOf (1 ∷ 3 ∷ 1 ∷ 0 ∷ 0 ∷ 4 ∷ 0 ∷ 0 ∷ 0 ∷ []);
+      splits = splits;
+    }
+
+abbrev pub T₃ : Table
+T₃ = tableOf (s0 ++ (s01 ++ s02))
+
+-- ---- calls
+
+-- bytes a and b
+abbrev pub a : ℕ
+a = 97
+
+abbrev pub b : ℕ
+b = 98
+
+-- words with room for n pairs
+abbrev pub room : ℕ → List ℕ
+room n = replicate (2 * n) 0
+
+abbrev pub fed : Via → List ℕ → ℕ → List ℕ → ℕ → Outcome
+fed via R at piece n = outcome R (record { list = L; via = via; at = at; piece = piece; out = room n })
+
+-- an answer as numbers: refusal, bytes, pairs, all
+abbrev pub answered : Outcome → List ℕ
+answered o = o .refusal ∷ o .bytes ∷ o .pairs ∷ cond (o .all) 1 0 ∷ []
+
+abbrev pub plainABAB : ℕ → Outcome
+plainABAB n = fed byList (opened L) 0 (a ∷ b ∷ a ∷ b ∷ []) n
+
+abbrev pub splitABAB : ℕ → List ℕ → ℕ → Outcome
+splitABAB bound splits n = fed (byTable bound (tableOf splits)) (opened L) 0 (a ∷ b ∷ a ∷ b ∷ []) n
+
+-- after "a", and after "bab" from there
+abbrev pub afterA : List ℕ
+afterA = fed byList (opened L) 0 (a ∷ []) 2 .saved
+
+abbrev pub afterBAB : List ℕ
+afterBAB = fed byList afterA 1 (b ∷ a ∷ b ∷ []) 2 .saved
+
+-- ---- the rows
+
+abbrev pub feedRows : List Row
+feedRows =
+    -- "abab": words 7, 2, 7, 4; 7 rows read
+    (plainABAB 2 .words, 7 ∷ 2 ∷ 7 ∷ 4 ∷ [])
+    ∷ (rowsOf (plainABAB 2 .saved) ∷ [], 7 ∷ [])
+    -- split with T at 2: the same words, 7 rows, and 8 is the ceiling
+    ∷ (answered (splitABAB 2 (s0 ++ (s01 ++ s02)) 2), 0 ∷ 4 ∷ 2 ∷ 1 ∷ [])
+    ∷ (splitABAB 2 (s0 ++ (s01 ++ s02)) 2 .words, 7 ∷ 2 ∷ 7 ∷ 4 ∷ [])
+    ∷ (rowsOf (splitABAB 2 (s0 ++ (s01 ++ s02)) 2 .saved) ∷ [], 7 ∷ [])
+    ∷ (2 * splitABAB 2 (s0 ++ (s01 ++ s02)) 2 .bytes ∷ [], 8 ∷ [])
+    -- "aba" plain leaves 03 and 31 zeros, 03 00 00 00, four zeros, 05 and 7 zeros
+    ∷ (
+      fed byList (opened L) 0 (a ∷ b ∷ a ∷ []) 2 .saved,
+      0x03 ∷ (replicate (setSize - 1) 0 ++ (0x03 ∷ 0 ∷ 0 ∷ 0 ∷ 0 ∷ 0 ∷ 0 ∷ 0 ∷ 0x05 ∷ 0 ∷ 0 ∷ 0 ∷ 0 ∷ 0 ∷ 0 ∷ 0 ∷ [])),
+    )
+    -- "a" then "bab" from start 1: the same pairs
+    ∷ (answered (fed byList (opened L) 0 (a ∷ []) 2), 0 ∷ 1 ∷ 0 ∷ 1 ∷ [])
+    ∷ (fed byList afterA 1 (b ∷ a ∷ b ∷ []) 2 .words, 7 ∷ 2 ∷ 7 ∷ 4 ∷ [])
+    -- "bab" from start 0 then: 5, after "a" as after "abab"
+    ∷ (answered (fed byList afterA 0 (b ∷ a ∷ b ∷ []) 2), 5 ∷ 0 ∷ 0 ∷ 0 ∷ [])
+    ∷ (answered (fed byList afterBAB 0 (b ∷ a ∷ b ∷ []) 2), 5 ∷ 0 ∷ 0 ∷ 0 ∷ [])
+    -- "abab" with room 1 consumes 3 bytes; with room 0, 1 byte
+    ∷ (answered (plainABAB 1), 0 ∷ 3 ∷ 1 ∷ 0 ∷ [])
+    ∷ (answered (plainABAB 0), 0 ∷ 1 ∷ 0 ∷ 0 ∷ [])
+    -- empty piece, room 0: zero bytes, all consumed
+    ∷ (answered (fed byList (opened L) 0 [] 0), 0 ∷ 0 ∷ 0 ∷ 1 ∷ [])
+    -- L without its start record: 3
+    ∷ (listRefusal (edges ++ accepts) ∷ [], 3 ∷ [])
+    -- T without its split {0,2}, fed "abab": 14 at the third byte, after the pair (7, 2); with room 0 the pause comes first
+    ∷ (answered (splitABAB 2 (s0 ++ s01) 4), 14 ∷ 2 ∷ 1 ∷ 0 ∷ [])
+    ∷ (splitABAB 2 (s0 ++ s01) 4 .words, 7 ∷ 2 ∷ 0 ∷ 0 ∷ 0 ∷ 0 ∷ 0 ∷ 0 ∷ [])
+    ∷ (splitABAB 2 (s0 ++ s01) 4 .saved, flow 5 2 3)
+    ∷ (answered (splitABAB 2 (s0 ++ s01) 0), 0 ∷ 1 ∷ 0 ∷ 0 ∷ [])
+    -- T at bound 1, fed "abab": 14 at the second byte
+    ∷ (answered (splitABAB 1 (s0 ++ (s01 ++ s02)) 4), 14 ∷ 1 ∷ 0 ∷ 0 ∷ [])
+    ∷ []
+
+-- the table check: T at 2 is accepted; at bound 1: 9; without {0,2}: 13; without {0}: 12
+abbrev pub acceptedRow : Row
+acceptedRow = (tableRefusal L 2 T₃ ∷ [], 0 ∷ [])
+
+abbrev pub boundRow : Row
+boundRow = (tableRefusal L 1 T₃ ∷ [], 9 ∷ [])
+
+abbrev pub closedRow : Row
+closedRow = (tableRefusal L 2 (tableOf (s0 ++ s01)) ∷ [], 13 ∷ [])
+
+abbrev pub startRow : Row
+startRow = (tableRefusal L 2 (tableOf (s01 ++ s02)) ∷ [], 12 ∷ [])
+
+-- the one table
+abbrev pub examples : List Row
+examples = acceptedRow ∷ boundRow ∷ closedRow ∷ startRow ∷ feedRows

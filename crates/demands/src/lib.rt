@@ -1,0 +1,1 @@
+// The three demands as theorems, and the table of examples. No code.

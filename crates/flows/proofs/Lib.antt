@@ -1,0 +1,7 @@
+pub mod Runs
+pub mod Told
+pub mod Follows
+pub mod Records
+pub mod Going
+pub mod Whole
+pub mod Cuts

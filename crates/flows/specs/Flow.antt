@@ -1,0 +1,65 @@
+-- The flow record: 48 bytes, its fields, and the rules 4 to 6.
+use Prim.Native.Nat.{ℕ, zero, suc, _+_, _*_}
+use mathlib.Core.Bool.{Bool, true, false, _||_, not}
+use mathlib.Core.List.{List, [], _∷_, _++_}
+use lib.ListN.{length, take, drop}
+use lib.Dec.{ltb, eqb}
+use Rattle.sets.specs.Set.{states, setSize, num, digits, setBytes, setAt}
+use Rattle.lists.specs.Scan.{Rule}
+use Rattle.lists.specs.List.{listRules}
+use Rattle.flows.specs.Engine.{Layout}
+
+-- bytes of a record, and the largest offset
+abbrev pub flowSize : ℕ
+flowSize = setSize + 16
+
+abbrev pub mostOffset : ℕ
+mostOffset = 4294967295
+
+-- ---- its fields: frontier, offset (4 bytes), zero (4 bytes), rows read (8 bytes)
+
+abbrev pub frontierOf : List ℕ → ℕ
+frontierOf R = setAt R 0
+
+abbrev pub offsetOf : List ℕ → ℕ
+offsetOf R = num 8 (take 4 (drop setSize R))
+
+abbrev pub reservedOf : List ℕ → ℕ
+reservedOf R = num 8 (take 4 (drop (setSize + 4) R))
+
+abbrev pub rowsOf : List ℕ → ℕ
+rowsOf R = num 8 (take 8 (drop (setSize + 8) R))
+
+-- the record of frontier F, offset k and n rows read
+unfoldable pub flow : ℕ → ℕ → ℕ → List ℕ
+flow F k n = setBytes F ++ (digits 8 4 k ++ (digits 8 4 0 ++ digits 8 8 n))
+
+-- so a feed over a list reads and writes it
+abbrev pub flowLayout : Layout ℕ
+flowLayout = record { config = frontierOf; offset = offsetOf; rows = rowsOf; save = flow }
+
+-- ---- what each rule refuses
+
+-- 4, at opening and when fed: not the size of a record
+abbrev pub wrongSize : List ℕ → Bool
+wrongSize R = not (eqb (length R) flowSize)
+
+-- 4, when fed: that, or reserved bytes that are not zero, or more rows read than all states at each byte
+unfoldable pub badFlow : List ℕ → Bool
+badFlow R = wrongSize R || not (eqb (reservedOf R) 0) || ltb (states * offsetOf R) (rowsOf R)
+
+-- 5: the piece's stated start differs from the flow's offset
+abbrev pub otherStart : List ℕ → ℕ → Bool
+otherStart R at = not (eqb at (offsetOf R))
+
+-- 6: offset + piece length is over the largest offset
+abbrev pub tooLong : List ℕ → List ℕ → Bool
+tooLong R piece = ltb mostOffset (offsetOf R + length piece)
+
+-- 4 to 6, in this order
+abbrev pub flowRules : List ℕ → ℕ → List ℕ → List Rule
+flowRules R at piece = (4, badFlow R) ∷ (5, otherStart R at) ∷ (6, tooLong R piece) ∷ []
+
+-- every feed over a list: 1 to 6
+abbrev pub feedRules : List ℕ → List ℕ → ℕ → List ℕ → List Rule
+feedRules L R at piece = listRules L ++ flowRules R at piece

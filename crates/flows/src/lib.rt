@@ -1,0 +1,1 @@
+// A feed over any engine, and the flow record: definitions and laws.

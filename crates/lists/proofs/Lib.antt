@@ -1,0 +1,3 @@
+pub mod Scanning
+pub mod Rules
+pub mod Steps

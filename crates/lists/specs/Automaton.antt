@@ -1,0 +1,28 @@
+-- The automaton that a list writes down: start set, frontier step, and the signatures that a frontier accepts. Sets are numbers.
+use Prim.Native.Nat.{ℕ, zero, suc, _+_, _*_}
+use mathlib.Core.Bool.{Bool, true, false, _&&_}
+use mathlib.Core.List.{List}
+use lib.Dec.{leb}
+use Rattle.sets.specs.Set.{states, signatures, holds}
+use Rattle.lists.specs.Scan.{gather}
+use Rattle.lists.specs.List.{records, isEdge, isStart, isAccept, low, high, from, target}
+
+-- record i is an edge that byte c takes: low ≤ c ≤ high
+abbrev pub edge : List ℕ → ℕ → ℕ → Bool
+edge L c i = isEdge L i && leb (low L i) c && leb c (high L i)
+
+-- q holds of record i, and the state that it leaves is in F
+abbrev pub leaves : List ℕ → ℕ → (ℕ → Bool) → ℕ → Bool
+leaves L F q i = q i && holds F (from L i)
+
+-- the states of the start records
+unfoldable pub start : List ℕ → ℕ
+start L = gather states (isStart L) (target L) (records L)
+
+-- the next frontier: the targets of all states of F on byte c
+unfoldable pub step : List ℕ → ℕ → ℕ → ℕ
+step L F c = gather states (leaves L F (edge L c)) (target L) (records L)
+
+-- the signatures that some state of F accepts
+unfoldable pub accepted : List ℕ → ℕ → ℕ
+accepted L F = gather signatures (leaves L F (isAccept L)) (target L) (records L)

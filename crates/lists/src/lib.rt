@@ -1,0 +1,1 @@
+// The signature list and its automaton: definitions and laws.

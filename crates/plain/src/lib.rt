@@ -1,0 +1,1 @@
+// Opening and the plain feed: definitions and laws.

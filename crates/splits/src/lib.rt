@@ -1,0 +1,1 @@
+// The split feed: definitions and laws.

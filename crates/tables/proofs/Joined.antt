@@ -1,0 +1,88 @@
+-- Unions over a list of part numbers, and the slots of a split: those in use, those taken, and their order. Assumes nothing.
+use Prim.Native.Nat.{ℕ, zero, suc, _+_, _*_, _-_, _≤_, _<_}
+use mathlib.Core.Path.{_≡_, refl, sym, ap, _∙_}
+use mathlib.Core.Bool.{Bool, true, false, _&&_, cond}
+use mathlib.Core.List.{List, [], _∷_}
+use mathlib.Core.Logic.{_↔_}
+use native.Mathlib.Omega.{arith}
+use native.Mathlib.Nat.{suc-inj}
+use lib.ListN.{length, getD}
+use lib.Dec.{ltb, leb, eqb}
+use borrow.Author.Tests.{ltb-true, leb-true, le-leb, lt-ltb}
+use Rattle.sets.specs.Set.{join}
+use Rattle.lists.specs.Automaton.{step}
+use Rattle.lists.proofs.Scanning.{both}
+use Rattle.lists.proofs.Steps.{step-join, step-empty}
+use Rattle.tables.specs.Table.{unusedSlot, usedSlots, takenSlots, allBelow, rising, joined}
+
+-- the step of a union of parts is the union of their steps
+pub step-joined : (L : List ℕ) (f : ℕ → ℕ) (c : ℕ) (xs : List ℕ) → step L (joined f xs) c ≡ joined (λ x. step L (f x) c) xs
+unfolding joined
+step-joined L f c [] = step-empty L c
+step-joined L f c (x ∷ xs) = step-join L (f x) (joined f xs) c ∙ ap (λ (n : ℕ). join (step L (f x) c) n) (step-joined L f c xs)
+
+pub joined-same : (f g : ℕ → ℕ) (n : ℕ) (xs : List ℕ) → allBelow n xs ≡ true → ((x : ℕ) → x < n → f x ≡ g x) → joined f xs ≡ joined g xs
+unfolding joined allBelow
+joined-same f g n [] a h = refl
+joined-same f g n (x ∷ xs) a h =
+    let r = both (ltb x n) (allBelow n xs) a in
+    rw (h x (ltb-true x n (r .0)), joined-same f g n xs (r .1) h)
+
+-- every number of the list is below n exactly when each is
+pub below-head : (n x : ℕ) (xs : List ℕ) → allBelow n (x ∷ xs) ≡ true → (x < n) × (allBelow n xs ≡ true)
+unfolding allBelow
+below-head n x xs e = let r = both (ltb x n) (allBelow n xs) e in (ltb-true x n (r .0), r .1)
+
+below-at : (n : ℕ) (xs : List ℕ) → allBelow n xs ≡ true → (i : ℕ) → i < length xs → getD xs i 0 < n
+below-at n [] e i h = absurd (omega arith)
+below-at n (x ∷ xs) e zero h = below-head n x xs e .0
+below-at n (x ∷ xs) e (suc i) h = below-at n xs (below-head n x xs e .1) i (omega arith)
+
+below-all : (n : ℕ) (xs : List ℕ) → ((i : ℕ) → i < length xs → getD xs i 0 < n) → allBelow n xs ≡ true
+unfolding allBelow
+below-all n [] h = refl
+below-all n (x ∷ xs) h = rw (lt-ltb x n (h 0 (omega arith)), below-all n xs (λ i l. h (suc i) (omega arith)))
+
+pub below-exactly : (n : ℕ) (xs : List ℕ) → allBelow n xs ≡ true ↔ ((i : ℕ) → i < length xs → getD xs i 0 < n)
+below-exactly n xs = (below-at n xs, below-all n xs)
+
+-- a list that rises from `least` on: each number is at least that, and later ones are greater
+rising-least : (least : ℕ) (xs : List ℕ) → rising least xs ≡ true → (i : ℕ) → i < length xs → least ≤ getD xs i 0
+unfolding rising
+rising-least least [] e i h = absurd (omega arith)
+rising-least least (x ∷ xs) e zero h = leb-true least x (both (leb least x) (rising (suc x) xs) e .0)
+rising-least least (x ∷ xs) e (suc i) h =
+    let r = both (leb least x) (rising (suc x) xs) e in
+    omega (arith, leb-true least x (r .0), rising-least (suc x) xs (r .1) i (omega arith))
+
+pub rising-at : (least : ℕ) (xs : List ℕ) → rising least xs ≡ true → (i j : ℕ) → i < j → j < length xs → getD xs i 0 < getD xs j 0
+unfolding rising
+rising-at least [] e i j l h = absurd (omega arith)
+rising-at least (x ∷ xs) e i zero l h = absurd (omega arith)
+rising-at least (x ∷ xs) e zero (suc j) l h = rising-least (suc x) xs (both (leb least x) (rising (suc x) xs) e .1) j (omega arith)
+rising-at least (x ∷ xs) e (suc i) (suc j) l h = rising-at (suc x) xs (both (leb least x) (rising (suc x) xs) e .1) i j (omega arith) (omega arith)
+
+rising-from : (least : ℕ) (xs : List ℕ) → ((i : ℕ) → i < length xs → least ≤ getD xs i 0) → ((i j : ℕ) → i < j → j < length xs → getD xs i 0 < getD xs j 0) → rising least xs ≡ true
+unfolding rising
+rising-from least [] h r = refl
+rising-from least (x ∷ xs) h r =
+    rw (le-leb least x (h 0 (omega arith)), rising-from (suc x) xs (λ i l. r 0 (suc i) (omega arith) (omega arith)) (λ i j l k. r (suc i) (suc j) (omega arith) (omega arith)))
+
+pub rising-exactly : (xs : List ℕ) → rising 0 xs ≡ true ↔ ((i j : ℕ) → i < j → j < length xs → getD xs i 0 < getD xs j 0)
+rising-exactly xs = (rising-at 0 xs, λ r. rising-from 0 xs (λ i l. omega arith) r)
+
+length-nil : (xs : List ℕ) → length xs ≡ 0 → xs ≡ []
+length-nil [] e = refl
+length-nil (x ∷ xs) e = absurd (omega arith)
+
+-- no slot in use stands behind an unused one exactly when the slots in use are those taken
+pub used-taken : (xs : List ℕ) → length (usedSlots xs) ≡ length (takenSlots xs) → takenSlots xs ≡ usedSlots xs
+unfolding usedSlots takenSlots
+used-taken [] e = refl
+used-taken (x ∷ xs) e = go (unusedSlot x) e (used-taken xs)
+  where
+    go : (b : Bool) → length (cond b (usedSlots xs) (x ∷ usedSlots xs)) ≡ length (cond b [] (x ∷ takenSlots xs))
+        → (length (usedSlots xs) ≡ length (takenSlots xs) → takenSlots xs ≡ usedSlots xs)
+        → cond b [] (x ∷ takenSlots xs) ≡ cond b (usedSlots xs) (x ∷ usedSlots xs)
+    go true q ih = sym (length-nil (usedSlots xs) q)
+    go false q ih = ap {B = List ℕ} (λ (ys : List ℕ). x ∷ ys) (ih (suc-inj q))

@@ -1,0 +1,1 @@
+// The split table: definitions and laws.
