@@ -12,6 +12,7 @@ use borrow.Author.Tests.{eqb-true, eqb-false, eq-eqb, ne-eqb, ltb-true, ltb-fals
 use Rattle.lists.specs.Scan.{Rule, verdict, number, Given, Refuses}
 use Rattle.lists.specs.List.{listRules, listRefusal, badLength, badRecord, noStart}
 use Rattle.lists.proofs.Scanning.{both}
+use Rattle.lists.proofs.Listed.{list-refuses}
 use Rattle.lists.proofs.Rules.{refuses, exactly, numbered, number-lt, verdict-lt, passes, passes-changed}
 use Rattle.flows.specs.Engine.{Engine, Outcome, room, run, consumed, ended, refused, feed}
 use Rattle.flows.specs.Flow.{flowLayout, frontierOf, offsetOf, mostOffset, badFlow, otherStart, tooLong, feedRules}
@@ -157,7 +158,7 @@ kept L b T R at piece out e =
 pub demand-1 : Demand1
 demand-1 =
     record {
-      lists = λ L. refuses (listRules L) refl;
+      lists = list-refuses;
       opens = λ L R. refuses (openRules L R) refl;
       opens-not = open-refused;
       feeds = λ L R at piece out. rw (plain-refusal L R at piece out) (refuses (feedRules L R at piece) refl);

@@ -116,9 +116,10 @@ pub stop : (k : ℕ) {b : Bool} (rs : List Rule) → b ≡ true → verdict ((k,
 unfolding verdict
 stop k rs e = rw e
 
-pub no-rule : verdict [] ≡ 0
+-- and where the last does not apply either, none has
+pub last : (k : ℕ) {b : Bool} → b ≡ false → verdict ((k, b) ∷ []) ≡ 0
 unfolding verdict
-no-rule = refl
+last k e = rw e
 
 -- two tables in a row: the first one's refusal, where it has one
 pub verdict-first : (xs ys : List Rule) (k : ℕ) → verdict xs ≡ suc k → verdict (xs ++ ys) ≡ suc k

@@ -1,1 +1,301 @@
-// The signature list and its automaton: definitions and laws.
+// The signature list: the reads of its records, its check, and the automaton that it writes down.
+use sets::SigSet;
+use sets::StateSet;
+ghost use mathlib.Core.Path.{_≡_};
+ghost use mathlib.Core.Bool.{cond};
+ghost use Prim.Native.Nat.{_<_, _^_};
+ghost use lib.ListN.{getD};
+ghost use Rattle.sets.specs.Set.{states, signatures, setOf, sigsOf, holds, join, insert};
+ghost use Rattle.lists.specs.List.{recordSize, records, word, byteOf, wordOf, isEdge, isStart, isAccept, from, target, zeros, goodEdge, goodStart, goodAccept, goodRecord, badLength, badRecord, noStart, listRefusal};
+ghost use Rattle.lists.specs.Automaton.{edge, leaves, start, step, accepted};
+
+// Bytes in a record.
+pub const RECORD_SIZE: usize = 8;
+
+// The most records that a list may have.
+pub const MOST_RECORDS: usize = 4096;
+
+// The answer of the list check where no rule refuses.
+pub const PASSED: u32 = 0;
+
+// Byte 0 of a record, its kind: an edge, a start or an accept.
+const EDGE: u8 = 1;
+
+const START: u8 = 2;
+
+const ACCEPT: u8 = 3;
+
+// The byte at a place; past the end that is 0.
+pub fn byte_at(b: &[u8], at: usize) -> u8
+    ensures { λ r. ⌜ r ≡ getD (now (b .entry)) at 0 ⌝ }
+{
+    if at < b.len() { b[at] } else { 0 }
+}
+
+// The number that two bytes at a place write, low byte first; past the end they are 0.
+pub fn word_at(b: &[u8], at: usize) -> usize
+    ensures { λ r. ⌜ r ≡ word (now (b .entry)) at ⌝ }
+{
+    if at < b.len() {
+        byte_at(b, at) as usize + 256 * (byte_at(b, at + 1) as usize)
+    } else {
+        0
+    }
+}
+
+// How many records the list has.
+fn records(l: &[u8]) -> usize
+    ensures { λ r. ⌜ r ≡ records (now (l .entry)) ⌝ }
+{
+    l.len() / RECORD_SIZE
+}
+
+// Byte k of record i.
+fn byte_of(l: &[u8], i: usize, k: usize) -> u8
+    requires { ⌜ (i < records (now l)) × (k < recordSize) ⌝ }
+    ensures { λ r. ⌜ r ≡ byteOf (now (l .entry)) i k ⌝ }
+{
+    byte_at(l, RECORD_SIZE * i + k)
+}
+
+// The number at bytes k and k + 1 of record i.
+fn word_of(l: &[u8], i: usize, k: usize) -> usize
+    requires { ⌜ (i < records (now l)) × (k < recordSize) ⌝ }
+    ensures { λ r. ⌜ r ≡ wordOf (now (l .entry)) i k ⌝ }
+{
+    word_at(l, RECORD_SIZE * i + k)
+}
+
+// Says whether record i is an edge.
+fn is_edge(l: &[u8], i: usize) -> bool
+    requires { ⌜ i < records (now l) ⌝ }
+    ensures { λ r. ⌜ r ≡ isEdge (now (l .entry)) i ⌝ }
+{
+    byte_of(l, i, 0) == EDGE
+}
+
+// Says whether record i is a start.
+fn is_start(l: &[u8], i: usize) -> bool
+    requires { ⌜ i < records (now l) ⌝ }
+    ensures { λ r. ⌜ r ≡ isStart (now (l .entry)) i ⌝ }
+{
+    byte_of(l, i, 0) == START
+}
+
+// Says whether record i is an accept.
+fn is_accept(l: &[u8], i: usize) -> bool
+    requires { ⌜ i < records (now l) ⌝ }
+    ensures { λ r. ⌜ r ≡ isAccept (now (l .entry)) i ⌝ }
+{
+    byte_of(l, i, 0) == ACCEPT
+}
+
+// The state that record i leaves or names.
+fn from(l: &[u8], i: usize) -> usize
+    requires { ⌜ i < records (now l) ⌝ }
+    ensures { λ r. ⌜ r ≡ from (now (l .entry)) i ⌝ }
+{
+    word_of(l, i, 4)
+}
+
+// The state that record i leads to, or the signature that it gives.
+fn target(l: &[u8], i: usize) -> usize
+    requires { ⌜ i < records (now l) ⌝ }
+    ensures { λ r. ⌜ r ≡ target (now (l .entry)) i ⌝ }
+{
+    word_of(l, i, 6)
+}
+
+// Says whether bytes 1 to n of record i are zero.
+fn zeros(l: &[u8], i: usize, n: usize) -> bool
+    requires { ⌜ (i < records (now l)) × (n < recordSize) ⌝ }
+    ensures { λ r. ⌜ r ≡ zeros (now (l .entry)) i n ⌝ }
+{
+    let mut all = true;
+    for k in 0..n {
+        all = all & (byte_of(l, i, k + 1) == 0);
+    }
+    all
+}
+
+// Says whether record i is a good edge.
+fn good_edge(l: &[u8], i: usize) -> bool
+    requires { ⌜ i < records (now l) ⌝ }
+    ensures { λ r. ⌜ r ≡ goodEdge (now (l .entry)) i ⌝ }
+{
+    is_edge(l, i)
+        & (byte_of(l, i, 1) <= byte_of(l, i, 2))
+        & (byte_of(l, i, 3) == 0)
+        & (from(l, i) < sets::STATES)
+        & (target(l, i) < sets::STATES)
+}
+
+// Says whether record i is a good start.
+fn good_start(l: &[u8], i: usize) -> bool
+    requires { ⌜ i < records (now l) ⌝ }
+    ensures { λ r. ⌜ r ≡ goodStart (now (l .entry)) i ⌝ }
+{
+    is_start(l, i) & zeros(l, i, 5) & (target(l, i) < sets::STATES)
+}
+
+// Says whether record i is a good accept.
+fn good_accept(l: &[u8], i: usize) -> bool
+    requires { ⌜ i < records (now l) ⌝ }
+    ensures { λ r. ⌜ r ≡ goodAccept (now (l .entry)) i ⌝ }
+{
+    is_accept(l, i)
+        & zeros(l, i, 3)
+        & (from(l, i) < sets::STATES)
+        & (target(l, i) < sets::SIGNATURES)
+}
+
+// Says whether record i is good.
+fn good_record(l: &[u8], i: usize) -> bool
+    requires { ⌜ i < records (now l) ⌝ }
+    ensures { λ r. ⌜ r ≡ goodRecord (now (l .entry)) i ⌝ }
+{
+    good_edge(l, i) | good_start(l, i) | good_accept(l, i)
+}
+
+// Says whether rule 1 refuses the list.
+fn bad_length(l: &[u8]) -> bool
+    ensures { λ r. ⌜ r ≡ badLength (now (l .entry)) ⌝ }
+{
+    (l.len() == 0) | (RECORD_SIZE * MOST_RECORDS < l.len()) | (l.len() % RECORD_SIZE != 0)
+}
+
+// Says whether rule 2 refuses the list.
+fn bad_record(l: &[u8]) -> bool
+    ensures { λ r. ⌜ r ≡ badRecord (now (l .entry)) ⌝ }
+{
+    let n = records(l);
+    let mut good = true;
+    for i in 0..n {
+        good = good & good_record(l, i);
+    }
+    !good
+}
+
+// Says whether rule 3 refuses the list.
+fn no_start(l: &[u8]) -> bool
+    ensures { λ r. ⌜ r ≡ noStart (now (l .entry)) ⌝ }
+{
+    let n = records(l);
+    let mut found = false;
+    for i in 0..n {
+        found = found | is_start(l, i);
+    }
+    !found
+}
+
+// The list check: the number of the first rule that refuses the list, 0 where none does.
+pub fn check_list(l: &[u8]) -> u32
+    ensures { λ r. ⌜ r ≡ listRefusal (now (l .entry)) ⌝ }
+{
+    if bad_length(l) {
+        return 1;
+    }
+    if bad_record(l) {
+        return 2;
+    }
+    if no_start(l) {
+        return 3;
+    }
+    PASSED
+}
+
+// The states with s, where the test holds.
+fn gather_state(all: StateSet, test: bool, s: usize) -> StateSet
+    ensures { λ r. ⌜ setOf r ≡ cond test (insert states (setOf all) s) (setOf all) ⌝ }
+{
+    if test { all.with(s) } else { all }
+}
+
+// The signatures with g, where the test holds.
+fn gather_signature(all: SigSet, test: bool, g: usize) -> SigSet
+    ensures { λ r. ⌜ sigsOf r ≡ cond test (insert signatures (sigsOf all) g) (sigsOf all) ⌝ }
+{
+    if test { all.with(g) } else { all }
+}
+
+// The states of the start records.
+pub fn start_set(l: &[u8]) -> StateSet
+    ensures { λ r. ⌜ setOf r ≡ start (now (l .entry)) ⌝ }
+{
+    let n = records(l);
+    let mut all = StateSet::EMPTY;
+    for i in 0..n {
+        all = gather_state(all, is_start(l, i), target(l, i));
+    }
+    all
+}
+
+// Says whether record i is an edge that byte c takes.
+fn edge(l: &[u8], c: u8, i: usize) -> bool
+    requires { ⌜ i < records (now l) ⌝ }
+    ensures { λ r. ⌜ r ≡ edge (now (l .entry)) c i ⌝ }
+{
+    is_edge(l, i) & (byte_of(l, i, 1) <= c) & (c <= byte_of(l, i, 2))
+}
+
+// Says whether record i is an edge that byte c takes from state s.
+fn leaves(l: &[u8], s: usize, c: u8, i: usize) -> bool
+    requires { ⌜ i < records (now l) ⌝ }
+    ensures { λ r. ⌜ r ≡ leaves (now (l .entry)) (2 ^ s) (edge (now (l .entry)) c) i ⌝ }
+{
+    edge(l, c, i) & (from(l, i) == s)
+}
+
+// The targets of state s on byte c.
+fn targets(l: &[u8], s: usize, c: u8) -> StateSet
+    ensures { λ r. ⌜ setOf r ≡ step (now (l .entry)) (2 ^ s) c ⌝ }
+{
+    let n = records(l);
+    let mut all = StateSet::EMPTY;
+    for i in 0..n {
+        all = gather_state(all, leaves(l, s, c, i), target(l, i));
+    }
+    all
+}
+
+// The states with the targets of state s on byte c, where s is in the frontier.
+fn join_targets(l: &[u8], f: StateSet, c: u8, s: usize, next: StateSet) -> StateSet
+    ensures { λ r. ⌜ setOf r ≡ join (setOf next) (step (now (l .entry)) (cond (holds (setOf f) s) (2 ^ s) 0) c) ⌝ }
+{
+    if f.has(s) {
+        next.union(targets(l, s, c))
+    } else {
+        next
+    }
+}
+
+// The frontier after byte c: the targets of all its states.
+pub fn step(l: &[u8], f: StateSet, c: u8) -> StateSet
+    ensures { λ r. ⌜ setOf r ≡ step (now (l .entry)) (setOf f) c ⌝ }
+{
+    let mut next = StateSet::EMPTY;
+    for s in 0..sets::STATES {
+        next = join_targets(l, f, c, s, next);
+    }
+    next
+}
+
+// Says whether record i is an accept at a state of the frontier.
+fn accepts(l: &[u8], f: StateSet, i: usize) -> bool
+    requires { ⌜ i < records (now l) ⌝ }
+    ensures { λ r. ⌜ r ≡ leaves (now (l .entry)) (setOf f) (isAccept (now (l .entry))) i ⌝ }
+{
+    is_accept(l, i) & f.has(from(l, i))
+}
+
+// The signatures that the frontier accepts.
+pub fn accepted(l: &[u8], f: StateSet) -> SigSet
+    ensures { λ r. ⌜ sigsOf r ≡ accepted (now (l .entry)) (setOf f) ⌝ }
+{
+    let n = records(l);
+    let mut all = SigSet::EMPTY;
+    for i in 0..n {
+        all = gather_signature(all, accepts(l, f, i), target(l, i));
+    }
+    all
+}

@@ -25,12 +25,6 @@ two-pos = lit< tt
 max-lt : {a b n : ℕ} → a < n → b < n → max a b < n
 max-lt ha hb = omega arith
 
--- zeros: the empty set
-pub small-zeros : (k n : ℕ) → Small k (replicate n 0)
-small-zeros k zero i = pow-pos k
-small-zeros k (suc n) zero = pow-pos k
-small-zeros k (suc n) (suc i) = small-zeros k n i
-
 pub num-zeros : (k n : ℕ) → num k (replicate n 0) ≡ 0
 unfolding num
 num-zeros k zero = refl
@@ -68,11 +62,6 @@ bit-num k ws h hk s =
     let r : s % k < k = mod-lt s hk in
     let e : k * (s / k) + s % k ≡ s = div-add-mod s k in
     rw e at (num-field k 1 (k - (1 + s % k)) (s % k) ws h (s / k) (omega arith))
-
--- past the list's end every bit is 0
-pub bit-past : (k : ℕ) (ws : List ℕ) → Small k ws → zero < k → (s : ℕ) → length ws ≤ s / k → bit (num k ws) s ≡ 0
-bit-past k ws h hk s l =
-    rw (bit-num k ws h hk s, List·getD-eq-default ws 0 l, zero-div (2 ^ (s % k)))
 
 -- digit by digit, `bitOr` of the lists is `bitOr` of the numbers
 pub num-or : (k : ℕ) (a b w : List ℕ) → Small k a → Small k b → length a ≡ length w → length b ≡ length w
@@ -202,22 +191,6 @@ ones-take k ws h i = rw num-take (ones-cat (k * i) (getD ws i 0) (num k (take i 
 
 -- ---- digits of another width
 
-pub small-set : (k : ℕ) (ws : List ℕ) (i v : ℕ) → Small k ws → v < 2 ^ k → Small k (set ws i v)
-small-set k [] i v h hv j = h j
-small-set k (w ∷ ws) zero v h hv zero = hv
-small-set k (w ∷ ws) zero v h hv (suc j) = h (suc j)
-small-set k (w ∷ ws) (suc i) v h hv zero = h 0
-small-set k (w ∷ ws) (suc i) v h hv (suc j) = small-set k ws i v (λ n. h (suc n)) hv j
-
--- a small digit b, above all that is there yet, put into digit i from place j on by `|` and `<<`
-pub num-put : (k d j b : ℕ) (ws : List ℕ) → Small k ws → b < 2 ^ d → d + j ≤ k → (i : ℕ) → i < length ws → num k ws < 2 ^ (k * i + j)
-    → num k (set ws i (bitOr (getD ws i 0) (b * 2 ^ j % 2 ^ k))) ≡ b * 2 ^ (k * i + j) + num k ws
-num-put k d j b ws h hb hj i l hn =
-    let x : b * 2 ^ j % 2 ^ k ≡ b * 2 ^ j = shl-exact d j k hb hj in
-    let y : b * 2 ^ j < 2 ^ k = lt-of-lt-of-le (shl-lt d j hb) (pow-mono hj) in
-    let z : b * 2 ^ j * 2 ^ (k * i) ≡ b * 2 ^ (k * i + j) = mul-assoc b (2 ^ j) (2 ^ (k * i)) ∙ ap (λ (n : ℕ). b * n) (sym (pow-add 2 j (k * i)) ∙ ap (λ (n : ℕ). 2 ^ n) (add-comm j (k * i))) in
-    rw (x, num-set k (b * 2 ^ j) ws h y i l, z) (or-shifted-r b (k * i + j) (num k ws) hn)
-
 pub length-digits : (k m n : ℕ) → length (digits k m n) ≡ m
 unfolding digits
 length-digits k zero n = refl
@@ -244,12 +217,6 @@ num-digits k zero n l = let u : n < 1 = rw (mul-zero k) at l in omega arith
 num-digits k (suc m) n l = rw (num-digits k m (n / 2 ^ k) (shr-lt (k * m) k (rw (mul-suc k m) at l))) (split n k)
 
 -- ---- sets as lists: the number decides the list, and the members decide the number
-
-pub members-ext : (k : ℕ) (a b : List ℕ) → Small k a → Small k b → length a ≡ length b
-    → ((s : ℕ) → s < k * length a → bit (num k a) s ≡ bit (num k b) s) → a ≡ b
-members-ext k a b ha hb l h =
-    num-inj k a b ha hb l
-    (bits-ext (k * length a) (num k a) (num k b) (num-lt k a ha) (rw l (num-lt k b hb)) h)
 
 -- the same set in digits of two widths, as bytes and words, has each member in both
 pub members-width : (k d : ℕ) (a b : List ℕ) → Small k a → Small d b → zero < k → zero < d → num k a ≡ num d b

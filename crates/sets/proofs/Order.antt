@@ -36,6 +36,13 @@ module _ (a b : List ℕ) (i : ℕ) (la : i < length a) (lb : i < length b) wher
   pub before-eq : getD a i 0 ≡ getD b i 0 → before (drop i a) (drop i b) ≡ before (drop (suc i) a) (drop (suc i) b)
   before-eq h = ap (before (drop i a)) (drop-cons b i 0 lb) ∙ ap (λ (x : List ℕ). before x (getD b i 0 ∷ drop (suc i) b)) (drop-cons a i 0 la) ∙ first-eq (getD a i 0) (getD b i 0) (drop (suc i) a) (drop (suc i) b) h
 
+-- a front in which no byte differs
+pub before-skip : (a b : List ℕ) (n : ℕ) → n ≤ length a → n ≤ length b → ((i : ℕ) → i < n → getD a i 0 ≡ getD b i 0)
+    → before a b ≡ before (drop n a) (drop n b)
+before-skip a b zero la lb h = refl
+before-skip a b (suc n) la lb h =
+    before-skip a b n (omega arith) (omega arith) (λ i l. h i (omega arith)) ∙ before-eq a b n la lb (h n (omega arith))
+
 -- no byte differs
 pub before-end : (a b : List ℕ) (i : ℕ) → length a ≤ i → length b ≤ i → before (drop i a) (drop i b) ≡ false
 unfolding before

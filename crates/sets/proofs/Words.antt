@@ -2,7 +2,7 @@
 use mathlib.Core.Path.{_≡_, refl, sym, ap, _∙_}
 use mathlib.Core.List.{List}
 use mathlib.Core.Bool.{true, false}
-use Prim.Native.Nat.{ℕ, suc, _+_, _*_, _/_, _%_, _^_, _≤_, _<_}
+use Prim.Native.Nat.{ℕ, _+_, _*_, _/_, _%_, _^_, _≤_, _<_}
 use native.Mathlib.Nat.{add-comm}
 use native.Mathlib.Numerals.{add-one}
 use native.Mathlib.Omega.{arith}
@@ -10,7 +10,7 @@ use lib.ListN.{length, getD, set, take}
 use lib.Seq.{take-length, ext-getD}
 use lib.Dec.{eqb, lit<}
 use lib.Bits.{bitOr}
-use lib.Count.{ones, ones-le}
+use lib.Count.{ones, onesIn, ones-le}
 use borrow.Author.Tests.{lt-ltb, le-ltb, eq-eqb, ne-eqb}
 use Rattle.sets.specs.Set.{num, join, insert, size}
 use Rattle.sets.proofs.Laws.{Small, num-with, num-or, num-inj, num-take-lt, ones-take, ones-in}
@@ -28,7 +28,7 @@ put-past ws s l = rw (le-ltb s (64 * length ws) (omega arith))
 
 -- the ones of the first words
 pub count-none : (ws : List ℕ) → 0 ≡ size (64 * 0) (num 64 (take 0 ws))
-unfolding size num lib.Count.onesIn
+unfolding size num onesIn
 count-none ws = refl
 
 pub count-more : (ws : List ℕ) (i : ℕ) → Small 64 ws

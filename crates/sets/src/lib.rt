@@ -1,6 +1,6 @@
 // Sets of states and of signatures, as arrays of words that go in and come back by value.
 ghost use mathlib.Core.Path.{_≡_};
-ghost use Prim.Native.Nat.{_*_, _<_, _≤_, _^_};
+ghost use Prim.Native.Nat.{_+_, _*_, _/_, _%_, _<_, _≤_, _^_};
 ghost use lib.ListN.{length, take, drop, getD};
 ghost use lib.Dec.{eqb};
 ghost use Rattle.sets.specs.Set.{states, signatures, setSize, num, setOf, sigsOf, holds, join, insert, size, setBytes, setAt, placed, before};
@@ -66,11 +66,16 @@ fn ones_of(w: &[u64]) -> u32
     n
 }
 
-// Byte i of a list; past its end that is 0.
-fn byte_at(b: &[u8], i: usize) -> u8
-    ensures { λ r. ⌜ r ≡ getD (now (b .entry)) i 0 ⌝ }
+// Byte at + j of a list; past its end that is 0. Where all eight bytes from the place on are there, the test is the same for each.
+fn byte_at(b: &[u8], at: usize, j: usize) -> u8
+    requires { ⌜ (at ≤ setSize) × (j < 8) ⌝ }
+    ensures { λ r. ⌜ r ≡ getD (now (b .entry)) (at + j) 0 ⌝ }
 {
-    if i < b.len() { b[i] } else { 0 }
+    if at + 8 <= b.len() {
+        b[at + j]
+    } else {
+        if at + j < b.len() { b[at + j] } else { 0 }
+    }
 }
 
 // The word whose eight bytes stand at a place, low byte first.
@@ -80,9 +85,16 @@ fn word_at(b: &[u8], at: usize) -> u64
 {
     let mut r = 0u64;
     for j in 0..8 {
-        r = r | (byte_at(b, at + j) as u64) << (8 * j);
+        r = r | (byte_at(b, at, j) as u64) << (8 * j);
     }
     r
+}
+
+// Byte i mod 8 of a word, counted from the low one.
+fn byte_of(w: u64, i: usize) -> u8
+    ensures { λ r. ⌜ r ≡ w / 2 ^ (i % 8 * 8) % 2 ^ 8 ⌝ }
+{
+    ((w >> (i % 8 * 8)) % 256) as u8
 }
 
 impl StateSet {
@@ -159,34 +171,21 @@ impl StateSet {
         ensures { λ r. ⌜ setOf r ≡ setAt (now (b .entry)) at ⌝ }
     {
         if at <= b.len() {
-            if BYTES <= b.len() - at {
-                let e = at + BYTES;
-                StateSet::from_bytes(&b[at..e])
-            } else {
-                StateSet::from_bytes(&b[at..])
-            }
+            StateSet::from_bytes(&b[at..])
         } else {
             StateSet::EMPTY
         }
-    }
-
-    // Byte i of the set.
-    fn byte(self, i: usize) -> u8
-        requires { ⌜ i < setSize ⌝ }
-        ensures { λ r. ⌜ r ≡ getD (setBytes (setOf self)) i 0 ⌝ }
-    {
-        let a = self.words;
-        ((a[i / 8] >> (i % 8 * 8)) % 256) as u8
     }
 
     // Writes the set's bytes at a place of a list; the list stays as it is where they do not fit.
     pub fn store(self, b: &mut [u8], at: usize)
         ensures { λ r. ⌜ now (b .exit) ≡ placed (now (b .entry)) at (setBytes (setOf self)) ⌝ }
     {
+        let a = self.words;
         if at <= b.len() {
             if BYTES <= b.len() - at {
                 for i in 0..BYTES {
-                    b[at + i] = self.byte(i);
+                    b[at + i] = byte_of(a[i / 8], i);
                 }
             }
         }
@@ -196,9 +195,15 @@ impl StateSet {
     pub fn less(self, other: StateSet) -> bool
         ensures { λ r. ⌜ r ≡ before (setBytes (setOf self)) (setBytes (setOf other)) ⌝ }
     {
-        for i in 0..BYTES {
-            let x = self.byte(i);
-            let y = other.byte(i);
+        let a = self.words;
+        let b = other.words;
+        let mut k: usize = 0;
+        while k < WORDS && a[k] == b[k] {
+            k = k + 1;
+        }
+        for i in 8 * k..BYTES {
+            let x = byte_of(a[i / 8], i);
+            let y = byte_of(b[i / 8], i);
             if x < y {
                 return true;
             }

@@ -11,7 +11,7 @@ use Rattle.lists.specs.Scan.{some, every, verdict}
 use Rattle.lists.specs.List.{listRules, listRefusal}
 use Rattle.lists.specs.Automaton.{start, step}
 use Rattle.lists.proofs.Scanning.{both, every-at, every-all}
-use Rattle.lists.proofs.Rules.{passes, passes-front, skip, no-rule, verdict-then}
+use Rattle.lists.proofs.Rules.{passes, passes-front, skip, last, verdict-then}
 use Rattle.tables.specs.Table.{Table, byteValues, partCount, splitCount, part, row, splitSet, slots, usedSlots, takenSlots, allBelow, rising, joined, isSplit, badBound, badLengths, goodSlots, inOrder, badSplits, badRows, badUnion, noStartSplit, notClosed, sizeRules, tableRules, tableRefusal}
 use Rattle.tables.proofs.Joined.{used-taken}
 
@@ -92,8 +92,7 @@ module _ (L : List ℕ) (b : ℕ) (T : Table) where
       ∙ skip 10 _ (ap not s10)
       ∙ skip 11 _ (ap not s11)
       ∙ skip 12 _ (ap not (a .begins))
-      ∙ skip 13 [] (ap not s13)
-      ∙ no-rule
+      ∙ last 13 (ap not s13)
 
 -- what rule 9 says of the slots of a split
 pub record Slots-good (n b : ℕ) (ss : List ℕ) : Type 0 where

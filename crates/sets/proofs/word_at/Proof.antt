@@ -19,9 +19,6 @@ loop-holds : tie.Need-loop-holds Inv-loop μ-loop
 unfolding num
 loop-holds c = search needs
 
-add-byte-at : tie.Need-add-byte-at Inv-loop μ-loop
-add-byte-at c = search needs
-
 byte-at-requires : tie.Need-byte-at-requires Inv-loop μ-loop
 byte-at-requires c κs = search needs
 
@@ -55,4 +52,4 @@ returns c =
 
 pub word-at-spec : {M : Type 1} → statement M
 word-at-spec =
-    tie.close (tie.spec Inv-loop μ-loop loop-holds add-byte-at byte-at-requires cast-r mul-r shl-r add-j loop-less loop-again returns)
+    tie.close (tie.spec Inv-loop μ-loop loop-holds byte-at-requires cast-r mul-r shl-r add-j loop-less loop-again returns)

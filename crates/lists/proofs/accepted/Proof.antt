@@ -1,0 +1,65 @@
+-- `accepted` goes through the records; the invariant is the definition for the records passed. Assumes nothing.
+use borrow.Author.Needs.{needs}
+use mathlib.Core.Path.{_≡_}
+use Prim.Native.Nat.{_≤_, _-_}
+use native.Mathlib.Omega.{arith}
+use native.Mathlib.Numerals.{add-one}
+use Rattle.sets.specs.Set.{signatures, sigWords, setOf, sigsOf}
+use Rattle.sets.proofs.Sets.{empty-words}
+use Rattle.lists.specs.Scan.{gather}
+use Rattle.lists.specs.List.{records, isAccept, target}
+use Rattle.lists.specs.Automaton.{leaves, accepted}
+use Rattle.lists.proofs.accepted.Statement.{statement}
+use Rattle.lists.proofs.accepted.Tie as tie
+
+abbrev Inv-loop : tie.InvT-loop
+Inv-loop l f n all₀ i₀ all i = (i ≤ n) × (sigsOf all ≡ gather signatures (leaves l (setOf f) (isAccept l)) (target l) i)
+
+abbrev μ-loop : tie.MeasureT-loop
+μ-loop l f n all₀ i₀ all i = n - i
+
+records-requires : tie.Need-records-requires Inv-loop μ-loop
+records-requires c κs = search needs
+
+loop-holds : tie.Need-loop-holds Inv-loop μ-loop
+unfolding gather
+loop-holds c = (search needs, empty-words sigWords)
+
+accepts-requires : tie.Need-accepts-requires Inv-loop μ-loop
+accepts-requires c κs = search needs
+
+target-requires : tie.Need-target-requires Inv-loop μ-loop
+target-requires c κs = search needs
+
+gather-signature-requires : tie.Need-gather-signature-requires Inv-loop μ-loop
+gather-signature-requires c κs = search needs
+
+add-i : tie.Need-add-i Inv-loop μ-loop
+add-i c = search needs
+
+loop-less : tie.Need-loop-less Inv-loop μ-loop
+loop-less c = search needs
+
+loop-again : tie.Need-loop-again Inv-loop μ-loop
+unfolding gather
+loop-again c = (search needs, rw add-one (cc))
+
+returns : tie.Need-returns Inv-loop μ-loop
+unfolding accepted
+returns c = let e : c .before .loop .i ≡ records (c .before .before .before .before .args .l .now) = omega arith in cc
+
+pub accepted-spec : {M : Type 1} → statement M
+accepted-spec =
+    tie.close
+    (tie.spec
+    Inv-loop
+    μ-loop
+    records-requires
+    loop-holds
+    accepts-requires
+    target-requires
+    gather-signature-requires
+    add-i
+    loop-less
+    loop-again
+    returns)

@@ -1,0 +1,65 @@
+-- `start_set` goes through the records; the invariant is the definition for the records passed. Assumes nothing.
+use borrow.Author.Needs.{needs}
+use mathlib.Core.Path.{_≡_}
+use Prim.Native.Nat.{_≤_, _-_}
+use native.Mathlib.Omega.{arith}
+use native.Mathlib.Numerals.{add-one}
+use Rattle.sets.specs.Set.{states, setWords, setOf}
+use Rattle.sets.proofs.Sets.{empty-words}
+use Rattle.lists.specs.Scan.{gather}
+use Rattle.lists.specs.List.{records, isStart, target}
+use Rattle.lists.specs.Automaton.{start}
+use Rattle.lists.proofs.start_set.Statement.{statement}
+use Rattle.lists.proofs.start_set.Tie as tie
+
+abbrev Inv-loop : tie.InvT-loop
+Inv-loop l n all₀ i₀ all i = (i ≤ n) × (setOf all ≡ gather states (isStart l) (target l) i)
+
+abbrev μ-loop : tie.MeasureT-loop
+μ-loop l n all₀ i₀ all i = n - i
+
+records-requires : tie.Need-records-requires Inv-loop μ-loop
+records-requires c κs = search needs
+
+loop-holds : tie.Need-loop-holds Inv-loop μ-loop
+unfolding gather
+loop-holds c = (search needs, empty-words setWords)
+
+is-start-requires : tie.Need-is-start-requires Inv-loop μ-loop
+is-start-requires c κs = search needs
+
+target-requires : tie.Need-target-requires Inv-loop μ-loop
+target-requires c κs = search needs
+
+gather-state-requires : tie.Need-gather-state-requires Inv-loop μ-loop
+gather-state-requires c κs = search needs
+
+add-i : tie.Need-add-i Inv-loop μ-loop
+add-i c = search needs
+
+loop-less : tie.Need-loop-less Inv-loop μ-loop
+loop-less c = search needs
+
+loop-again : tie.Need-loop-again Inv-loop μ-loop
+unfolding gather
+loop-again c = (search needs, rw add-one (cc))
+
+returns : tie.Need-returns Inv-loop μ-loop
+unfolding start
+returns c = let e : c .before .loop .i ≡ records (c .before .before .before .before .args .l .now) = omega arith in cc
+
+pub start-set-spec : {M : Type 1} → statement M
+start-set-spec =
+    tie.close
+    (tie.spec
+    Inv-loop
+    μ-loop
+    records-requires
+    loop-holds
+    is-start-requires
+    target-requires
+    gather-state-requires
+    add-i
+    loop-less
+    loop-again
+    returns)
