@@ -53,4 +53,4 @@ split-cuts L b T ok cs ds hc hd fc fd e =
     one R c f v =
         let g = f v in
         let p = call-passes R c v in
-        record { engine = through-engine L b T c (g .0) (g .1); rows-few = rows-few R (p .0); short = p .1 }
+        record { engine = through-engine L b T c (g .0) (g .1); rows-few = rows-few R (p .0); short = p .2 }

@@ -8,16 +8,17 @@ use native.Mathlib.Omega.{arith}
 use lib.ListN.{length, take}
 use lib.Seq.{length-take-le, take-take}
 use lib.Dec.{ltb, eqb, lit<}
-use borrow.Author.Tests.{eqb-true, eqb-false, eq-eqb, ne-eqb, ltb-true, ltb-false, lt-ltb, le-ltb}
+use borrow.Author.Tests.{eqb-true, eqb-false, eq-eqb, ne-eqb, ltb-true, lt-ltb, le-ltb}
 use Rattle.lists.specs.Scan.{Rule, verdict, number, Given, Refuses}
 use Rattle.lists.specs.List.{listRules, listRefusal, badLength, badRecord, noStart}
 use Rattle.lists.proofs.Scanning.{both}
 use Rattle.lists.proofs.Listed.{list-refuses}
-use Rattle.lists.proofs.Rules.{refuses, exactly, numbered, number-lt, verdict-lt, passes, passes-changed}
+use Rattle.lists.proofs.Rules.{refuses, exactly, numbered, number-lt, verdict-lt, passes-front, passes-changed}
 use Rattle.flows.specs.Engine.{Engine, Outcome, room, run, consumed, ended, refused, feed}
 use Rattle.flows.specs.Flow.{flowLayout, frontierOf, offsetOf, mostOffset, badFlow, otherStart, tooLong, feedRules}
 use Rattle.flows.proofs.Runs.{consumed-most, consumed-again, length-take-most}
 use Rattle.flows.proofs.Going.{unfed}
+use Rattle.flows.proofs.Looping.{feed-passes}
 use Rattle.plain.specs.Plain.{plain, opened, openRules, openRefusal, openSaved, plainFeed}
 use Rattle.plain.proofs.Plain.{plain-refusal}
 use Rattle.tables.specs.Table.{Table, sizeRules, tableRules, tableRefusal}
@@ -131,16 +132,8 @@ module _ (L : List ℕ) (b : ℕ) (T : Table) (R : List ℕ) (at : ℕ) (piece o
 cut-passes : (L : List ℕ) (b : ℕ) (T : Table) (R : List ℕ) (at : ℕ) (piece : List ℕ) (n : ℕ) → verdict (splitRules L b T R at piece) ≡ 0 → verdict (splitRules L b T R at (take n piece)) ≡ 0
 cut-passes L b T R at piece n v =
     passes-changed ((1, badLength L) ∷ (2, badRecord L) ∷ (3, noStart L) ∷ (4, badFlow R) ∷ (5, otherStart R at) ∷ []) 5 (tooLong R piece) (tooLong R (take n piece)) (sizeRules b T) v
-    (le-ltb mostOffset (offsetOf R + length (take n piece)) (omega (arith, length-take-most n piece, ltb-false mostOffset (offsetOf R + length piece) short)))
-  where
-    short : tooLong R piece ≡ false
-    short =
-        let r1 = passes 0 _ _ v in
-        let r2 = passes 1 _ _ (r1 .1) in
-        let r3 = passes 2 _ _ (r2 .1) in
-        let r4 = passes 3 _ _ (r3 .1) in
-        let r5 = passes 4 _ _ (r4 .1) in
-        passes 5 _ _ (r5 .1) .0
+    (le-ltb mostOffset (offsetOf R + length (take n piece))
+      (omega (arith, length-take-most n piece, feed-passes L R at piece (passes-front (feedRules L R at piece) (sizeRules b T) v) .2)))
 
 -- 14 leaves what the bytes before it leave
 kept : (L : List ℕ) (b : ℕ) (T : Table) (R : List ℕ) (at : ℕ) (piece out : List ℕ) → splitFeed L b T R at piece out .refusal ≡ 14

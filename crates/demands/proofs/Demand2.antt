@@ -1,25 +1,22 @@
 -- Demand 2 over any list of calls from any record, and what holds of each call, plain or split. Assumes nothing.
 use Prim.Native.Nat.{ℕ, zero, suc, _+_, _*_, _^_, _≤_, _<_}
 use mathlib.Core.Path.{_≡_, refl, sym, ap, _∙_, subst}
-use mathlib.Core.Bool.{Bool, true, false, _&&_, cond, true≢false}
+use mathlib.Core.Bool.{Bool, true, false, not, true≢false}
 use mathlib.Core.List.{List, [], _∷_, _++_}
 use native.Mathlib.Omega.{arith}
 use native.Mathlib.Nat.{mul-add}
-use native.Mathlib.Decide.{ℕ-discrete}
 use lib.ListN.{length, take}
-use lib.Seq.{length-take-le}
-use lib.Dec.{ltb, eqb}
-use borrow.Author.Tests.{eq-eqb, lt-ltb}
+use borrow.Author.Tests.{eq-eqb}
 use Rattle.sets.specs.Set.{states, signatures}
 use Rattle.lists.specs.Scan.{verdict}
 use Rattle.lists.proofs.Rules.{passes}
 use Rattle.flows.specs.Engine.{Engine, Layout, Outcome, room, run, costs, told, consumed, ended, refused, feed}
 use Rattle.flows.specs.Flow.{flowLayout, frontierOf, offsetOf, rowsOf, flow, badFlow, otherStart, mostOffset}
 use Rattle.flows.specs.Calls.{Bytes, Asked, answer, recordAfter, allTold, allBytes, Along}
-use Rattle.flows.proofs.Runs.{consumed-most, consumed-fits, consumed-longest, moves, costs-most, bytes-take, length-take-most}
+use Rattle.flows.proofs.Runs.{consumed-most, consumed-fits, consumed-longest, costs-most, bytes-take, length-take-most}
 use Rattle.flows.proofs.Follows.{follows-within}
 use Rattle.flows.proofs.Records.{frontier-lt, flow-good}
-use Rattle.flows.proofs.Going.{unfed}
+use Rattle.flows.proofs.Moves.{feed-bytes, no-refusal, feed-moves}
 use Rattle.flows.proofs.Whole.{Sound, flow-sound, Pieces, Passed, Fair, whole, never-halts, one-engine, by-answer}
 use Rattle.flows.proofs.Cuts.{along-map, Equal, ByOne, One}
 use Rattle.flows.proofs.Cuts as cut
@@ -63,7 +60,7 @@ pub plainly-one : (L R : List ℕ) (c : Call) → Plainly L R c → One flowLayo
 plainly-one L R c f v =
     let g = f v in
     let p = call-passes R c v in
-    record { engine = plainly-engine L c (g .0) (g .1); rows-few = rows-few R (p .0); short = p .1 }
+    record { engine = plainly-engine L c (g .0) (g .1); rows-few = rows-few R (p .0); short = p .2 }
 
 pub plainly-fair : (L R : List ℕ) (c : Call) → Plainly L R c → Fair flowLayout (plain L) (Equal IsSet) states R (asked c)
 plainly-fair L R c f v =
@@ -97,10 +94,7 @@ demand-2 L R cs hR hb h =
 
 -- what it consumes, where no rule refuses it
 call-bytes : (R : List ℕ) (c : Call) → verdict (asked c .rules R) ≡ 0 → outcome R c .bytes ≡ consumed (asked c .engine) (frontierOf R) (room (c .out)) (c .piece)
-unfolding feed ended
-call-bytes R c v =
-    rw (eq-eqb (verdict (asked c .rules R)) 0 v)
-    (length-take-le (consumed (asked c .engine) (frontierOf R) (room (c .out)) (c .piece)) (c .piece) (consumed-most (asked c .engine) (frontierOf R) (room (c .out)) (c .piece)))
+call-bytes R c v = feed-bytes (asked c .engine) flowLayout R (asked c .rules R) (c .piece) (c .out) v
 
 call-longest : (R : List ℕ) (c : Call) → verdict (asked c .rules R) ≡ 0 → Longest (asked c .engine) (frontierOf R) (room (c .out)) (c .piece) (outcome R c .bytes)
 call-longest R c v =
@@ -111,16 +105,13 @@ call-longest R c v =
       longest = consumed-longest (asked c .engine) (frontierOf R) (room (c .out)) (c .piece);
     })
 
--- a rule refuses it: its refusal is the rules', and nothing changes
-call-refused : (R : List ℕ) (c : Call) → (verdict (asked c .rules R) ≡ 0 → ⊥) → outcome R c .refusal ≡ verdict (asked c .rules R)
-call-refused R c v = rw (unfed (asked c .engine) flowLayout R (c .piece) (c .out) (asked c .rules R) v)
-
+-- a rule refuses it: nothing changes
 call-elsewhere : (R : List ℕ) (c : Call) → otherStart R (c .at) ≡ true → (outcome R c .refusal ≡ 0 → ⊥) × Unchanged R (c .out) (outcome R c)
 call-elsewhere R c e =
-    (λ z. refuses (sym (call-refused R c refuses) ∙ z), refused-unchanged (asked c .engine) flowLayout R (c .piece) (c .out) (asked c .rules R) refuses)
+    (λ z. refuses (no-refusal (asked c .engine) flowLayout R (asked c .rules R) (c .piece) (c .out) z), refused-unchanged (asked c .engine) flowLayout R (c .piece) (c .out) (asked c .rules R) refuses)
   where
     refuses : verdict (asked c .rules R) ≡ 0 → ⊥
-    refuses v = true≢false (sym e ∙ call-passes R c v .2)
+    refuses v = true≢false (sym e ∙ ap not (eq-eqb (c .at) (offsetOf R) (call-passes R c v .1)))
 
 call-good : (R : List ℕ) (c : Call) → Bytes (c .piece) → badFlow R ≡ false → badFlow (outcome R c .saved) ≡ false
 unfolding ended
@@ -135,47 +126,11 @@ call-good R c h g = by-answer flowLayout R (asked c) (λ o. badFlow (o .saved) �
         let few : costs (asked c .engine) (frontierOf R) front ≤ states * length front =
         costs-most (asked c .engine) (λ F. Unit {0}) (λ F d l p. tt) states (λ F p. cost-most (c .via) (c .list) F) (frontierOf R) front tt (bytes-take n (c .piece) h) in
         flow-good (run (asked c .engine) (frontierOf R) front) (offsetOf R + length front) (rowsOf R + costs (asked c .engine) (frontierOf R) front)
-        (omega (arith, length-take-most n (c .piece), call-passes R c v .1))
+        (omega (arith, length-take-most n (c .piece), call-passes R c v .2))
         (rw mul-add (omega (arith, few, rows-few R g)))
 
--- an engine that halts at once consumes nothing of a piece, and the refusal is 14
-halts-first : (E : Engine ℕ) (F most c : ℕ) (cs : List ℕ) → E .halts F ≡ true → consumed E F most (c ∷ cs) ≡ 0
-unfolding consumed
-halts-first E F most c cs h = rw h
-
-halts-14 : (E : Engine ℕ) (R out : List ℕ) (c : ℕ) (cs : List ℕ) → E .halts (frontierOf R) ≡ true
-    → ended E flowLayout R (take (consumed E (frontierOf R) (room out) (c ∷ cs)) (c ∷ cs)) (suc (length cs)) out .refusal ≡ 14
-unfolding ended run
-halts-14 E R out c cs h = rw (halts-first E (frontierOf R) (room out) c cs h, lt-ltb 0 (suc (length cs)) (omega arith), h)
-
--- so one that ends without a refusal does not
-ends-free : (E : Engine ℕ) (R out piece : List ℕ) → zero < length piece
-    → ended E flowLayout R (take (consumed E (frontierOf R) (room out) piece) piece) (length piece) out .refusal ≡ 0 → E .halts (frontierOf R) ≡ false
-ends-free E R out [] l z = absurd (omega arith)
-ends-free E R out (c ∷ cs) l z = go (E .halts (frontierOf R)) refl
-  where
-    go : (t : Bool) → E .halts (frontierOf R) ≡ t → t ≡ false
-    go true e = absurd (omega (arith, z, halts-14 E R out c cs e))
-    go false e = refl
-
-moves-on : (E : Engine ℕ) (F most : ℕ) (piece : List ℕ) → zero < length piece → signatures ≤ most → E .halts F ≡ false → zero < consumed E F most piece
-moves-on E F most [] l r h = absurd (omega arith)
-moves-on E F most (c ∷ cs) l r h = moves E F most c cs r h
-
-call-ends : (R : List ℕ) (c : Call) → verdict (asked c .rules R) ≡ 0
-    → outcome R c ≡ ended (asked c .engine) flowLayout R (take (consumed (asked c .engine) (frontierOf R) (room (c .out)) (c .piece)) (c .piece)) (length (c .piece)) (c .out)
-unfolding feed
-call-ends R c v = rw (eq-eqb (verdict (asked c .rules R)) 0 v)
-
 call-moves : (R : List ℕ) (c : Call) → outcome R c .refusal ≡ 0 → zero < length (c .piece) → signatures ≤ room (c .out) → zero < outcome R c .bytes
-call-moves R c z l r = elim (ℕ-discrete (verdict (asked c .rules R)) 0) [ yes v ↦ goes v | no n ↦ absurd (n (sym (call-refused R c n) ∙ z)) ]
-  where
-    goes : verdict (asked c .rules R) ≡ 0 → zero < outcome R c .bytes
-    goes v =
-        let e = call-ends R c v in
-        rw (call-bytes R c v)
-        (moves-on (asked c .engine) (frontierOf R) (room (c .out)) (c .piece) l r
-        (ends-free (asked c .engine) R (c .out) (c .piece) l (sym (ap (λ (o : Outcome). o .refusal) e) ∙ z)))
+call-moves R c z l r = feed-moves (asked c .engine) flowLayout R (asked c .rules R) (c .piece) (c .out) z l r
 
 pub one-call : OneCall
 one-call = record { longest = call-longest; elsewhere = call-elsewhere; never-4 = call-good; moves = call-moves }

@@ -58,7 +58,7 @@ module _ (L : List ℕ) (b : ℕ) (T : Table) (ok : tableRefusal L b T ≡ 0) wh
         follows = rw (through-engine L b T c (g .0) (g .1)) (split-follows L b T ok);
         cheap = λ F G r. cost-most (c .via) (c .list) F;
         rows-few = rows-few R (p .0);
-        short = p .1;
+        short = p .2;
       }
 
   at-start : AtSplit T (frontierOf (opened L)) (start L)

@@ -6,17 +6,17 @@ use mathlib.Core.List.{List, [], _∷_, _++_}
 use native.Mathlib.Omega.{arith}
 use lib.ListN.{length}
 use lib.Dec.{ltb, eqb}
-use borrow.Author.Tests.{ltb-false}
 use Rattle.sets.specs.Set.{states}
 use Rattle.lists.specs.Scan.{Rule, verdict}
 use Rattle.lists.specs.Automaton.{start, step, accepted}
 use Rattle.lists.proofs.Scanning.{neither}
-use Rattle.lists.proofs.Rules.{passes, passes-front}
+use Rattle.lists.proofs.Rules.{passes-front}
 use Rattle.lists.proofs.Steps.{step-lt}
 use Rattle.flows.specs.Engine.{Engine}
-use Rattle.flows.specs.Flow.{flowLayout, offsetOf, rowsOf, badFlow, otherStart, mostOffset, feedRules}
+use Rattle.flows.specs.Flow.{flowLayout, offsetOf, rowsOf, badFlow, mostOffset, feedRules}
 use Rattle.flows.specs.Calls.{Follows}
 use Rattle.flows.proofs.Records.{good-flow}
+use Rattle.flows.proofs.Looping.{feed-passes}
 use Rattle.plain.specs.Plain.{plain}
 use Rattle.plain.proofs.Plain.{plain-cheap}
 use Rattle.tables.specs.Table.{Table, unusedSlot, slots, takenSlots, isSplit, badBound, sizeRules, tableRefusal, mostBound}
@@ -32,17 +32,10 @@ passes-feed : (v : Via) (L R : List ℕ) (at : ℕ) (piece : List ℕ) → verdi
 passes-feed byList L R at piece e = e
 passes-feed (byTable b T) L R at piece e = passes-front (feedRules L R at piece) (sizeRules b T) e
 
--- so its record is good, its piece ends at an offset, and begins at the flow's
+-- so its record is good, its piece begins at the flow's offset, and ends at one
 pub call-passes : (R : List ℕ) (c : Call) → verdict (asked c .rules R) ≡ 0
-    → (badFlow R ≡ false) × (offsetOf R + length (c .piece) ≤ mostOffset) × (otherStart R (c .at) ≡ false)
-call-passes R c e =
-    let r1 = passes 0 _ _ (passes-feed (c .via) (c .list) R (c .at) (c .piece) e) in
-    let r2 = passes 1 _ _ (r1 .1) in
-    let r3 = passes 2 _ _ (r2 .1) in
-    let r4 = passes 3 _ _ (r3 .1) in
-    let r5 = passes 4 _ _ (r4 .1) in
-    let r6 = passes 5 _ _ (r5 .1) in
-    (r4 .0, ltb-false mostOffset (offsetOf R + length (c .piece)) (r6 .0), r5 .0)
+    → (badFlow R ≡ false) × (c .at ≡ offsetOf R) × (offsetOf R + length (c .piece) ≤ mostOffset)
+call-passes R c e = feed-passes (c .list) R (c .at) (c .piece) (passes-feed (c .via) (c .list) R (c .at) (c .piece) e)
 
 pub rows-few : (R : List ℕ) → badFlow R ≡ false → rowsOf R ≤ states * offsetOf R
 rows-few R e = good-flow R e .2

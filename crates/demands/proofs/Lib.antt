@@ -5,3 +5,4 @@ pub mod Demand2
 pub mod Demand3
 pub mod Cuts
 pub mod Instance
+pub mod Made

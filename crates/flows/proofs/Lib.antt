@@ -3,5 +3,9 @@ pub mod Told
 pub mod Follows
 pub mod Records
 pub mod Going
+pub mod Moves
 pub mod Whole
 pub mod Cuts
+pub mod Placing
+pub mod Looping
+pub mod Unique

@@ -1,3 +1,4 @@
 pub mod Engine
 pub mod Flow
 pub mod Calls
+pub mod Fed

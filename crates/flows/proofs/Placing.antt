@@ -1,0 +1,159 @@
+-- Words or bytes written over a list: none, one more, more after them, and all of it. Assumes nothing.
+use Prim.Native.Nat.{ℕ, zero, suc, _+_, _*_, _-_, _≤_, _<_}
+use mathlib.Core.Path.{_≡_, refl, sym, ap, _∙_}
+use mathlib.Core.List.{List, [], _∷_, _++_, append-assoc, append-nil}
+use mathlib.Core.Bool.{Bool, true, false, cond}
+use native.Mathlib.Omega.{arith}
+use lib.ListN.{length, getD, set, take, drop, length-append, length-drop, take-append-drop}
+use lib.Seq.{drop-cons, drop-drop, take-at, drop-at, set-at, drop-length, length-take-le}
+use lib.Dec.{leb}
+use borrow.Author.Tests.{le-leb, leb-true}
+use Rattle.sets.specs.Set.{signatures, setSize, digits, setBytes, holds, members, placed}
+use Rattle.sets.proofs.Laws.{length-digits}
+use Rattle.sets.proofs.Members.{members-in, members-out}
+use Rattle.flows.specs.Engine.{pairsAt}
+use Rattle.flows.specs.Flow.{flowSize, flow}
+use Rattle.flows.proofs.Runs.{pairsAt-length}
+
+-- where it fits
+pub placed-fits : (b : List ℕ) (at : ℕ) (xs : List ℕ) → at + length xs ≤ length b → placed b at xs ≡ (take at b ++ xs) ++ drop (at + length xs) b
+unfolding placed
+placed-fits b at xs l = rw (le-leb (at + length xs) (length b) l) (sym (append-assoc (take at b) xs (drop (at + length xs) b)))
+
+-- the list keeps its length
+pub length-placed : (b : List ℕ) (at : ℕ) (xs : List ℕ) → length (placed b at xs) ≡ length b
+unfolding placed
+length-placed b at xs = go (leb (at + length xs) (length b)) refl
+  where
+    go : (t : Bool) → leb (at + length xs) (length b) ≡ t → length (cond t (take at b ++ (xs ++ drop (at + length xs) b)) b) ≡ length b
+    go true e =
+        let l = leb-true (at + length xs) (length b) e in
+        let h : length (take at b) ≡ at = length-take-le at b (omega arith) in
+        simp (length-append, length-drop) (omega arith)
+    go false e = refl
+
+-- nothing is written
+pub placed-none : (b : List ℕ) (at : ℕ) → at ≤ length b → b ≡ placed b at []
+placed-none b at l =
+    let e : at + 0 ≡ at = omega arith in
+    sym (placed-fits b at [] (omega arith) ∙ rw (e, append-nil (take at b)) (take-append-drop at b))
+
+-- one element after what is written
+pub placed-one : (b : List ℕ) (at : ℕ) (xs : List ℕ) (x : ℕ) → at + length xs < length b
+    → set (placed b at xs) (at + length xs) x ≡ placed b at (xs ++ (x ∷ []))
+placed-one b at xs x l =
+    let h : length (take at b) ≡ at = length-take-le at b (omega arith) in
+    let e : length (take at b ++ xs) ≡ at + length xs = simp length-append (omega arith) in
+    let j : at + length (xs ++ (x ∷ [])) ≡ suc (at + length xs) = simp length-append (omega arith) in
+    rw (
+      placed-fits b at xs (omega arith),
+      drop-cons b (at + length xs) 0 l,
+      set-at (take at b ++ xs) (getD b (at + length xs) 0) (drop (suc (at + length xs)) b) x (at + length xs) e,
+      placed-fits b at (xs ++ (x ∷ [])) (omega arith),
+      j,
+    ) (simp append-assoc)
+
+-- more after what is written
+pub placed-after : (b : List ℕ) (at : ℕ) (xs ys : List ℕ) (n : ℕ) → n ≡ at + length xs → n + length ys ≤ length b
+    → placed (placed b at xs) n ys ≡ placed b at (xs ++ ys)
+placed-after b at xs ys n q l =
+    let h : length (take at b) ≡ at = length-take-le at b (omega arith) in
+    let e : length (take at b ++ xs) ≡ n = simp length-append (omega arith) in
+    let j : at + length (xs ++ ys) ≡ n + length ys = simp length-append (omega arith) in
+    let f : placed b at xs ≡ (take at b ++ xs) ++ drop n b = placed-fits b at xs (omega arith) ∙ ap (λ (k : ℕ). (take at b ++ xs) ++ drop k b) (sym q) in
+    let t : take n (placed b at xs) ≡ take at b ++ xs = ap (take n) f ∙ take-at (take at b ++ xs) (drop n b) n e in
+    let d : drop (n + length ys) (placed b at xs) ≡ drop (n + length ys) b =
+    sym (drop-drop (length ys) n (placed b at xs)) ∙ ap (λ (w : List ℕ). drop (length ys) w) (ap (drop n) f ∙ drop-at (take at b ++ xs) (drop n b) n e) ∙ drop-drop (length ys) n b in
+    rw (
+      placed-fits (placed b at xs) n ys (omega (arith, length-placed b at xs)),
+      t,
+      d,
+      placed-fits b at (xs ++ ys) (omega arith),
+      j,
+      append-assoc (take at b) xs ys,
+    )
+
+-- all of the list
+pub placed-all : (b xs : List ℕ) → length xs ≡ length b → placed b 0 xs ≡ xs
+placed-all b xs e =
+    let z : 0 + length xs ≡ length b = omega arith in
+    placed-fits b 0 xs (omega arith) ∙ rw (z, drop-length b) (append-nil xs)
+
+-- ---- the four fields of a record, one after the other
+
+pub placed-flow : (R : List ℕ) (F k n : ℕ) → length R ≡ flowSize
+    → placed (placed (placed (placed R 0 (setBytes F)) setSize (digits 8 4 k)) (setSize + 4) (digits 8 4 0)) (setSize + 8) (digits 8 8 n) ≡ flow F k n
+unfolding flow
+placed-flow R F k n e =
+    let a : length (setBytes F) ≡ setSize = length-digits 8 setSize F in
+    let b : length (digits 8 4 k) ≡ 4 = length-digits 8 4 k in
+    let c : length (digits 8 4 0) ≡ 4 = length-digits 8 4 0 in
+    let d : length (digits 8 8 n) ≡ 8 = length-digits 8 8 n in
+    let ab : length (setBytes F ++ digits 8 4 k) ≡ setSize + 4 = simp length-append (omega arith) in
+    let abc : length (setBytes F ++ digits 8 4 k ++ digits 8 4 0) ≡ setSize + 8 = simp length-append (omega arith) in
+    let abcd : length (setBytes F ++ digits 8 4 k ++ digits 8 4 0 ++ digits 8 8 n) ≡ length R = simp length-append (omega arith) in
+    rw (
+      placed-after R 0 (setBytes F) (digits 8 4 k) setSize (omega arith) (omega arith),
+      placed-after R 0 (setBytes F ++ digits 8 4 k) (digits 8 4 0) (setSize + 4) (omega arith) (omega arith),
+      placed-after R 0 (setBytes F ++ digits 8 4 k ++ digits 8 4 0) (digits 8 8 n) (setSize + 8) (omega arith) (omega arith),
+      placed-all R (setBytes F ++ digits 8 4 k ++ digits 8 4 0 ++ digits 8 8 n) abcd,
+    ) (simp append-assoc)
+
+-- ---- the pairs of a set's members, in words with room for all of them
+
+-- as many numbers below m are at least as many below n, where n is at most m
+members-more : (G n d : ℕ) → length (members n G) ≤ length (members (n + d) G)
+unfolding members
+members-more G n zero = let e : n + 0 ≡ n = omega arith in rw e (omega arith)
+members-more G n (suc d) =
+    let e : n + suc d ≡ suc (n + d) = omega arith in
+    let h = members-more G n d in
+    rw (e, length-append) (omega arith)
+
+members-mono : (G n m : ℕ) → n ≤ m → length (members n G) ≤ length (members m G)
+members-mono G n m h = let e : n + (m - n) ≡ m = omega arith in rw e at (members-more G n (m - n))
+
+pairs-snoc : (k : ℕ) (gs : List ℕ) (g : ℕ) → pairsAt k (gs ++ (g ∷ [])) ≡ pairsAt k gs ++ (g ∷ []) ++ (k ∷ [])
+unfolding pairsAt
+pairs-snoc k [] g = refl
+pairs-snoc k (h ∷ gs) g = ap {B = List ℕ} (λ (ws : List ℕ). h ∷ (k ∷ ws)) (pairs-snoc k gs g)
+
+module _ (out : List ℕ) (at k G : ℕ) (room : at + 2 * length (members signatures G) ≤ length out) where
+  -- before the first signature
+  pub tell-none : out ≡ placed out at (pairsAt k (members 0 G))
+  unfolding members pairsAt
+  tell-none = placed-none out at (omega arith)
+
+  -- there is room for one more
+  pub tell-room : (s : ℕ) → s < signatures → holds G s ≡ true → at + 2 * length (members s G) + 2 ≤ length out
+  tell-room s l e =
+      omega (arith, members-mono G (suc s) signatures (omega arith), ap (λ (ws : List ℕ). length ws) (members-in s G e), length-append (members s G) (s ∷ []))
+
+  -- one signature more: where the set holds it, it is written with the offset
+  pub tell-more : (s w : ℕ) → s < signatures → w ≡ at + 2 * length (members s G)
+      → (cond (holds G s) (w + 2) w ≡ at + 2 * length (members (suc s) G))
+      × (cond (holds G s) (set (set (placed out at (pairsAt k (members s G))) w s) (w + 1) k) (placed out at (pairsAt k (members s G)))
+      ≡ placed out at (pairsAt k (members (suc s) G)))
+  tell-more s w l q = go (holds G s) refl
+    where
+      before : List ℕ
+      before = placed out at (pairsAt k (members s G))
+
+      go : (t : Bool) → holds G s ≡ t
+          → (cond t (w + 2) w ≡ at + 2 * length (members (suc s) G)) × (cond t (set (set before w s) (w + 1) k) before ≡ placed out at (pairsAt k (members (suc s) G)))
+      go true e =
+          let r = tell-room s l e in
+          let n = pairsAt-length k (members s G) in
+          let a : w ≡ at + length (pairsAt k (members s G)) = omega arith in
+          let b : at + length (pairsAt k (members s G)) + 1 ≡ at + length (pairsAt k (members s G) ++ (s ∷ [])) = simp length-append (omega arith) in (
+            rw (members-in s G e, length-append) (omega arith),
+            rw (
+              a,
+              b,
+              placed-one out at (pairsAt k (members s G)) s (omega arith),
+              placed-one out at (pairsAt k (members s G) ++ (s ∷ [])) k (omega arith),
+              members-in s G e,
+              pairs-snoc,
+            ),
+          )
+      go false e = rw (members-out s G e) (q, refl)
