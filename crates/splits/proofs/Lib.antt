@@ -1,1 +1,5 @@
 pub mod Exact
+pub mod Taking
+pub mod Stepping
+pub mod Feeding
+pub mod Unique

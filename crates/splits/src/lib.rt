@@ -1,1 +1,232 @@
-// The split feed: definitions and laws.
+// The split feed: each byte is moved by the rows of the split that is the frontier, and the list gives the pairs.
+use flows::Fed;
+use sets::StateSet;
+ghost use mathlib.Core.Path.{_≡_};
+ghost use mathlib.Core.Bool.{_&&_, cond};
+ghost use Prim.Native.Nat.{_+_, _≤_};
+ghost use lib.ListN.{length};
+ghost use lib.Dec.{ltb};
+ghost use Rattle.sets.specs.Set.{setOf};
+ghost use Rattle.lists.specs.Scan.{verdict};
+ghost use Rattle.flows.specs.Engine.{room, consumed};
+ghost use Rattle.flows.specs.Flow.{mostOffset};
+ghost use Rattle.flows.specs.Fed.{Answers};
+ghost use Rattle.flows.proofs.Going.{Going};
+ghost use Rattle.tables.specs.Table.{Table, mostParts, classCount, partCount, row, slots, takenSlots};
+ghost use Rattle.splits.specs.Split.{splitOf, stuck, split, splitRules, splitFeed};
+ghost use Rattle.splits.specs.Taken.{TakesSlots, TakesStep};
+
+// The refusal of a byte that the table does not move.
+const HALTED: u32 = 14;
+
+// What a split gives for a byte: whether it halts there, the slots taken, and the union of their rows.
+struct Taken {
+    halts: bool,
+    rows: u64,
+    next: StateSet,
+}
+
+// What the loop of a feed leaves: the refusal of the byte where it stops, the frontier, the bytes consumed, the words written and the rows read.
+struct Ran {
+    refusal: u32,
+    frontier: StateSet,
+    bytes: usize,
+    words: usize,
+    rows: u64,
+}
+
+// The first split whose set is f; the number of splits where there is none.
+fn find(splits: &[u8], f: StateSet) -> usize
+    ensures { λ r. ⌜ r ≡ splitOf (now (splits .entry)) (setOf f) ⌝ }
+{
+    let n = tables::split_count(splits);
+    for i in 0..n {
+        if tables::split_set(splits, i).same(f) {
+            return i;
+        }
+    }
+    n
+}
+
+// Takes the slots of split i up to the first unused one, where there are n parts and k classes: the rows that byte c selects.
+fn take_slots(
+    classes: &[u8],
+    rows: &[u8],
+    splits: &[u8],
+    k: usize,
+    n: usize,
+    i: usize,
+    c: u8,
+) -> Taken
+    requires { ⌜ (k ≡ classCount (now classes)) × (n ≤ mostParts) ⌝ }
+    ensures { λ t. ⌜ TakesSlots n (λ p. row (now (classes .entry)) (now (rows .entry)) p c) (takenSlots (slots (now (splits .entry)) i)) t ⌝ }
+{
+    let mut all = StateSet::EMPTY;
+    for j in 0..tables::SLOTS {
+        let x = tables::slot(splits, i, j);
+        if x == tables::UNUSED {
+            return Taken {
+                halts: false,
+                rows: j as u64,
+                next: all,
+            };
+        }
+        if n <= x {
+            return Taken {
+                halts: true,
+                rows: j as u64,
+                next: all,
+            };
+        }
+        all = all.union(tables::row_set(classes, rows, k, x, c));
+    }
+    Taken {
+        halts: false,
+        rows: tables::SLOTS as u64,
+        next: all,
+    }
+}
+
+// The split step at frontier f on byte c, where the bytes have k classes.
+fn split_step(
+    classes: &[u8],
+    parts: &[u8],
+    rows: &[u8],
+    splits: &[u8],
+    k: usize,
+    bound: u64,
+    f: StateSet,
+    c: u8,
+) -> Taken
+    requires { ⌜ (k ≡ classCount (now classes)) × (partCount (now parts) ≤ mostParts) ⌝ }
+    ensures { λ t. ⌜ TakesStep bound (record { classes = now (classes .entry); parts = now (parts .entry); rows = now (rows .entry); splits = now (splits .entry) }) (setOf f) c t ⌝ }
+{
+    let i = find(splits, f);
+    if tables::split_count(splits) <= i {
+        return Taken {
+            halts: true,
+            rows: 0,
+            next: f,
+        };
+    }
+    let t = take_slots(classes, rows, splits, k, tables::part_count(parts), i, c);
+    let next = t.next;
+    Taken {
+        halts: t.halts | (bound < t.rows),
+        rows: t.rows,
+        next: next,
+    }
+}
+
+// The check of a feed: the number of the first of the rules 1 to 8 that refuses it, 0 where none does.
+fn feed_refusal(
+    l: &[u8],
+    bound: u64,
+    classes: &[u8],
+    parts: &[u8],
+    rows: &[u8],
+    splits: &[u8],
+    r: &[u8],
+    at: u64,
+    piece: &[u8],
+) -> u32
+    ensures { λ res. ⌜ res ≡ verdict (splitRules (now (l .entry)) bound (record { classes = now (classes .entry); parts = now (parts .entry); rows = now (rows .entry); splits = now (splits .entry) }) (now (r .entry)) at (now (piece .entry))) ⌝ }
+{
+    let listed = lists::check_list(l);
+    if listed != lists::PASSED {
+        return listed;
+    }
+    let met = flows::flow_refusal(r, at, piece);
+    if met != lists::PASSED {
+        return met;
+    }
+    tables::size_refusal(bound, classes, parts, rows, splits)
+}
+
+// Runs the split step from a frontier at an offset over the bytes that it moves and whose pairs all fit the words.
+fn feed_bytes(
+    l: &[u8],
+    bound: u64,
+    classes: &[u8],
+    parts: &[u8],
+    rows: &[u8],
+    splits: &[u8],
+    first: StateSet,
+    offset: u64,
+    piece: &[u8],
+    out: &mut [u32],
+) -> Ran
+    requires { ⌜ (offset + length (now piece) ≤ mostOffset) × (partCount (now parts) ≤ mostParts) ⌝ }
+    ensures going { λ res. ⌜ Going (split (now (l .entry)) bound (record { classes = now (classes .entry); parts = now (parts .entry); rows = now (rows .entry); splits = now (splits .entry) })) (setOf first) offset (now (piece .entry)) (now (out .entry)) (setOf (res .frontier)) (now (out .exit)) (res .bytes) (res .words) (res .rows) ⌝ }
+    ensures longest { λ res. ⌜ consumed (split (now (l .entry)) bound (record { classes = now (classes .entry); parts = now (parts .entry); rows = now (rows .entry); splits = now (splits .entry) })) (setOf first) (room (now (out .entry))) (now (piece .entry)) ≡ res .bytes ⌝ }
+    ensures refused { λ res. ⌜ res .refusal ≡ cond (ltb (res .bytes) (length (now (piece .entry))) && stuck bound (record { classes = now (classes .entry); parts = now (parts .entry); rows = now (rows .entry); splits = now (splits .entry) }) (setOf (res .frontier))) 14 0 ⌝ }
+{
+    let k = tables::class_count(classes);
+    let mut ran = Ran {
+        refusal: lists::PASSED,
+        frontier: first,
+        bytes: 0,
+        words: 0,
+        rows: 0,
+    };
+    for i in 0..piece.len() {
+        let f = ran.frontier;
+        let t = split_step(classes, parts, rows, splits, k, bound, f, piece[i]);
+        if t.halts {
+            ran.refusal = HALTED;
+            return ran;
+        }
+        let next = t.next;
+        let g = lists::accepted(l, next);
+        let n = g.count() as usize;
+        if (out.len() - ran.words) / 2 < n {
+            return ran;
+        }
+        flows::tell(out, ran.words, g, (offset + i as u64 + 1) as u32);
+        ran = Ran {
+            refusal: lists::PASSED,
+            frontier: next,
+            bytes: i + 1,
+            words: ran.words + 2 * n,
+            rows: ran.rows + t.rows,
+        };
+    }
+    ran
+}
+
+// Feeds a piece to a flow by its table. A refusal before the first byte changes nothing; one at a later byte keeps what the bytes before it leave.
+pub fn feed(
+    l: &[u8],
+    bound: u64,
+    classes: &[u8],
+    parts: &[u8],
+    rows: &[u8],
+    splits: &[u8],
+    r: &mut [u8],
+    at: u64,
+    piece: &[u8],
+    out: &mut [u32],
+) -> Fed
+    ensures { λ res. ⌜ Answers (splitFeed (now (l .entry)) bound (record { classes = now (classes .entry); parts = now (parts .entry); rows = now (rows .entry); splits = now (splits .entry) }) (now (r .entry)) at (now (piece .entry)) (now (out .entry))) res (now (out .exit)) (now (r .exit)) ⌝ }
+{
+    let refusal = feed_refusal(l, bound, classes, parts, rows, splits, r, at, piece);
+    if refusal != lists::PASSED {
+        return Fed {
+            refusal: refusal,
+            bytes: 0,
+            pairs: 0,
+            all: false,
+        };
+    }
+    let f = StateSet::load(r, 0);
+    let from = flows::offset_of(r);
+    let spent = flows::rows_of(r);
+    let ran = feed_bytes(l, bound, classes, parts, rows, splits, f, from, piece, out);
+    flows::save(r, ran.frontier, from + ran.bytes as u64, spent + ran.rows);
+    Fed {
+        refusal: ran.refusal,
+        bytes: ran.bytes,
+        pairs: ran.words / 2,
+        all: ran.bytes == piece.len(),
+    }
+}

@@ -1,2 +1,9 @@
 pub mod Joined
 pub mod Accepted
+pub mod Entries
+pub mod Slots
+pub mod Turns
+pub mod Halving
+pub mod Ordered
+pub mod Checked
+pub mod Unique

@@ -1,1 +1,403 @@
-// The split table: definitions and laws.
+// The split table: the reads of its four lists, and its check.
+use sets::StateSet;
+ghost use mathlib.Core.Path.{_≡_};
+ghost use mathlib.Core.Bool.{true, false, _&&_, cond};
+ghost use Prim.Native.Nat.{_*_, _^_, _<_, _≤_, max};
+ghost use lib.ListN.{getD};
+ghost use lib.Dec.{eqb};
+ghost use Rattle.sets.specs.Set.{setOf, join};
+ghost use Rattle.lists.specs.Scan.{every, verdict};
+ghost use Rattle.lists.specs.List.{listRefusal};
+ghost use Rattle.lists.specs.Automaton.{step};
+ghost use Rattle.tables.specs.Table.{byteValues, mostParts, largest, classCount, partCount, splitCount, part, row, splitSet, slots, unusedSlot, usedSlots, allBelow, joined, isSplit, badClasses, badCount, badRowsLength, badLengths, goodSlots, inOrder, sizeRules, tableRefusal};
+
+// Bytes that a piece may have; each has a class.
+pub const BYTE_VALUES: usize = 256;
+
+// The largest class.
+pub const MOST_CLASS: usize = 63;
+
+// The most parts and the most splits of a table.
+pub const MOST_PARTS: usize = 1024;
+
+pub const MOST_SPLITS: usize = 4096;
+
+// The largest bound.
+pub const MOST_BOUND: u64 = 4;
+
+// Slots in a split, and the number in one that is not in use.
+pub const SLOTS: usize = 4;
+
+pub const UNUSED: usize = 65535;
+
+// Bytes in a split: its set, then its slots of two bytes.
+pub const SPLIT_SIZE: usize = sets::BYTES + 2 * SLOTS;
+
+// The larger of two bytes.
+fn larger(x: u8, y: u8) -> u8
+    ensures { λ r. ⌜ r ≡ max x y ⌝ }
+{
+    if x < y { y } else { x }
+}
+
+// The largest byte of a list; 0 where it is empty.
+fn largest(b: &[u8]) -> u8
+    ensures { λ r. ⌜ r ≡ largest (now (b .entry)) ⌝ }
+{
+    let mut m = 0u8;
+    for i in 0..b.len() {
+        m = larger(m, b[i]);
+    }
+    m
+}
+
+// How many classes the bytes have: the largest, plus 1.
+pub fn class_count(classes: &[u8]) -> usize
+    ensures { λ r. ⌜ r ≡ classCount (now (classes .entry)) ⌝ }
+{
+    largest(classes) as usize + 1
+}
+
+// How many parts the list has.
+pub fn part_count(parts: &[u8]) -> usize
+    ensures { λ r. ⌜ r ≡ partCount (now (parts .entry)) ⌝ }
+{
+    parts.len() / sets::BYTES
+}
+
+// How many splits the list has.
+pub fn split_count(splits: &[u8]) -> usize
+    ensures { λ r. ⌜ r ≡ splitCount (now (splits .entry)) ⌝ }
+{
+    splits.len() / SPLIT_SIZE
+}
+
+// Part p; past the list's end that is the empty set.
+pub fn part_set(parts: &[u8], p: usize) -> StateSet
+    ensures { λ r. ⌜ setOf r ≡ part (now (parts .entry)) p ⌝ }
+{
+    if p <= part_count(parts) {
+        StateSet::load(parts, sets::BYTES * p)
+    } else {
+        StateSet::EMPTY
+    }
+}
+
+// The set of split i; past the list's end that is the empty set.
+pub fn split_set(splits: &[u8], i: usize) -> StateSet
+    ensures { λ r. ⌜ setOf r ≡ splitSet (now (splits .entry)) i ⌝ }
+{
+    if i <= split_count(splits) {
+        StateSet::load(splits, SPLIT_SIZE * i)
+    } else {
+        StateSet::EMPTY
+    }
+}
+
+// Slot j of split i; past the slots, or past the list's end, that is 0.
+pub fn slot(splits: &[u8], i: usize, j: usize) -> usize
+    ensures { λ r. ⌜ r ≡ getD (slots (now (splits .entry)) i) j 0 ⌝ }
+{
+    if SLOTS <= j {
+        return 0;
+    }
+    if split_count(splits) < i {
+        return 0;
+    }
+    lists::word_at(splits, SPLIT_SIZE * i + sets::BYTES + 2 * j)
+}
+
+// The row of part p that byte c selects, where the bytes have k classes.
+pub fn row_set(classes: &[u8], rows: &[u8], k: usize, p: usize, c: u8) -> StateSet
+    requires { ⌜ (k ≡ classCount (now classes)) × (p < mostParts) ⌝ }
+    ensures { λ r. ⌜ setOf r ≡ row (now (classes .entry)) (now (rows .entry)) p c ⌝ }
+{
+    let q = p * k + lists::byte_at(classes, c as usize) as usize;
+    StateSet::load(rows, sets::BYTES * q)
+}
+
+// Says whether the list of classes has the wrong length, or a class is too large.
+fn bad_classes(classes: &[u8]) -> bool
+    ensures { λ r. ⌜ r ≡ badClasses (now (classes .entry)) ⌝ }
+{
+    (classes.len() != BYTE_VALUES) | (MOST_CLASS < largest(classes) as usize)
+}
+
+// Says whether a list of entries is empty, too long, or has a broken entry.
+fn bad_count(entry: usize, most: usize, xs: &[u8]) -> bool
+    requires { ⌜ (0 < entry) × (entry * most < 2 ^ 32) ⌝ }
+    ensures { λ r. ⌜ r ≡ badCount entry most (now (xs .entry)) ⌝ }
+{
+    (xs.len() == 0) | (entry * most < xs.len()) | (xs.len() % entry != 0)
+}
+
+// Says whether the list of rows has another length than parts and classes ask for.
+fn bad_rows_length(classes: &[u8], parts: &[u8], rows: &[u8], splits: &[u8]) -> bool
+    requires { ⌜ partCount (now parts) ≤ mostParts ⌝ }
+    ensures { λ r. ⌜ r ≡ badRowsLength (record { classes = now (classes .entry); parts = now (parts .entry); rows = now (rows .entry); splits = now (splits .entry) }) ⌝ }
+{
+    rows.len() != sets::BYTES * (part_count(parts) * class_count(classes))
+}
+
+// Says whether rule 8 refuses the table.
+fn bad_lengths(classes: &[u8], parts: &[u8], rows: &[u8], splits: &[u8]) -> bool
+    ensures { λ r. ⌜ r ≡ badLengths (record { classes = now (classes .entry); parts = now (parts .entry); rows = now (rows .entry); splits = now (splits .entry) }) ⌝ }
+{
+    if bad_classes(classes) {
+        return true;
+    }
+    if bad_count(sets::BYTES, MOST_PARTS, parts) {
+        return true;
+    }
+    if bad_count(SPLIT_SIZE, MOST_SPLITS, splits) {
+        return true;
+    }
+    bad_rows_length(classes, parts, rows, splits)
+}
+
+// The size rules: 7 where the bound refuses, 8 where a list does, 0 where neither does.
+pub fn size_refusal(bound: u64, classes: &[u8], parts: &[u8], rows: &[u8], splits: &[u8]) -> u32
+    ensures { λ r. ⌜ r ≡ verdict (sizeRules bound (record { classes = now (classes .entry); parts = now (parts .entry); rows = now (rows .entry); splits = now (splits .entry) })) ⌝ }
+{
+    if (bound == 0) | (MOST_BOUND < bound) {
+        return 7;
+    }
+    if bad_lengths(classes, parts, rows, splits) {
+        return 8;
+    }
+    0
+}
+
+// Says whether rule 9 passes the slots of split i: n parts, at most `bound` slots in use.
+fn good_slots(splits: &[u8], i: usize, n: usize, bound: u64) -> bool
+    ensures { λ r. ⌜ r ≡ goodSlots n bound (slots (now (splits .entry)) i) ⌝ }
+{
+    let mut least = 0;
+    let mut left = bound;
+    let mut going = true;
+    for j in 0..SLOTS {
+        let x = slot(splits, i, j);
+        if x == UNUSED {
+            going = false;
+        } else {
+            if !(going & (least <= x) & (x < n) & (1 <= left)) {
+                return false;
+            }
+            least = x + 1;
+            left = left - 1;
+        }
+    }
+    true
+}
+
+// Says whether the set of split i comes after the one before it.
+fn in_order(splits: &[u8], i: usize) -> bool
+    requires { ⌜ i < splitCount (now splits) ⌝ }
+    ensures { λ r. ⌜ r ≡ inOrder (now (splits .entry)) i ⌝ }
+{
+    if i == 0 {
+        true
+    } else {
+        let a = split_set(splits, i - 1);
+        let b = split_set(splits, i);
+        a.less(b)
+    }
+}
+
+// Says whether rule 9 passes the splits.
+fn splits_good(splits: &[u8], n: usize, bound: u64) -> bool
+    ensures { λ r. ⌜ r ≡ every (splitCount (now (splits .entry))) (λ i. goodSlots n bound (slots (now (splits .entry)) i) && inOrder (now (splits .entry)) i) ⌝ }
+{
+    let m = split_count(splits);
+    for i in 0..m {
+        if !(good_slots(splits, i, n, bound) & in_order(splits, i)) {
+            return false;
+        }
+    }
+    true
+}
+
+// Says whether rule 10 passes the rows of part p, whose set is f.
+fn rows_at(l: &[u8], classes: &[u8], rows: &[u8], k: usize, p: usize, f: StateSet) -> bool
+    requires { ⌜ (k ≡ classCount (now classes)) × (p < mostParts) ⌝ }
+    ensures { λ r. ⌜ r ≡ every byteValues (λ c. eqb (row (now (classes .entry)) (now (rows .entry)) p c) (step (now (l .entry)) (setOf f) c)) ⌝ }
+{
+    for c in 0..BYTE_VALUES {
+        if !row_set(classes, rows, k, p, c as u8).same(lists::step(l, f, c as u8)) {
+            return false;
+        }
+    }
+    true
+}
+
+// Says whether rule 10 passes the rows.
+fn rows_good(l: &[u8], classes: &[u8], parts: &[u8], rows: &[u8], k: usize) -> bool
+    requires { ⌜ (k ≡ classCount (now classes)) × (partCount (now parts) ≤ mostParts) ⌝ }
+    ensures { λ r. ⌜ r ≡ every (partCount (now (parts .entry))) (λ p. every byteValues (λ c. eqb (row (now (classes .entry)) (now (rows .entry)) p c) (step (now (l .entry)) (part (now (parts .entry)) p) c))) ⌝ }
+{
+    let n = part_count(parts);
+    for p in 0..n {
+        if !rows_at(l, classes, rows, k, p, part_set(parts, p)) {
+            return false;
+        }
+    }
+    true
+}
+
+// The set with part x, where the slot that names it is in use.
+fn add_part(parts: &[u8], x: usize, all: StateSet) -> StateSet
+    ensures { λ r. ⌜ setOf r ≡ cond (unusedSlot x) (setOf all) (join (setOf all) (part (now (parts .entry)) x)) ⌝ }
+{
+    if x == UNUSED {
+        all
+    } else {
+        all.union(part_set(parts, x))
+    }
+}
+
+// The set with the row of part x that byte c selects, where the slot that names it is in use.
+fn add_row(classes: &[u8], rows: &[u8], k: usize, x: usize, c: u8, all: StateSet) -> StateSet
+    requires { ⌜ (k ≡ classCount (now classes)) × (unusedSlot x ≡ false → x < mostParts) ⌝ }
+    ensures { λ r. ⌜ setOf r ≡ cond (unusedSlot x) (setOf all) (join (setOf all) (row (now (classes .entry)) (now (rows .entry)) x c)) ⌝ }
+{
+    if x == UNUSED {
+        all
+    } else {
+        all.union(row_set(classes, rows, k, x, c))
+    }
+}
+
+// The union of the parts of split i.
+fn union_of(parts: &[u8], splits: &[u8], i: usize) -> StateSet
+    ensures { λ r. ⌜ setOf r ≡ joined (part (now (parts .entry))) (usedSlots (slots (now (splits .entry)) i)) ⌝ }
+{
+    let mut all = StateSet::EMPTY;
+    for j in 0..SLOTS {
+        all = add_part(parts, slot(splits, i, j), all);
+    }
+    all
+}
+
+// Says whether rule 11 passes the splits.
+fn unions_good(parts: &[u8], splits: &[u8]) -> bool
+    ensures { λ r. ⌜ r ≡ every (splitCount (now (splits .entry))) (λ i. eqb (splitSet (now (splits .entry)) i) (joined (part (now (parts .entry))) (usedSlots (slots (now (splits .entry)) i)))) ⌝ }
+{
+    let n = split_count(splits);
+    for i in 0..n {
+        if !split_set(splits, i).same(union_of(parts, splits, i)) {
+            return false;
+        }
+    }
+    true
+}
+
+// Says whether f is the set of a split, by halving: the sets of the splits rise.
+fn is_split_sorted(splits: &[u8], f: StateSet) -> bool
+    requires { ⌜ every (splitCount (now splits)) (inOrder (now splits)) ≡ true ⌝ }
+    ensures { λ r. ⌜ r ≡ isSplit (now (splits .entry)) (setOf f) ⌝ }
+{
+    let n = split_count(splits);
+    let mut lo = 0;
+    let mut hi = n;
+    while lo < hi {
+        let mid = (lo + hi) / 2;
+        if split_set(splits, mid).less(f) {
+            lo = mid + 1;
+        } else {
+            hi = mid;
+        }
+    }
+    (lo < n) & split_set(splits, lo).same(f)
+}
+
+// The union of the rows that byte c selects for the parts of split i.
+fn rows_of(classes: &[u8], rows: &[u8], splits: &[u8], k: usize, i: usize, c: u8) -> StateSet
+    requires { ⌜ (k ≡ classCount (now classes)) × (allBelow mostParts (usedSlots (slots (now splits) i)) ≡ true) ⌝ }
+    ensures { λ r. ⌜ setOf r ≡ joined (λ p. row (now (classes .entry)) (now (rows .entry)) p c) (usedSlots (slots (now (splits .entry)) i)) ⌝ }
+{
+    let mut all = StateSet::EMPTY;
+    for j in 0..SLOTS {
+        all = add_row(classes, rows, k, slot(splits, i, j), c, all);
+    }
+    all
+}
+
+// Says whether each byte leads from split i to a split, through the rows.
+fn leads_at(classes: &[u8], rows: &[u8], splits: &[u8], k: usize, i: usize) -> bool
+    requires { ⌜ (k ≡ classCount (now classes)) × (allBelow mostParts (usedSlots (slots (now splits) i)) ≡ true) × (every (splitCount (now splits)) (inOrder (now splits)) ≡ true) ⌝ }
+    ensures { λ r. ⌜ r ≡ every byteValues (λ c. isSplit (now (splits .entry)) (joined (λ p. row (now (classes .entry)) (now (rows .entry)) p c) (usedSlots (slots (now (splits .entry)) i)))) ⌝ }
+{
+    for d in 0..BYTE_VALUES {
+        if !is_split_sorted(splits, rows_of(classes, rows, splits, k, i, d as u8)) {
+            return false;
+        }
+    }
+    true
+}
+
+// Says whether each byte leads from each split to a split, through the rows.
+fn leads(classes: &[u8], rows: &[u8], splits: &[u8], k: usize) -> bool
+    requires { ⌜ (k ≡ classCount (now classes)) × (every (splitCount (now splits)) (λ i. allBelow mostParts (usedSlots (slots (now splits) i))) ≡ true) × (every (splitCount (now splits)) (inOrder (now splits)) ≡ true) ⌝ }
+    ensures { λ r. ⌜ r ≡ every (splitCount (now (splits .entry))) (λ i. every byteValues (λ c. isSplit (now (splits .entry)) (joined (λ p. row (now (classes .entry)) (now (rows .entry)) p c) (usedSlots (slots (now (splits .entry)) i))))) ⌝ }
+{
+    let n = split_count(splits);
+    for i in 0..n {
+        if !leads_at(classes, rows, splits, k, i) {
+            return false;
+        }
+    }
+    true
+}
+
+// Rules 9 to 13, for a table that the rules before them pass.
+fn entries_refusal(
+    l: &[u8],
+    bound: u64,
+    classes: &[u8],
+    parts: &[u8],
+    rows: &[u8],
+    splits: &[u8],
+) -> u32
+    requires { ⌜ (listRefusal (now l) ≡ 0) × (verdict (sizeRules bound (record { classes = now classes; parts = now parts; rows = now rows; splits = now splits })) ≡ 0) ⌝ }
+    ensures { λ r. ⌜ r ≡ tableRefusal (now (l .entry)) bound (record { classes = now (classes .entry); parts = now (parts .entry); rows = now (rows .entry); splits = now (splits .entry) }) ⌝ }
+{
+    let k = class_count(classes);
+    if !splits_good(splits, part_count(parts), bound) {
+        return 9;
+    }
+    if !rows_good(l, classes, parts, rows, k) {
+        return 10;
+    }
+    if !unions_good(parts, splits) {
+        return 11;
+    }
+    if !is_split_sorted(splits, lists::start_set(l)) {
+        return 12;
+    }
+    if !leads(classes, rows, splits, k) {
+        return 13;
+    }
+    0
+}
+
+// The table check: the number of the first rule that refuses the table, 0 where none does.
+pub fn check_table(
+    l: &[u8],
+    bound: u64,
+    classes: &[u8],
+    parts: &[u8],
+    rows: &[u8],
+    splits: &[u8],
+) -> u32
+    ensures { λ r. ⌜ r ≡ tableRefusal (now (l .entry)) bound (record { classes = now (classes .entry); parts = now (parts .entry); rows = now (rows .entry); splits = now (splits .entry) }) ⌝ }
+{
+    let listed = lists::check_list(l);
+    if listed != 0 {
+        return listed;
+    }
+    let sized = size_refusal(bound, classes, parts, rows, splits);
+    if sized != 0 {
+        return sized;
+    }
+    entries_refusal(l, bound, classes, parts, rows, splits)
+}

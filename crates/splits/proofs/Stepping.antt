@@ -1,0 +1,85 @@
+-- The split step by the first split whose set is the frontier: the search for it, where it halts, what it gives, and the rules before it. Assumes nothing.
+use Prim.Native.Nat.{ℕ, zero, suc, _+_, _≤_, _<_}
+use mathlib.Core.Path.{_≡_, refl, sym, ap, _∙_}
+use mathlib.Core.Bool.{Bool, true, false, _&&_, _||_, cond, not, true≢false, false≢true}
+use mathlib.Core.List.{List, [], _∷_, _++_}
+use native.Mathlib.Omega.{arith}
+use native.Mathlib.Numerals.{add-one}
+use lib.ListN.{length}
+use lib.Dec.{ltb, leb, eqb}
+use borrow.Author.Tests.{le-leb, lt-leb, lt-ltb, le-ltb}
+use Rattle.sets.specs.Set.{setOf}
+use Rattle.lists.specs.Scan.{some, first, verdict}
+use Rattle.lists.proofs.Scanning.{neither, first-at, first-none}
+use Rattle.tables.specs.Table.{Table, partCount, splitCount, row, splitSet, slots, takenSlots, allBelow, joined}
+use Rattle.splits.specs.Split.{splitOf, taken, stuck, splitStep}
+use Rattle.splits.specs.declared.Taken.{Taken}
+use Rattle.splits.specs.Taken.{TakesSlots, TakesStep}
+use Rattle.splits.proofs.Taking.{taken-most}
+
+-- ---- the search
+
+-- none of the first i splits has the set F
+unfoldable pub Missed : List ℕ → ℕ → ℕ → Type 0
+Missed S F i = some i (λ j. eqb (splitSet S j) F) ≡ false
+
+pub missed-none : (S : List ℕ) (F : ℕ) → Missed S F 0
+unfolding Missed some
+missed-none S F = refl
+
+module _ (S : List ℕ) (F i : ℕ) (m : Missed S F i) where
+  pub missed-more : eqb (splitSet S i) F ≡ false → Missed S F (i + 1)
+  unfolding Missed some
+  missed-more e = rw (add-one i, m, e)
+
+  pub found-at : i < splitCount S → eqb (splitSet S i) F ≡ true → i ≡ splitOf S F
+  unfolding Missed splitOf
+  found-at l e = sym (first-at (splitCount S) (λ j. eqb (splitSet S j) F) i l m e)
+
+  pub found-none : i ≡ splitCount S → i ≡ splitOf S F
+  unfolding Missed splitOf
+  found-none e =
+      sym (ap (λ (n : ℕ). first n (λ j. eqb (splitSet S j) F)) (sym e) ∙ first-none i (λ j. eqb (splitSet S j) F) m)
+
+-- ---- the step, where the search gives i
+
+module _ (b : ℕ) (T : Table) (F c i : ℕ) (e : i ≡ splitOf (T .splits) F) where
+  -- no split has the set F
+  pub step-none : splitCount (T .splits) ≤ i → (t : Taken) → t .halts ≡ true → TakesStep b T F c t
+  unfolding stuck
+  step-none l t h =
+      let s : leb (splitCount (T .splits)) (splitOf (T .splits) F) ≡ true = ap (leb (splitCount (T .splits))) (sym e) ∙ le-leb (splitCount (T .splits)) i l in
+      record { halts = h ∙ sym (rw s); rows = λ z. absurd (true≢false (sym h ∙ z)); next = λ z. absurd (true≢false (sym h ∙ z)) }
+
+  -- the slots of split i are taken; too many of them halt
+  module _ (l : i < splitCount (T .splits)) (s : Taken) (g : TakesSlots (partCount (T .parts)) (λ p. row (T .classes) (T .rows) p c) (takenSlots (slots (T .splits) i)) s) where
+    these : takenSlots (slots (T .splits) i) ≡ taken T F
+    unfolding taken
+    these = ap (λ (n : ℕ). takenSlots (slots (T .splits) n)) e
+
+    halts-of : (s .halts || ltb b (s .rows)) ≡ stuck b T F
+    unfolding stuck
+    halts-of =
+        let f : leb (splitCount (T .splits)) (splitOf (T .splits) F) ≡ false = ap (leb (splitCount (T .splits))) (sym e) ∙ lt-leb (splitCount (T .splits)) i l in
+        let h : s .halts ≡ not (allBelow (partCount (T .parts)) (taken T F)) = g .halts ∙ ap (λ (ss : List ℕ). not (allBelow (partCount (T .parts)) ss)) these in
+        go (s .halts) refl ∙ sym (rw (f, ← h))
+      where
+        go : (t : Bool) → s .halts ≡ t → (t || ltb b (s .rows)) ≡ (t || ltb b (length (taken T F)))
+        go true q = refl
+        go false q = ap (ltb b) (g .rows q ∙ ap (λ (ss : List ℕ). length ss) these)
+
+    pub step-found : (t : Taken) → t .halts ≡ (s .halts || ltb b (s .rows)) → t .rows ≡ s .rows → setOf (t .next) ≡ setOf (s .next) → TakesStep b T F c t
+    unfolding splitStep
+    step-found t h r n =
+        let free : t .halts ≡ false → s .halts ≡ false = (λ z. neither (s .halts) (ltb b (s .rows)) (sym h ∙ z) .0) in
+        record {
+          halts = h ∙ halts-of;
+          rows = λ z. r ∙ g .rows (free z) ∙ ap (λ (ss : List ℕ). length ss) these;
+          next = λ z. n ∙ g .next (free z) ∙ ap (joined (λ p. row (T .classes) (T .rows) p c)) these;
+        }
+
+-- ---- what a step costs
+
+pub split-cheap : (T : Table) (F : ℕ) → length (taken T F) ≤ 4
+unfolding taken
+split-cheap T F = taken-most (T .splits) (splitOf (T .splits) F)

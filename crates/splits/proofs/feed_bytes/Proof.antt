@@ -1,0 +1,230 @@
+-- `feed_bytes` meets its promise: its loop keeps `Going`. Assumes nothing.
+use borrow.Author.Needs.{needs}
+use mathlib.Core.Path.{_≡_, refl, sym, ap, _∙_}
+use mathlib.Core.Bool.{true, false}
+use Prim.Native.Nat.{ℕ, _+_, _≤_, _<_, _-_, _*_}
+use native.Mathlib.Omega.{arith}
+use lib.ListN.{length}
+use Rattle.sets.specs.Set.{setOf, sigsOf}
+use Rattle.lists.specs.Automaton.{accepted}
+use Rattle.flows.proofs.Going.{Going, start, finish, length-kept}
+use Rattle.flows.proofs.Looping.{words-fit, more-by, stop-by}
+use Rattle.tables.specs.Table.{Table}
+use Rattle.splits.specs.Split.{stuck, split}
+use Rattle.splits.proofs.Stepping.{split-cheap}
+use Rattle.splits.proofs.Feeding.{rows-few, stop-halted, refused-halted, refused-free, refused-ended}
+use Rattle.splits.proofs.feed_bytes.Statement.{statement}
+use Rattle.splits.proofs.feed_bytes.Tie as tie
+
+abbrev Inv-loop : tie.InvT-loop
+Inv-loop l bound classes parts rows splits offset piece out₀ k ran₀ i₀ i-end out ran i =
+    Going (split l bound (record { classes = classes; parts = parts; rows = rows; splits = splits })) (setOf (ran₀ .frontier)) offset piece out₀ (setOf (ran .frontier)) out i (ran .words) (ran .rows)
+    × (ran .bytes ≡ i) × (ran .refusal ≡ 0)
+
+abbrev μ-loop : tie.MeasureT-loop
+μ-loop l bound classes parts rows splits offset piece out₀ k ran₀ i₀ i-end out ran i = length piece - i
+
+-- the table that is given
+abbrev table : tie.At-loop Inv-loop μ-loop → Table
+table c =
+    record { classes = c .before .before .before .before .before .before .before .before .before .args .classes .now; parts = c .before .before .before .before .before .before .before .before .before .args .parts .now; rows = c .before .before .before .before .before .before .before .before .before .args .rows .now; splits = c .before .before .before .before .before .before .before .before .before .args .splits .now }
+
+-- at the loop's head: the words stay as many, those written are among them, and the rows are few
+kept : (c : tie.At-loop Inv-loop μ-loop) → length (c .loop .out) ≡ length (c .before .before .before .before .before .before .before .before .before .args .out .now)
+kept c =
+    let a = c .before .before .before .before .before .before .before .before .before .args in
+    let l = c .loop in
+    length-kept (split (a .l .now) (a .bound) (table c)) (setOf (a .first)) (a .offset) (a .piece .now) (a .out .now) (setOf (l .ran .frontier)) (l .out) (l .i) (l .ran .words) (l .ran .rows) (l .inv .0)
+
+within : (c : tie.At-loop Inv-loop μ-loop) → c .loop .ran .words ≤ length (c .loop .out)
+within c =
+    let a = c .before .before .before .before .before .before .before .before .before .args in
+    let l = c .loop in
+    words-fit (split (a .l .now) (a .bound) (table c)) (setOf (a .first)) (a .offset) (a .piece .now) (a .out .now) (setOf (l .ran .frontier)) (l .out) (l .i) (l .ran .words) (l .ran .rows) (l .inv .0)
+
+few : (c : tie.At-loop Inv-loop μ-loop) → c .loop .ran .rows ≤ 4 * c .loop .i
+few c =
+    let a = c .before .before .before .before .before .before .before .before .before .args in
+    let l = c .loop in
+    rows-few (a .l .now) (a .bound) (table c) (setOf (a .first)) (a .offset) (a .piece .now) (a .out .now) (setOf (l .ran .frontier)) (l .out) (l .i) (l .ran .words) (l .ran .rows) (l .inv .0)
+    (λ i. c .before .before .before .shared-slice-known6 .given i .fits)
+
+-- in the loop a byte is still to come
+to-come : (c : tie.In-loop Inv-loop μ-loop) → c .before .loop .i < length (c .before .before .before .before .before .before .before .before .before .before .args .piece .now)
+to-come c = omega (arith, c .loop-test)
+
+class-count-requires : tie.Need-class-count-requires Inv-loop μ-loop
+class-count-requires c κs = search needs
+
+loop-holds : tie.Need-loop-holds Inv-loop μ-loop
+loop-holds c =
+    let a = c .before .before .before .before .before .before .before .before .args in
+    let T : Table = record { classes = a .classes .now; parts = a .parts .now; rows = a .rows .now; splits = a .splits .now } in
+    (start (split (a .l .now) (a .bound) T) (setOf (a .first)) (a .offset) (a .piece .now) (a .out .now), refl, refl)
+
+shared-slice-read-split-step : tie.Need-shared-slice-read-split-step Inv-loop μ-loop
+shared-slice-read-split-step c = search needs
+
+split-step-requires : tie.Need-split-step-requires Inv-loop μ-loop
+split-step-requires c κs = search needs
+
+same-length : tie.Need-same-length Inv-loop μ-loop
+same-length c = kept (c .before .before .before .before .before)
+
+returns : tie.Need-returns Inv-loop μ-loop
+returns c =
+    let head = c .before .before .before .before .before in
+    let a = head .before .before .before .before .before .before .before .before .before .args in
+    let l = head .loop in
+    let b = l .inv .1 in
+    let h : stuck (a .bound) (table head) (setOf (l .ran .frontier)) ≡ true = sym (c .before .split-step .ensures .halts) ∙ c .if1 .taken in (
+      rw (sym b) at (l .inv .0),
+      (
+        stop-halted (a .l .now) (a .bound) (table head) (setOf (a .first)) (a .offset) (a .piece .now) (a .out .now) (setOf (l .ran .frontier)) (l .out) (l .i) (l .ran .words) (l .ran .rows) (l .inv .0) (to-come (c .before .before .before .before)) h ∙ sym b,
+        refused-halted (l .ran .bytes) (length (a .piece .now)) _ (omega arith) h,
+      ),
+    )
+
+accepted-requires : tie.Need-accepted-requires Inv-loop μ-loop
+accepted-requires c κs = search needs
+
+count-requires : tie.Need-count-requires Inv-loop μ-loop
+count-requires c κs = search needs
+
+cast-n : tie.Need-cast-n Inv-loop μ-loop
+cast-n c = search needs
+
+sub-if2 : tie.Need-sub-if2 Inv-loop μ-loop
+sub-if2 c = omega (arith, within (c .before .before .before .before .before .before .before .before .before))
+
+same-length-2 : tie.Need-same-length-2 Inv-loop μ-loop
+same-length-2 c = kept (c .before .before .before .before .before .before .before .before .before .before)
+
+returns-2 : tie.Need-returns-2 Inv-loop μ-loop
+returns-2 c =
+    let count = c .before .before in
+    let told = count .before in
+    let free = told .before .before in
+    let stepped = free .before in
+    let head = stepped .before .before .before .before in
+    let a = head .before .before .before .before .before .before .before .before .before .args in
+    let l = head .loop in
+    let b = l .inv .1 in (
+      rw (sym b) at (l .inv .0),
+      (
+        stop-by (split (a .l .now) (a .bound) (table head)) (setOf (a .first)) (a .offset) (a .piece .now) (a .out .now) (setOf (l .ran .frontier)) (l .out) (l .i) (l .ran .words) (l .ran .rows) (l .inv .0)
+            (sigsOf (told .accepted .result)) (count .count .result) (to-come (stepped .before .before .before))
+            (told .accepted .ensures ∙ ap (accepted (a .l .now)) (stepped .split-step .ensures .next (free .if1 .left))) (count .count .ensures) (c .if2 .taken) ∙ sym b,
+        l .inv .2 ∙ refused-free (l .ran .bytes) (length (a .piece .now)) _ (sym (stepped .split-step .ensures .halts) ∙ free .if1 .left),
+      ),
+    )
+
+add-tell : tie.Need-add-tell Inv-loop μ-loop
+add-tell c = search needs
+
+add-tell-2 : tie.Need-add-tell-2 Inv-loop μ-loop
+add-tell-2 c = search needs
+
+cast-tell : tie.Need-cast-tell Inv-loop μ-loop
+cast-tell c = search needs
+
+tell-requires : tie.Need-tell-requires Inv-loop μ-loop
+tell-requires c κs = search needs
+
+-- the words of its pairs fit
+roomy : (c : tie.Else2 Inv-loop μ-loop) → c .before .before .before .before .before .before .before .before .before .before .loop .ran .words + 2 * c .before .before .count .result ≤ length (c .before .before .before .before .before .before .before .before .before .before .before .before .before .before .before .before .before .before .before .args .out .now)
+roomy c = omega (arith, c .if2 .left, within (c .before .before .before .before .before .before .before .before .before .before), kept (c .before .before .before .before .before .before .before .before .before .before))
+
+add-t24 : tie.Need-add-t24 Inv-loop μ-loop
+add-t24 c = omega (arith, to-come (c .before .before .before .before .before .before .before .before .before .before .before .before .before), c .before .before .before .before .before .before .before .before .before .before .before .before .before .before .before .before .before .before .before .before .before .before .before .pre)
+
+mul-t25 : tie.Need-mul-t25 Inv-loop μ-loop
+mul-t25 c = search needs
+
+add-t26 : tie.Need-add-t26 Inv-loop μ-loop
+add-t26 c = omega (arith, roomy (c .before .before .before .before .before), c .before .before .before .before .before .before .before .before .before .before .before .before .before .before .before .before .before .before .before .before .before .before .before .before)
+
+-- rows read for a byte
+cost : (c : tie.Else1 Inv-loop μ-loop) → c .before .split-step .result .rows ≤ 4
+cost c =
+    let head = c .before .before .before .before .before in
+    omega (arith, c .before .split-step .ensures .rows (c .if1 .left), split-cheap (table head) (setOf (head .loop .ran .frontier)))
+
+add-t32 : tie.Need-add-t32 Inv-loop μ-loop
+add-t32 c = omega (arith, few (c .before .before .before .before .before .before .before .before .before .before .before .before .before .before .before .before .before), cost (c .before .before .before .before .before .before .before .before .before .before .before .before), to-come (c .before .before .before .before .before .before .before .before .before .before .before .before .before .before .before .before), c .before .before .before .before .before .before .before .before .before .before .before .before .before .before .before .before .before .before .before .before .before .before .before .before .before .before .pre)
+
+add-i : tie.Need-add-i Inv-loop μ-loop
+add-i c = omega (arith, to-come (c .before .before .before .before .before .before .before .before .before .before .before .before .before .before .before .before), c .before .before .before .before .before .before .before .before .before .before .before .before .before .before .before .before .before .before .before .before .before .before .before .before .before .before .pre)
+
+loop-less : tie.Need-loop-less Inv-loop μ-loop
+loop-less c = search needs
+
+loop-again : tie.Need-loop-again Inv-loop μ-loop
+loop-again c =
+    let wrote = c .before .before .before .before .before in
+    let fits = wrote .before .before in
+    let count = fits .before .before in
+    let told = count .before in
+    let free = told .before .before in
+    let stepped = free .before in
+    let head = stepped .before .before .before .before in
+    let a = head .before .before .before .before .before .before .before .before .before .args in
+    let l = head .loop in
+    let s = stepped .split-step .ensures in
+    let h = free .if1 .left in (
+      more-by (split (a .l .now) (a .bound) (table head)) (setOf (a .first)) (a .offset) (a .piece .now) (a .out .now) (setOf (l .ran .frontier)) (l .out) (l .i) (l .ran .words) (l .ran .rows) (l .inv .0)
+          (sigsOf (told .accepted .result)) (count .count .result) (to-come (stepped .before .before .before))
+          (told .accepted .ensures ∙ ap (accepted (a .l .now)) (s .next h)) (count .count .ensures) (sym (s .halts) ∙ h) (omega (arith, fits .if2 .left))
+          (setOf (stepped .split-step .result .next)) (s .next h) _ (wrote .tell .ensures) (stepped .split-step .result .rows) (s .rows h),
+      refl,
+      refl,
+    )
+
+same-length-3 : tie.Need-same-length-3 Inv-loop μ-loop
+same-length-3 c = kept (c .before)
+
+returns-3 : tie.Need-returns-3 Inv-loop μ-loop
+returns-3 c =
+    let head = c .before in
+    let a = head .before .before .before .before .before .before .before .before .before .args in
+    let l = head .loop in
+    let b = l .inv .1 in
+    let e : l .i ≡ length (a .piece .now) = omega arith in (
+      rw (sym b) at (l .inv .0),
+      (
+        finish (split (a .l .now) (a .bound) (table head)) (setOf (a .first)) (a .offset) (a .piece .now) (a .out .now) (setOf (l .ran .frontier)) (l .out) (l .i) (l .ran .words) (l .ran .rows) (l .inv .0) e ∙ sym b,
+        l .inv .2 ∙ refused-ended (l .ran .bytes) (length (a .piece .now)) _ (b ∙ e),
+      ),
+    )
+
+pub feed-bytes-spec : {M : Type 1} → statement M
+feed-bytes-spec =
+    tie.close
+    (tie.spec
+    Inv-loop
+    μ-loop
+    class-count-requires
+    loop-holds
+    shared-slice-read-split-step
+    split-step-requires
+    same-length
+    returns
+    accepted-requires
+    count-requires
+    cast-n
+    sub-if2
+    same-length-2
+    returns-2
+    add-tell
+    add-tell-2
+    cast-tell
+    tell-requires
+    add-t24
+    mul-t25
+    add-t26
+    add-t32
+    add-i
+    loop-less
+    loop-again
+    same-length-3
+    returns-3)

@@ -1,0 +1,44 @@
+-- Each promise of the public functions determines the outcome: two outcomes that meet it are equal. Assumes nothing.
+use Prim.Native.Nat.{ℕ}
+use mathlib.Core.Path.{_≡_, sym, _∙_}
+use mathlib.Core.Bool.{Bool}
+use mathlib.Core.List.{List}
+use lib.ListN.{getD}
+use Rattle.sets.specs.declared.StateSet.{StateSet}
+use Rattle.sets.specs.Set.{setWords, setOf}
+use Rattle.sets.proofs.Sets.{Words, set-one}
+use Rattle.lists.specs.Scan.{verdict}
+use Rattle.tables.specs.Table.{Table, classCount, partCount, splitCount, part, row, splitSet, slots, isSplit, sizeRules, tableRefusal}
+
+-- ---- numbers and answers
+
+module _ (x y : ℕ) where
+  pub unique-check-table : (L : List ℕ) (b : ℕ) (T : Table) → x ≡ tableRefusal L b T → y ≡ tableRefusal L b T → x ≡ y
+  unique-check-table L b T p q = p ∙ sym q
+
+  pub unique-size-refusal : (b : ℕ) (T : Table) → x ≡ verdict (sizeRules b T) → y ≡ verdict (sizeRules b T) → x ≡ y
+  unique-size-refusal b T p q = p ∙ sym q
+
+  pub unique-class-count : (C : List ℕ) → x ≡ classCount C → y ≡ classCount C → x ≡ y
+  unique-class-count C p q = p ∙ sym q
+
+  pub unique-part-count : (P : List ℕ) → x ≡ partCount P → y ≡ partCount P → x ≡ y
+  unique-part-count P p q = p ∙ sym q
+
+  pub unique-split-count : (S : List ℕ) → x ≡ splitCount S → y ≡ splitCount S → x ≡ y
+  unique-split-count S p q = p ∙ sym q
+
+  pub unique-slot : (S : List ℕ) (i j : ℕ) → x ≡ getD (slots S i) j 0 → y ≡ getD (slots S i) j 0 → x ≡ y
+  unique-slot S i j p q = p ∙ sym q
+
+-- ---- sets that own as many words as their kind has, each of 64 bits
+
+module _ (x y : StateSet) (vx : Words setWords (x .words)) (vy : Words setWords (y .words)) where
+  pub unique-part-set : (P : List ℕ) (i : ℕ) → setOf x ≡ part P i → setOf y ≡ part P i → x ≡ y
+  unique-part-set P i p q = set-one x y vx vy (p ∙ sym q)
+
+  pub unique-split-set : (S : List ℕ) (i : ℕ) → setOf x ≡ splitSet S i → setOf y ≡ splitSet S i → x ≡ y
+  unique-split-set S i p q = set-one x y vx vy (p ∙ sym q)
+
+  pub unique-row-set : (C W : List ℕ) (i c : ℕ) → setOf x ≡ row C W i c → setOf y ≡ row C W i c → x ≡ y
+  unique-row-set C W i c p q = set-one x y vx vy (p ∙ sym q)

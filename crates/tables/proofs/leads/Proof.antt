@@ -1,0 +1,65 @@
+-- `leads` goes through the splits; from those passed every byte leads to a split. Assumes nothing.
+use borrow.Author.Needs.{needs}
+use borrow.Author.Tests.{not-true, not-false}
+use mathlib.Core.Path.{_≡_, sym, _∙_}
+use mathlib.Core.Bool.{true}
+use Prim.Native.Nat.{_-_, _≤_}
+use native.Mathlib.Omega.{arith}
+use Rattle.sets.specs.Set.{before}
+use Rattle.lists.specs.Scan.{every}
+use Rattle.lists.proofs.Scanning.{every-at}
+use Rattle.tables.specs.Table.{byteValues, mostParts, splitCount, row, slots, usedSlots, allBelow, joined, isSplit}
+use Rattle.tables.proofs.Turns.{every-none, every-more, every-stops, every-ends}
+use Rattle.tables.proofs.leads.Statement.{statement}
+use Rattle.tables.proofs.leads.Tie as tie
+
+abbrev Inv-loop : tie.InvT-loop
+Inv-loop classes rows splits k n i₀ i = (i ≤ n) × (every i (λ j. every byteValues (λ d. isSplit splits (joined (λ p. row classes rows p d) (usedSlots (slots splits j))))) ≡ true)
+
+abbrev μ-loop : tie.MeasureT-loop
+μ-loop classes rows splits k n i₀ i = n - i
+
+-- what the test says
+said : (c : tie.After-leads-at Inv-loop μ-loop) → c .leads-at .result ≡ every byteValues (λ d. isSplit (c .before .before .before .before .before .before .before .args .splits .now) (joined (λ p. row (c .before .before .before .before .before .before .before .args .classes .now) (c .before .before .before .before .before .before .before .args .rows .now) p d) (usedSlots (slots (c .before .before .before .before .before .before .before .args .splits .now) (c .before .before .loop .i)))))
+said c = c .leads-at .ensures
+
+split-count-requires : tie.Need-split-count-requires Inv-loop μ-loop
+split-count-requires c κs = search needs
+
+loop-holds : tie.Need-loop-holds Inv-loop μ-loop
+loop-holds c = (search needs, every-none _)
+
+leads-at-requires : tie.Need-leads-at-requires Inv-loop μ-loop
+leads-at-requires c κs =
+    let s = c .before .before .before .before .before .before in
+    (s .pre .0, every-at (splitCount (s .args .splits .now)) (λ j. allBelow mostParts (usedSlots (slots (s .args .splits .now) j))) (s .pre .1) (c .before .loop .i) (omega arith), s .pre .2)
+
+returns : tie.Need-returns Inv-loop μ-loop
+returns c = every-stops (splitCount (c .before .before .before .before .before .before .before .before .args .splits .now)) _ (c .before .before .before .loop .i) (omega arith) (sym (said (c .before)) ∙ not-true _ (c .if1 .taken))
+
+add-i : tie.Need-add-i Inv-loop μ-loop
+add-i c = search needs
+
+loop-less : tie.Need-loop-less Inv-loop μ-loop
+loop-less c = search needs
+
+loop-again : tie.Need-loop-again Inv-loop μ-loop
+loop-again c = (search needs, every-more _ (c .before .before .before .loop .i) (c .before .before .before .loop .inv .1) (sym (said (c .before)) ∙ not-false _ (c .if1 .left)))
+
+returns-2 : tie.Need-returns-2 Inv-loop μ-loop
+returns-2 c = every-ends (splitCount (c .before .before .before .before .before .before .args .splits .now)) _ (c .before .loop .i) (omega arith) (c .before .loop .inv .1)
+
+pub leads-spec : {M : Type 1} → statement M
+leads-spec =
+    tie.close
+    (tie.spec
+    Inv-loop
+    μ-loop
+    split-count-requires
+    loop-holds
+    leads-at-requires
+    returns
+    add-i
+    loop-less
+    loop-again
+    returns-2)

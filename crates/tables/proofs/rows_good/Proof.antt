@@ -1,0 +1,68 @@
+-- `rows_good` goes through the parts; the rows of those passed are right. Assumes nothing.
+use borrow.Author.Needs.{needs}
+use borrow.Author.Tests.{not-true, not-false}
+use mathlib.Core.Path.{_≡_, sym, ap, _∙_}
+use mathlib.Core.Bool.{true}
+use Prim.Native.Nat.{ℕ, _-_, _≤_}
+use native.Mathlib.Omega.{arith}
+use lib.Dec.{eqb}
+use Rattle.sets.specs.Set.{before}
+use Rattle.lists.specs.Scan.{every}
+use Rattle.lists.specs.Automaton.{step}
+use Rattle.tables.specs.Table.{byteValues, partCount, part, row}
+use Rattle.tables.proofs.Turns.{every-none, every-more, every-stops, every-ends}
+use Rattle.tables.proofs.rows_good.Statement.{statement}
+use Rattle.tables.proofs.rows_good.Tie as tie
+
+abbrev Inv-loop : tie.InvT-loop
+Inv-loop l classes parts rows k n p₀ p = (p ≤ n) × (every p (λ q. every byteValues (λ d. eqb (row classes rows q d) (step l (part parts q) d))) ≡ true)
+
+abbrev μ-loop : tie.MeasureT-loop
+μ-loop l classes parts rows k n p₀ p = n - p
+
+-- what the test says
+said : (c : tie.After-rows-at Inv-loop μ-loop) → c .rows-at .result ≡ every byteValues (λ d. eqb (row (c .before .before .before .before .before .before .before .before .before .args .classes .now) (c .before .before .before .before .before .before .before .before .before .args .rows .now) (c .before .before .before .loop .p) d) (step (c .before .before .before .before .before .before .before .before .before .args .l .now) (part (c .before .before .before .before .before .before .before .before .before .args .parts .now) (c .before .before .before .loop .p)) d))
+said c = c .rows-at .ensures ∙ ap (λ (F : ℕ). every byteValues (λ d. eqb (row (c .before .before .before .before .before .before .before .before .before .args .classes .now) (c .before .before .before .before .before .before .before .before .before .args .rows .now) (c .before .before .before .loop .p) d) (step (c .before .before .before .before .before .before .before .before .before .args .l .now) F d))) (c .before .part-set .ensures)
+
+part-count-requires : tie.Need-part-count-requires Inv-loop μ-loop
+part-count-requires c κs = search needs
+
+loop-holds : tie.Need-loop-holds Inv-loop μ-loop
+loop-holds c = (search needs, every-none _)
+
+part-set-requires : tie.Need-part-set-requires Inv-loop μ-loop
+part-set-requires c κs = search needs
+
+rows-at-requires : tie.Need-rows-at-requires Inv-loop μ-loop
+rows-at-requires c κs = search needs
+
+returns : tie.Need-returns Inv-loop μ-loop
+returns c = every-stops (partCount (c .before .before .before .before .before .before .before .before .before .before .args .parts .now)) _ (c .before .before .before .before .loop .p) (omega arith) (sym (said (c .before)) ∙ not-true _ (c .if1 .taken))
+
+add-p : tie.Need-add-p Inv-loop μ-loop
+add-p c = search needs
+
+loop-less : tie.Need-loop-less Inv-loop μ-loop
+loop-less c = search needs
+
+loop-again : tie.Need-loop-again Inv-loop μ-loop
+loop-again c = (search needs, every-more _ (c .before .before .before .before .loop .p) (c .before .before .before .before .loop .inv .1) (sym (said (c .before)) ∙ not-false _ (c .if1 .left)))
+
+returns-2 : tie.Need-returns-2 Inv-loop μ-loop
+returns-2 c = every-ends (partCount (c .before .before .before .before .before .before .before .args .parts .now)) _ (c .before .loop .p) (omega arith) (c .before .loop .inv .1)
+
+pub rows-good-spec : {M : Type 1} → statement M
+rows-good-spec =
+    tie.close
+    (tie.spec
+    Inv-loop
+    μ-loop
+    part-count-requires
+    loop-holds
+    part-set-requires
+    rows-at-requires
+    returns
+    add-p
+    loop-less
+    loop-again
+    returns-2)

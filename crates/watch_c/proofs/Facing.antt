@@ -1,0 +1,37 @@
+-- The face of an answer answers the same outcome, and only one face does. Assumes nothing.
+use Prim.Native.Nat.{ℕ}
+use mathlib.Core.Bool.{Bool}
+use mathlib.Core.Path.{_≡_, sym, ap, _∙_}
+use mathlib.Core.List.{List}
+use Rattle.flows.specs.Engine.{Outcome}
+use Rattle.flows.specs.declared.Fed.{Fed}
+use Rattle.flows.specs.Fed.{Answers}
+use Rattle.watch_c.specs.declared.WatchFed.{WatchFed}
+use Rattle.watch_c.specs.Face.{Faces, FaceAnswers}
+
+pub faced : {o : Outcome} {f : Fed} {w : WatchFed} {ws sv : List ℕ} → Answers o f ws sv → Faces f w → FaceAnswers o w ws sv
+faced a h =
+    record {
+      bytes = h .bytes ∙ a .bytes;
+      pairs = h .pairs ∙ a .pairs;
+      refusal = h .refusal ∙ a .refusal;
+      all = h .all ∙ a .all;
+      words = a .words;
+      saved = a .saved;
+    }
+
+-- two faces, words and records that answer one outcome are the same
+pub unique-face : (o : Outcome) (v w : WatchFed) (vs ws rv rw2 : List ℕ) → FaceAnswers o v vs rv → FaceAnswers o w ws rw2 → (v ≡ w) × (vs ≡ ws) × (rv ≡ rw2)
+unique-face o v w vs ws rv rw2 a b =
+    let p : v .bytes ≡ w .bytes = a .bytes ∙ sym (b .bytes) in
+    let q : v .pairs ≡ w .pairs = a .pairs ∙ sym (b .pairs) in
+    let r : v .refusal ≡ w .refusal = a .refusal ∙ sym (b .refusal) in
+    let s : v .all ≡ w .all = a .all ∙ sym (b .all) in
+    (
+      ap {B = WatchFed} (λ (n : ℕ). record { bytes = n; pairs = v .pairs; refusal = v .refusal; all = v .all }) p
+      ∙ ap {B = WatchFed} (λ (n : ℕ). record { bytes = w .bytes; pairs = n; refusal = v .refusal; all = v .all }) q
+      ∙ ap {B = WatchFed} (λ (n : ℕ). record { bytes = w .bytes; pairs = w .pairs; refusal = n; all = v .all }) r
+      ∙ ap {B = WatchFed} (λ (t : Bool). record { bytes = w .bytes; pairs = w .pairs; refusal = w .refusal; all = t }) s,
+      a .words ∙ sym (b .words),
+      a .saved ∙ sym (b .saved),
+    )

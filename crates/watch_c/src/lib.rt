@@ -1,0 +1,97 @@
+// The C face: the library's five functions under names of their own, over numbers and slices. Nothing else is here.
+use flows::Fed;
+ghost use mathlib.Core.Path.{_≡_};
+ghost use Rattle.lists.specs.List.{listRefusal};
+ghost use Rattle.flows.specs.Fed.{Answers};
+ghost use Rattle.plain.specs.Plain.{plainFeed};
+ghost use Rattle.plain.specs.Opens.{Opens};
+ghost use Rattle.tables.specs.Table.{Table, tableRefusal};
+ghost use Rattle.splits.specs.Split.{splitFeed};
+ghost use Rattle.watch_c.specs.Face.{Faces, FaceAnswers};
+
+// What a feed answers, as C lays it out.
+#[repr(C)]
+pub struct WatchFed {
+    pub bytes: u64,
+    pub pairs: u64,
+    pub refusal: u32,
+    pub all: bool,
+}
+
+// The answer of a feed in C's layout.
+fn face(f: Fed) -> WatchFed
+    ensures { λ r. ⌜ Faces f r ⌝ }
+{
+    WatchFed {
+        bytes: f.bytes as u64,
+        pairs: f.pairs as u64,
+        refusal: f.refusal,
+        all: f.all,
+    }
+}
+
+// The list check: 0, or the number of the refusal.
+#[no_mangle]
+pub extern "C" fn watch_check_list(list: &[u8]) -> u32
+    ensures { λ r. ⌜ r ≡ listRefusal (now (list .entry)) ⌝ }
+{
+    lists::check_list(list)
+}
+
+// Opens a flow on a list: 0, or the number of the refusal, which leaves the record as it is.
+#[no_mangle]
+pub extern "C" fn watch_open(list: &[u8], flow: &mut [u8]) -> u32
+    ensures { λ r. ⌜ Opens (now (list .entry)) (now (flow .entry)) r (now (flow .exit)) ⌝ }
+{
+    plain::open_flow(list, flow)
+}
+
+// The plain feed of a piece that begins at `start`.
+#[no_mangle]
+pub extern "C" fn watch_feed(
+    list: &[u8],
+    flow: &mut [u8],
+    start: u64,
+    piece: &[u8],
+    pairs: &mut [u32],
+) -> WatchFed
+    ensures { λ r. ⌜ FaceAnswers (plainFeed (now (list .entry)) (now (flow .entry)) start (now (piece .entry)) (now (pairs .entry))) r (now (pairs .exit)) (now (flow .exit)) ⌝ }
+{
+    let f = plain::feed(list, flow, start, piece, pairs);
+    face(f)
+}
+
+// The table check: 0, or the number of the refusal.
+#[no_mangle]
+pub extern "C" fn watch_check_table(
+    list: &[u8],
+    bound: u64,
+    classes: &[u8],
+    parts: &[u8],
+    rows: &[u8],
+    splits: &[u8],
+) -> u32
+    ensures { λ r. ⌜ r ≡ tableRefusal (now (list .entry)) bound (record { classes = now (classes .entry); parts = now (parts .entry); rows = now (rows .entry); splits = now (splits .entry) }) ⌝ }
+{
+    tables::check_table(list, bound, classes, parts, rows, splits)
+}
+
+// The split feed of a piece that begins at `start`.
+#[no_mangle]
+pub extern "C" fn watch_split_feed(
+    list: &[u8],
+    bound: u64,
+    classes: &[u8],
+    parts: &[u8],
+    rows: &[u8],
+    splits: &[u8],
+    flow: &mut [u8],
+    start: u64,
+    piece: &[u8],
+    pairs: &mut [u32],
+) -> WatchFed
+    ensures { λ r. ⌜ FaceAnswers (splitFeed (now (list .entry)) bound (record { classes = now (classes .entry); parts = now (parts .entry); rows = now (rows .entry); splits = now (splits .entry) }) (now (flow .entry)) start (now (piece .entry)) (now (pairs .entry))) r (now (pairs .exit)) (now (flow .exit)) ⌝ }
+{
+    let f = splits::feed(list, bound, classes, parts, rows, splits, flow, start, piece, pairs);
+    face(f)
+}
