@@ -133,7 +133,7 @@ cut-passes : (L : List ℕ) (b : ℕ) (T : Table) (R : List ℕ) (at : ℕ) (pie
 cut-passes L b T R at piece n v =
     passes-changed ((1, badLength L) ∷ (2, badRecord L) ∷ (3, noStart L) ∷ (4, badFlow R) ∷ (5, otherStart R at) ∷ []) 5 (tooLong R piece) (tooLong R (take n piece)) (sizeRules b T) v
     (le-ltb mostOffset (offsetOf R + length (take n piece))
-      (omega (arith, length-take-most n piece, feed-passes L R at piece (passes-front (feedRules L R at piece) (sizeRules b T) v) .2)))
+    (omega (arith, length-take-most n piece, feed-passes L R at piece (passes-front (feedRules L R at piece) (sizeRules b T) v) .2)))
 
 -- 14 leaves what the bytes before it leave
 kept : (L : List ℕ) (b : ℕ) (T : Table) (R : List ℕ) (at : ℕ) (piece out : List ℕ) → splitFeed L b T R at piece out .refusal ≡ 14

@@ -1,15 +1,14 @@
--- The split step by the first split whose set is the frontier: the search for it, where it halts, what it gives, and the rules before it. Assumes nothing.
-use Prim.Native.Nat.{ℕ, zero, suc, _+_, _≤_, _<_}
+-- The split step by the first split whose set is the frontier: the search for it, where it halts, what it gives, and what it costs. Assumes nothing.
+use Prim.Native.Nat.{ℕ, _+_, _≤_, _<_}
 use mathlib.Core.Path.{_≡_, refl, sym, ap, _∙_}
-use mathlib.Core.Bool.{Bool, true, false, _&&_, _||_, cond, not, true≢false, false≢true}
-use mathlib.Core.List.{List, [], _∷_, _++_}
-use native.Mathlib.Omega.{arith}
+use mathlib.Core.Bool.{Bool, true, false, _||_, not, true≢false}
+use mathlib.Core.List.{List}
 use native.Mathlib.Numerals.{add-one}
 use lib.ListN.{length}
 use lib.Dec.{ltb, leb, eqb}
-use borrow.Author.Tests.{le-leb, lt-leb, lt-ltb, le-ltb}
+use borrow.Author.Tests.{le-leb, lt-leb}
 use Rattle.sets.specs.Set.{setOf}
-use Rattle.lists.specs.Scan.{some, first, verdict}
+use Rattle.lists.specs.Scan.{some, first}
 use Rattle.lists.proofs.Scanning.{neither, first-at, first-none}
 use Rattle.tables.specs.Table.{Table, partCount, splitCount, row, splitSet, slots, takenSlots, allBelow, joined}
 use Rattle.splits.specs.Split.{splitOf, taken, stuck, splitStep}

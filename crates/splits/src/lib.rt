@@ -12,7 +12,7 @@ ghost use Rattle.flows.specs.Engine.{room, consumed};
 ghost use Rattle.flows.specs.Flow.{mostOffset};
 ghost use Rattle.flows.specs.Fed.{Answers};
 ghost use Rattle.flows.proofs.Going.{Going};
-ghost use Rattle.tables.specs.Table.{Table, mostParts, classCount, partCount, row, slots, takenSlots};
+ghost use Rattle.tables.specs.Table.{mostParts, classCount, partCount, row, slots, takenSlots};
 ghost use Rattle.splits.specs.Split.{splitOf, stuck, split, splitRules, splitFeed};
 ghost use Rattle.splits.specs.Taken.{TakesSlots, TakesStep};
 

@@ -107,7 +107,7 @@ pub fn slot(splits: &[u8], i: usize, j: usize) -> usize
     lists::word_at(splits, SPLIT_SIZE * i + sets::BYTES + 2 * j)
 }
 
-// The row of part p that byte c selects, where the bytes have k classes.
+// The row of part p, below the most parts, that byte c selects, where the bytes have k classes.
 pub fn row_set(classes: &[u8], rows: &[u8], k: usize, p: usize, c: u8) -> StateSet
     requires { ⌜ (k ≡ classCount (now classes)) × (p < mostParts) ⌝ }
     ensures { λ r. ⌜ setOf r ≡ row (now (classes .entry)) (now (rows .entry)) p c ⌝ }
@@ -291,7 +291,7 @@ fn unions_good(parts: &[u8], splits: &[u8]) -> bool
     true
 }
 
-// Says whether f is the set of a split, by halving: the sets of the splits rise.
+// Says whether f is the set of a split, by halving, once rule 9 has found the splits in order.
 fn is_split_sorted(splits: &[u8], f: StateSet) -> bool
     requires { ⌜ every (splitCount (now splits)) (inOrder (now splits)) ≡ true ⌝ }
     ensures { λ r. ⌜ r ≡ isSplit (now (splits .entry)) (setOf f) ⌝ }

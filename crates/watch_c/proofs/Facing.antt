@@ -26,12 +26,11 @@ unique-face o v w vs ws rv rw2 a b =
     let p : v .bytes ≡ w .bytes = a .bytes ∙ sym (b .bytes) in
     let q : v .pairs ≡ w .pairs = a .pairs ∙ sym (b .pairs) in
     let r : v .refusal ≡ w .refusal = a .refusal ∙ sym (b .refusal) in
-    let s : v .all ≡ w .all = a .all ∙ sym (b .all) in
-    (
+    let s : v .all ≡ w .all = a .all ∙ sym (b .all) in (
       ap {B = WatchFed} (λ (n : ℕ). record { bytes = n; pairs = v .pairs; refusal = v .refusal; all = v .all }) p
-      ∙ ap {B = WatchFed} (λ (n : ℕ). record { bytes = w .bytes; pairs = n; refusal = v .refusal; all = v .all }) q
-      ∙ ap {B = WatchFed} (λ (n : ℕ). record { bytes = w .bytes; pairs = w .pairs; refusal = n; all = v .all }) r
-      ∙ ap {B = WatchFed} (λ (t : Bool). record { bytes = w .bytes; pairs = w .pairs; refusal = w .refusal; all = t }) s,
+          ∙ ap {B = WatchFed} (λ (n : ℕ). record { bytes = w .bytes; pairs = n; refusal = v .refusal; all = v .all }) q
+          ∙ ap {B = WatchFed} (λ (n : ℕ). record { bytes = w .bytes; pairs = w .pairs; refusal = n; all = v .all }) r
+          ∙ ap {B = WatchFed} (λ (t : Bool). record { bytes = w .bytes; pairs = w .pairs; refusal = w .refusal; all = t }) s,
       a .words ∙ sym (b .words),
       a .saved ∙ sym (b .saved),
     )

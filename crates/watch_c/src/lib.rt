@@ -92,6 +92,17 @@ pub extern "C" fn watch_split_feed(
 ) -> WatchFed
     ensures { λ r. ⌜ FaceAnswers (splitFeed (now (list .entry)) bound (record { classes = now (classes .entry); parts = now (parts .entry); rows = now (rows .entry); splits = now (splits .entry) }) (now (flow .entry)) start (now (piece .entry)) (now (pairs .entry))) r (now (pairs .exit)) (now (flow .exit)) ⌝ }
 {
-    let f = splits::feed(list, bound, classes, parts, rows, splits, flow, start, piece, pairs);
+    let f = splits::feed(
+        list,
+        bound,
+        classes,
+        parts,
+        rows,
+        splits,
+        flow,
+        start,
+        piece,
+        pairs,
+    );
     face(f)
 }

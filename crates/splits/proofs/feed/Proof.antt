@@ -17,10 +17,14 @@ use Rattle.splits.proofs.Feeding.{split-passes, rows-few}
 use Rattle.splits.proofs.feed.Statement.{statement}
 use Rattle.splits.proofs.feed.Tie as tie
 
--- the table that is given
+-- the way back from the check to the entry, and the table that is given
+abbrev entry : tie.After-feed-refusal → tie.Start
+entry c = c .before .before .before .before .before .before .before .before .before .before
+
 abbrev table : tie.After-feed-refusal → Table
 table c =
-    record { classes = c .before .before .before .before .before .before .before .before .before .before .args .classes .now; parts = c .before .before .before .before .before .before .before .before .before .before .args .parts .now; rows = c .before .before .before .before .before .before .before .before .before .before .args .rows .now; splits = c .before .before .before .before .before .before .before .before .before .before .args .splits .now }
+    let a = entry c .args in
+    record { classes = a .classes .now; parts = a .parts .now; rows = a .rows .now; splits = a .splits .now }
 
 -- the way back from the loop to where no rule refuses
 abbrev passed : tie.After-feed-bytes → tie.Else1
@@ -28,21 +32,21 @@ passed c = c .before .before .before .before .before .before .before .before
 
 -- there no rule refuses, so the flow is good, the piece ends at an offset, and the parts are not too many
 verdict-0 : (c : tie.Else1)
-    → verdict (splitRules (c .before .before .before .before .before .before .before .before .before .before .before .args .l .now) (c .before .before .before .before .before .before .before .before .before .before .before .args .bound) (table (c .before)) (c .before .before .before .before .before .before .before .before .before .before .before .args .r .now) (c .before .before .before .before .before .before .before .before .before .before .before .args .at) (c .before .before .before .before .before .before .before .before .before .before .before .args .piece .now)) ≡ 0
+    → verdict (splitRules (entry (c .before) .args .l .now) (entry (c .before) .args .bound) (table (c .before)) (entry (c .before) .args .r .now) (entry (c .before) .args .at) (entry (c .before) .args .piece .now)) ≡ 0
 verdict-0 c = sym (c .before .feed-refusal .ensures) ∙ c .if1 .left
 
 passes : (c : tie.Else1)
-    → (badFlow (c .before .before .before .before .before .before .before .before .before .before .before .args .r .now) ≡ false)
-    × (offsetOf (c .before .before .before .before .before .before .before .before .before .before .before .args .r .now) + length (c .before .before .before .before .before .before .before .before .before .before .before .args .piece .now) ≤ mostOffset)
-    × (partCount (c .before .before .before .before .before .before .before .before .before .before .before .args .parts .now) ≤ mostParts)
+    → (badFlow (entry (c .before) .args .r .now) ≡ false)
+    × (offsetOf (entry (c .before) .args .r .now) + length (entry (c .before) .args .piece .now) ≤ mostOffset)
+    × (partCount (entry (c .before) .args .parts .now) ≤ mostParts)
 passes c =
-    let a = c .before .before .before .before .before .before .before .before .before .before .before .args in
+    let a = entry (c .before) .args in
     split-passes (a .l .now) (a .bound) (table (c .before)) (a .r .now) (a .at) (a .piece .now) (verdict-0 c)
 
 -- the rows of the loop are few
 few : (c : tie.After-feed-bytes) → c .feed-bytes .result .rows ≤ 4 * c .feed-bytes .result .bytes
 few c =
-    let a = passed c .before .before .before .before .before .before .before .before .before .before .before .args in
+    let a = entry (passed c .before) .args in
     rows-few (a .l .now) (a .bound) (table (passed c .before)) _ _ (a .piece .now) _ _ _ _ _ _ (c .feed-bytes .ensures .0)
     (λ i. c .before .before .before .before .before .before .before .before .before .before .before .before .shared-slice-known6 .given i .fits)
 
@@ -54,7 +58,7 @@ same-length c = search needs
 
 returns : tie.Need-returns
 returns c =
-    let a = c .before .before .before .before .before .before .before .before .before .before .before .args in
+    let a = entry (c .before) .args in
     let T = table (c .before) in
     let e = c .before .feed-refusal .ensures in
     answers-refused (split (a .l .now) (a .bound) T) flowLayout (a .r .now) (a .piece .now) (a .out .now) (splitRules (a .l .now) (a .bound) T (a .r .now) (a .at) (a .piece .now)) _
@@ -80,7 +84,7 @@ add-save c =
 add-save-2 : tie.Need-add-save-2
 add-save-2 c =
     let ran = c .before .before .before .before in
-    let a = passed ran .before .before .before .before .before .before .before .before .before .before .before .args in
+    let a = entry (passed ran .before) .args in
     omega (
       arith,
       ran .before .before .rows-of .ensures,
@@ -103,7 +107,7 @@ returns-2 : tie.Need-returns-2
 returns-2 c =
     let save = c .before .before .before .before in
     let ran = save .before .before .before .before .before in
-    let a = passed ran .before .before .before .before .before .before .before .before .before .before .before .args in
+    let a = entry (passed ran .before) .args in
     let T = table (passed ran .before) in
     let r = ran .feed-bytes .result in
     let rows = ran .before .before .rows-of .ensures in

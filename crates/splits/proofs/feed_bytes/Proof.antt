@@ -1,8 +1,8 @@
 -- `feed_bytes` meets its promise: its loop keeps `Going`. Assumes nothing.
 use borrow.Author.Needs.{needs}
 use mathlib.Core.Path.{_≡_, refl, sym, ap, _∙_}
-use mathlib.Core.Bool.{true, false}
-use Prim.Native.Nat.{ℕ, _+_, _≤_, _<_, _-_, _*_}
+use mathlib.Core.Bool.{true}
+use Prim.Native.Nat.{_+_, _≤_, _<_, _-_, _*_}
 use native.Mathlib.Omega.{arith}
 use lib.ListN.{length}
 use Rattle.sets.specs.Set.{setOf, sigsOf}
@@ -24,33 +24,37 @@ Inv-loop l bound classes parts rows splits offset piece out₀ k ran₀ i₀ i-e
 abbrev μ-loop : tie.MeasureT-loop
 μ-loop l bound classes parts rows splits offset piece out₀ k ran₀ i₀ i-end out ran i = length piece - i
 
--- the table that is given
+-- the way back from the loop's head to the entry, and the table that is given
+abbrev entry : tie.At-loop Inv-loop μ-loop → tie.Start Inv-loop μ-loop
+entry c = c .before .before .before .before .before .before .before .before .before
+
 abbrev table : tie.At-loop Inv-loop μ-loop → Table
 table c =
-    record { classes = c .before .before .before .before .before .before .before .before .before .args .classes .now; parts = c .before .before .before .before .before .before .before .before .before .args .parts .now; rows = c .before .before .before .before .before .before .before .before .before .args .rows .now; splits = c .before .before .before .before .before .before .before .before .before .args .splits .now }
+    let a = entry c .args in
+    record { classes = a .classes .now; parts = a .parts .now; rows = a .rows .now; splits = a .splits .now }
 
 -- at the loop's head: the words stay as many, those written are among them, and the rows are few
-kept : (c : tie.At-loop Inv-loop μ-loop) → length (c .loop .out) ≡ length (c .before .before .before .before .before .before .before .before .before .args .out .now)
+kept : (c : tie.At-loop Inv-loop μ-loop) → length (c .loop .out) ≡ length (entry c .args .out .now)
 kept c =
-    let a = c .before .before .before .before .before .before .before .before .before .args in
+    let a = entry c .args in
     let l = c .loop in
     length-kept (split (a .l .now) (a .bound) (table c)) (setOf (a .first)) (a .offset) (a .piece .now) (a .out .now) (setOf (l .ran .frontier)) (l .out) (l .i) (l .ran .words) (l .ran .rows) (l .inv .0)
 
 within : (c : tie.At-loop Inv-loop μ-loop) → c .loop .ran .words ≤ length (c .loop .out)
 within c =
-    let a = c .before .before .before .before .before .before .before .before .before .args in
+    let a = entry c .args in
     let l = c .loop in
     words-fit (split (a .l .now) (a .bound) (table c)) (setOf (a .first)) (a .offset) (a .piece .now) (a .out .now) (setOf (l .ran .frontier)) (l .out) (l .i) (l .ran .words) (l .ran .rows) (l .inv .0)
 
 few : (c : tie.At-loop Inv-loop μ-loop) → c .loop .ran .rows ≤ 4 * c .loop .i
 few c =
-    let a = c .before .before .before .before .before .before .before .before .before .args in
+    let a = entry c .args in
     let l = c .loop in
     rows-few (a .l .now) (a .bound) (table c) (setOf (a .first)) (a .offset) (a .piece .now) (a .out .now) (setOf (l .ran .frontier)) (l .out) (l .i) (l .ran .words) (l .ran .rows) (l .inv .0)
     (λ i. c .before .before .before .shared-slice-known6 .given i .fits)
 
 -- in the loop a byte is still to come
-to-come : (c : tie.In-loop Inv-loop μ-loop) → c .before .loop .i < length (c .before .before .before .before .before .before .before .before .before .before .args .piece .now)
+to-come : (c : tie.In-loop Inv-loop μ-loop) → c .before .loop .i < length (entry (c .before) .args .piece .now)
 to-come c = omega (arith, c .loop-test)
 
 class-count-requires : tie.Need-class-count-requires Inv-loop μ-loop
@@ -74,7 +78,7 @@ same-length c = kept (c .before .before .before .before .before)
 returns : tie.Need-returns Inv-loop μ-loop
 returns c =
     let head = c .before .before .before .before .before in
-    let a = head .before .before .before .before .before .before .before .before .before .args in
+    let a = entry head .args in
     let l = head .loop in
     let b = l .inv .1 in
     let h : stuck (a .bound) (table head) (setOf (l .ran .frontier)) ≡ true = sym (c .before .split-step .ensures .halts) ∙ c .if1 .taken in (
@@ -107,7 +111,7 @@ returns-2 c =
     let free = told .before .before in
     let stepped = free .before in
     let head = stepped .before .before .before .before in
-    let a = head .before .before .before .before .before .before .before .before .before .args in
+    let a = entry head .args in
     let l = head .loop in
     let b = l .inv .1 in (
       rw (sym b) at (l .inv .0),
@@ -168,7 +172,7 @@ loop-again c =
     let free = told .before .before in
     let stepped = free .before in
     let head = stepped .before .before .before .before in
-    let a = head .before .before .before .before .before .before .before .before .before .args in
+    let a = entry head .args in
     let l = head .loop in
     let s = stepped .split-step .ensures in
     let h = free .if1 .left in (
@@ -186,7 +190,7 @@ same-length-3 c = kept (c .before)
 returns-3 : tie.Need-returns-3 Inv-loop μ-loop
 returns-3 c =
     let head = c .before in
-    let a = head .before .before .before .before .before .before .before .before .before .args in
+    let a = entry head .args in
     let l = head .loop in
     let b = l .inv .1 in
     let e : l .i ≡ length (a .piece .now) = omega arith in (

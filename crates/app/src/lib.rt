@@ -1,0 +1,229 @@
+// The program as a library: it reads rules.bin and standard input, feeds the flow, and writes a line for each pair.
+ghost use mathlib.Core.Path.{_≡_};
+ghost use Prim.Native.Nat.{_+_, _*_, _≤_, _<_};
+ghost use lib.ListN.{length};
+ghost use Rattle.io.specs.Counts.{Counts};
+ghost use Rattle.flows.specs.Flow.{mostOffset};
+ghost use Rattle.app.specs.App.{pairWords, lineSize, Step};
+
+// Words of the pairs buffer: room for 1,024 pairs, four times what one byte can tell.
+const PAIR_WORDS: usize = 2048;
+
+// The most digits of a number, and the most bytes of a line: two numbers, a space and a line feed.
+const DIGITS: usize = 20;
+
+// Bytes of a piece of the input.
+const PIECE: usize = 4096;
+
+// How the flow stands: a refusal's number or 0, and the offset.
+struct Stand {
+    refusal: u32,
+    offset: u64,
+}
+
+// How a piece was fed: how the flow stands, and the bytes that were read for it.
+struct Turn {
+    refusal: u32,
+    offset: u64,
+    read: usize,
+}
+
+// The smaller of two numbers.
+fn least(a: usize, b: usize) -> usize
+    ensures { λ r. ⌜ r ≤ b ⌝ }
+{
+    if a < b { a } else { b }
+}
+
+// Puts a byte at a place of the text; answers the place after it.
+fn put_byte(text: &mut [u8], at: usize, b: u8) -> usize
+    requires { ⌜ at < length (now text) ⌝ }
+    ensures { λ r. ⌜ r ≡ at + 1 ⌝ }
+    ensures { λ _. ⌜ length (now (text .exit)) ≡ length (now (text .entry)) ⌝ }
+{
+    text[at] = b;
+    at + 1
+}
+
+// Puts the first k digits at a place of the text; answers the place after them.
+fn put_digits(text: &mut [u8], at: usize, digits: &[u8; DIGITS], k: usize) -> usize
+    requires { ⌜ (at + 20 ≤ length (now text)) × (k ≤ 20) ⌝ }
+    ensures { λ r. ⌜ r ≤ at + 20 ⌝ }
+    ensures { λ _. ⌜ length (now (text .exit)) ≡ length (now (text .entry)) ⌝ }
+{
+    for i in 0..k {
+        text[at + i] = digits[i];
+    }
+    at + k
+}
+
+// Puts a number in decimal at a place of the text; answers the place after it.
+fn put_number(text: &mut [u8], at: usize, n: u64) -> usize
+    requires { ⌜ at + 20 ≤ length (now text) ⌝ }
+    ensures { λ r. ⌜ r ≤ at + 20 ⌝ }
+    ensures { λ _. ⌜ length (now (text .exit)) ≡ length (now (text .entry)) ⌝ }
+{
+    let mut digits = [0u8; DIGITS];
+    let k = io::decimal(n, &mut digits);
+    put_digits(text, at, &digits, least(k, DIGITS))
+}
+
+// Puts the line of a pair: signature, a space, offset, a line feed.
+fn put_pair(text: &mut [u8], at: usize, signature: u32, offset: u32) -> usize
+    requires { ⌜ at + lineSize ≤ length (now text) ⌝ }
+    ensures { λ r. ⌜ r ≤ at + lineSize ⌝ }
+    ensures { λ _. ⌜ length (now (text .exit)) ≡ length (now (text .entry)) ⌝ }
+{
+    let a = put_number(text, at, signature as u64);
+    let b = put_byte(text, a, b' ');
+    let c = put_number(text, b, offset as u64);
+    put_byte(text, c, b'\n')
+}
+
+// Puts the lines of the first n pairs of the words; answers where the text ends.
+fn put_pairs(text: &mut [u8], out: &[u32], n: usize) -> usize
+    requires { ⌜ (2 * n ≤ length (now out)) × (lineSize * n ≤ length (now text)) ⌝ }
+    ensures { λ r. ⌜ Counts r (now (text .exit)) ⌝ }
+{
+    let mut at: usize = 0;
+    for i in 0..n {
+        at = put_pair(text, at, out[2 * i], out[2 * i + 1]);
+    }
+    at
+}
+
+// Writes the lines of the first n pairs in one call.
+fn tell(out: &[u32], n: usize)
+    requires { ⌜ (2 * n ≤ length (now out)) × (2 * n ≤ pairWords) ⌝ }
+{
+    let mut text = io::large_buffer();
+    let end = put_pairs(&mut text, out, n);
+    io::write_all(1, &text[..end]);
+}
+
+// Feeds what is left of a piece once, and tells its pairs.
+fn feed_some(list: &[u8], flow: &mut [u8], offset: u64, rest: &[u8]) -> Stand
+    requires { ⌜ offset ≤ mostOffset ⌝ }
+    ensures { λ r. ⌜ Step offset (length (now (rest .entry))) (r .refusal) (r .offset) ⌝ }
+{
+    let mut out = [0u32; PAIR_WORDS];
+    let fed = plain::feed(list, flow, offset, rest, &mut out);
+    tell(&out, fed.pairs);
+    if fed.refusal != 0 {
+        return Stand {
+            refusal: fed.refusal,
+            offset: offset,
+        };
+    }
+    Stand {
+        refusal: 0,
+        offset: offset + fed.bytes as u64,
+    }
+}
+
+// Feeds a piece, and again what had no room, from its middle.
+fn feed_piece(list: &[u8], flow: &mut [u8], offset: u64, piece: &[u8]) -> Stand
+    requires { ⌜ offset ≤ mostOffset ⌝ }
+    ensures { λ r. ⌜ r .offset ≤ mostOffset ⌝ }
+    ensures { λ r. ⌜ (r .refusal ≡ 0 → r .offset ≡ offset + length (now (piece .entry))) ⌝ }
+{
+    let mut at = offset;
+    let mut rest = piece;
+    while rest.len() > 0 {
+        let s = feed_some(list, flow, at, rest);
+        if s.refusal != 0 {
+            return s;
+        }
+        let n = (s.offset - at) as usize;
+        at = s.offset;
+        rest = &rest[n..];
+    }
+    Stand {
+        refusal: 0,
+        offset: at,
+    }
+}
+
+// Feeds one piece of standard input, which is filled unless the input ends.
+fn feed_input(list: &[u8], flow: &mut [u8], offset: u64) -> Turn
+    requires { ⌜ offset ≤ mostOffset ⌝ }
+    ensures { λ r. ⌜ r .offset ≤ mostOffset ⌝ }
+    ensures { λ r. ⌜ (r .refusal ≡ 0 → r .offset ≡ offset + r .read) ⌝ }
+{
+    let mut piece = io::buffer();
+    let n = io::read_full(0, &mut piece);
+    let s = feed_piece(list, flow, offset, &piece[..n]);
+    Turn {
+        refusal: s.refusal,
+        offset: s.offset,
+        read: n,
+    }
+}
+
+// Feeds the whole of standard input: the offset rises by a full piece in each turn but the last.
+fn feed_all(list: &[u8], flow: &mut [u8]) -> Stand {
+    let mut offset: u64 = 0;
+    loop {
+        let t = feed_input(list, flow, offset);
+        if t.refusal != 0 {
+            return Stand {
+                refusal: t.refusal,
+                offset: offset,
+            };
+        }
+        offset = t.offset;
+        if t.read < PIECE {
+            return Stand {
+                refusal: 0,
+                offset: offset,
+            };
+        }
+    }
+}
+
+// Reads rules.bin into the list; answers how many bytes it has, none where it cannot be opened.
+fn read_rules(list: &mut [u8]) -> usize
+    ensures { λ r. ⌜ Counts r (now (list .exit)) ⌝ }
+{
+    let fd = os::open_read(b"rules.bin");
+    if fd < 0 {
+        return 0;
+    }
+    let n = io::read_full(fd, list);
+    libc::close(fd);
+    n
+}
+
+// Writes the last line: a word, a space, a number, a line feed.
+fn finish(s: Stand) {
+    if s.refusal != 0 {
+        io::write_all(1, b"refused ");
+        io::print_decimal(1, s.refusal as u64);
+    } else {
+        io::write_all(1, b"end ");
+        io::print_decimal(1, s.offset);
+    }
+    io::write_all(1, b"\n");
+}
+
+// Watches standard input by a list, which is refused before any input is read.
+fn watch(list: &[u8]) {
+    let mut flow = [0u8; flows::FLOW_SIZE];
+    let refusal = plain::open_flow(list, &mut flow);
+    if refusal != 0 {
+        finish(Stand {
+            refusal: refusal,
+            offset: 0,
+        });
+        return;
+    }
+    let s = feed_all(list, &mut flow);
+    finish(s);
+}
+
+// The program.
+pub fn start() {
+    let mut list = io::large_buffer();
+    let n = read_rules(&mut list);
+    watch(&list[..n]);
+}

@@ -1,0 +1,115 @@
+#!/usr/bin/env python3
+"""Writes what each program crate is run on and compared with: data/rules.bin, stdin and stdout.
+
+  python3 tools/cases.py            writes the files under crates/
+  python3 tools/cases.py --check    writes nothing; exit status 1 if a file differs
+
+The expected output comes from the definitions of the matcher alone: a frontier is a Python set, and the whole input is one piece.
+"""
+import os
+import sys
+
+CRATES = os.path.join(os.path.dirname(os.path.abspath(__file__)), "..", "crates")
+
+
+def edge(low, high, source, target):
+    return bytes([1, low, high, 0]) + source.to_bytes(2, "little") + target.to_bytes(2, "little")
+
+
+def start(state):
+    return bytes([2, 0, 0, 0, 0, 0]) + state.to_bytes(2, "little")
+
+
+def accept(state, signature):
+    return bytes([3, 0, 0, 0]) + state.to_bytes(2, "little") + signature.to_bytes(2, "little")
+
+
+def good(r):
+    """Whether rule 2 lets a record pass."""
+    first, second = int.from_bytes(r[4:6], "little"), int.from_bytes(r[6:8], "little")
+    if r[0] == 1:
+        return r[3] == 0 and r[1] <= r[2] and first <= 255 and second <= 255
+    if r[0] == 2:
+        return not any(r[1:6]) and second <= 255
+    if r[0] == 3:
+        return not any(r[1:4]) and first <= 255 and second <= 255
+    return False
+
+
+def output(rules, data):
+    """The lines of the program. No rules.bin counts as an empty one."""
+    rules = rules or b""
+    if len(rules) == 0 or len(rules) > 32768 or len(rules) % 8 != 0:
+        return "refused 1\n"
+    records = [rules[i : i + 8] for i in range(0, len(rules), 8)]
+    if not all(good(r) for r in records):
+        return "refused 2\n"
+    if not any(r[0] == 2 for r in records):
+        return "refused 3\n"
+    number = lambda r, i: int.from_bytes(r[i : i + 2], "little")
+    frontier = {number(r, 6) for r in records if r[0] == 2}
+    lines = []
+    for k, c in enumerate(data, 1):
+        frontier = {number(r, 6) for r in records if r[0] == 1 and r[1] <= c <= r[2] and number(r, 4) in frontier}
+        for g in sorted({number(r, 6) for r in records if r[0] == 3 and number(r, 4) in frontier}):
+            lines.append(f"{g} {k}\n")
+    return "".join(lines) + f"end {len(data)}\n"
+
+
+def mixed(n):
+    """n bytes: all values in a row, then values without order; a match of `ranges` lies across the cut at 4,096."""
+    bs, x = bytearray(range(256)), 1
+    while len(bs) < n:
+        x = (x * 1103515245 + 12345) % 2**31
+        bs.append(x >> 16 & 255)
+    bs[4095:4098] = [0x05, 0x90, 0x40]
+    return bytes(bs)
+
+
+# signature 7 after any "ab"
+seven = [edge(0, 255, 0, 0), edge(0x61, 0x61, 0, 1), edge(0x62, 0x62, 1, 2), start(0), accept(2, 7)]
+
+# two start states; ranges that overlap, of one byte, and up to 255; a loop; a state with two signatures and two states with one
+ranges = [
+    accept(255, 255), accept(3, 9), accept(2, 9), accept(2, 0), accept(2, 9),
+    edge(0x00, 0x1F, 0, 1), edge(0x80, 0xFF, 1, 2), edge(0x40, 0x7F, 2, 2), edge(0x60, 0x60, 2, 3), edge(0x90, 0xBF, 1, 255),
+    edge(0x00, 0xFF, 0, 0), start(254), start(0), edge(0x00, 0x00, 254, 255),
+]
+
+# name: list, input
+cases = {
+    "watchbox": (seven, b"abab"),
+    "case_refused": ([r for r in seven if r[0] != 2], b"abab"),
+    "case_missing": (None, b"abab"),
+    "case_pauses": ([start(0), edge(0, 255, 0, 0)] + [accept(0, g) for g in reversed(range(256))], bytes(range(246, 256)) + b"0123456789"),
+    "case_binary": (ranges, mixed(10000)),
+    "case_limits": ([edge(i % 256, i % 256, 255, 255) for i in range(4094)] + [accept(255, 255), start(255)], b"\x00a\xff"),
+    "case_long": ([edge(i % 256, i % 256, 255, 255) for i in range(4095)] + [accept(255, 255), start(255)], b"\x00a\xff"),
+    "case_state": (seven + [edge(0, 255, 256, 0)], b"abab"),
+}
+
+
+def main():
+    differs = False
+    for name, (records, data) in cases.items():
+        rules = None if records is None else b"".join(records)
+        files = {"data/rules.bin": rules, "stdin": data, "stdout": output(rules, data).encode()}
+        for file, content in files.items():
+            path = os.path.join(CRATES, name, file)
+            old = open(path, "rb").read() if os.path.exists(path) else None
+            if old == content:
+                continue
+            differs = True
+            print("differs" if "--check" in sys.argv else "writes", os.path.relpath(path))
+            if "--check" not in sys.argv:
+                if content is None:
+                    os.remove(path)
+                    continue
+                os.makedirs(os.path.dirname(path), exist_ok=True)
+                with open(path, "wb") as f:
+                    f.write(content)
+    return 1 if differs and "--check" in sys.argv else 0
+
+
+if __name__ == "__main__":
+    sys.exit(main())
