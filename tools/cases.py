@@ -76,6 +76,13 @@ ranges = [
     edge(0x00, 0xFF, 0, 0), start(254), start(0), edge(0x00, 0x00, 254, 255),
 ]
 
+def example(name):
+    """A file of the example of two breakfasts."""
+    return open(os.path.join(CRATES, "..", "examples", "two-breakfasts", name), "rb").read()
+
+
+breakfasts = [example("rules.bin")[i : i + 8] for i in range(0, len(example("rules.bin")), 8)]
+
 # name: list, input
 cases = {
     "watchbox": (seven, b"abab"),
@@ -85,6 +92,8 @@ cases = {
     "case_binary": (ranges, mixed(10000)),
     "case_limits": ([edge(i % 256, i % 256, 255, 255) for i in range(4094)] + [accept(255, 255), start(255)], b"\x00a\xff"),
     "case_long": ([edge(i % 256, i % 256, 255, 255) for i in range(4095)] + [accept(255, 255), start(255)], b"\x00a\xff"),
+    "case_twice": (breakfasts, example("twice")),
+    "case_once": (breakfasts, example("once")),
     "case_state": (seven + [edge(0, 255, 256, 0)], b"abab"),
 }
 

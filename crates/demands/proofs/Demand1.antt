@@ -22,6 +22,7 @@ use Rattle.flows.proofs.Looping.{feed-passes}
 use Rattle.plain.specs.Plain.{plain, opened, openRules, openRefusal, openSaved, plainFeed}
 use Rattle.plain.proofs.Plain.{plain-refusal}
 use Rattle.tables.specs.Table.{Table, sizeRules, tableRules, tableRefusal}
+use Rattle.tables.proofs.Checked.{table-exactly}
 use Rattle.splits.specs.Split.{stuck, split, splitRules, splitFeed}
 use Rattle.demands.specs.Demands.{Unchanged, Same, Demand1}
 
@@ -33,10 +34,6 @@ refused-unchanged E K R piece out rules v =
 
 open-refused : (L R : List ℕ) → (openRefusal L R ≡ 0 → ⊥) → openSaved L R ≡ R
 open-refused L R v = rw (ne-eqb (openRefusal L R) 0 v)
-
-table-refuses : (L : List ℕ) (b : ℕ) (T : Table) → Refuses (tableRules L b T) (tableRefusal L b T)
-unfolding tableRefusal
-table-refuses L b T = refuses (tableRules L b T) refl
 
 -- ---- the split feed
 
@@ -156,7 +153,7 @@ demand-1 =
       opens-not = open-refused;
       feeds = λ L R at piece out. rw (plain-refusal L R at piece out) (refuses (feedRules L R at piece) refl);
       feeds-not = λ L R at piece out v. refused-unchanged (plain L) flowLayout R piece out (feedRules L R at piece) (rw (plain-refusal L R at piece out) at v);
-      tables = table-refuses;
+      tables = table-exactly;
       splits = by-rule;
       splits-not =
           λ L b T R at piece out v w.

@@ -1,0 +1,37 @@
+#!/usr/bin/env python3
+"""Writes rules.bin, record by record, and prints each record with what it is for.
+
+  python3 examples/two-breakfasts/make.py
+"""
+import os
+
+HERE = os.path.dirname(os.path.abspath(__file__))
+ORDER = b"feed 9\n"
+
+
+def edge(low, high, source, target, why):
+    return bytes([1, low, high, 0, source, 0, target, 0]), why
+
+
+def start(state, why):
+    return bytes([2, 0, 0, 0, 0, 0, state, 0]), why
+
+
+def accept(state, signature, why):
+    return bytes([3, 0, 0, 0, state, 0, signature, 0]), why
+
+
+records = [start(0, "the flow begins in state 0: no order for nine yet")]
+records.append(edge(0, 255, 0, 0, "any byte: still waiting for the first order"))
+for i, c in enumerate(ORDER):
+    records.append(edge(c, c, i, i + 1, "first order, byte %r" % chr(c)))
+first = len(ORDER)
+records.append(edge(0, 255, first, first, "any byte: the first order has gone by"))
+for i, c in enumerate(ORDER):
+    records.append(edge(c, c, first + i, first + i + 1, "repeated order, byte %r" % chr(c)))
+records.append(accept(2 * first, 9, "the repeated order has gone by: signature 9"))
+
+with open(os.path.join(HERE, "rules.bin"), "wb") as f:
+    f.write(b"".join(r for r, _ in records))
+for r, why in records:
+    print(" ".join("%02X" % b for b in r) + "   " + why)

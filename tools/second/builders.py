@@ -1,0 +1,359 @@
+"""Builders of lists, pieces, records and split tables."""
+
+import model
+from model import UNUSED, Flow, Table, pack_flow, pack_set
+
+LETTERS = [0, 1, 31, 32, 48, 64, 97, 98, 99, 122, 127, 128, 200, 254, 255]
+STATES = [0, 1, 2, 3, 5, 7, 8, 9, 15, 16, 31, 32, 62, 63, 64, 65, 71, 72, 127, 128,
+          129, 191, 192, 200, 248, 254, 255]
+
+
+# Records of a list
+
+def edge(low, high, source, target):
+    return bytes([1, low, high, 0]) + source.to_bytes(2, "little") + target.to_bytes(2, "little")
+
+
+def start(state):
+    return bytes([2, 0, 0, 0, 0, 0]) + state.to_bytes(2, "little")
+
+
+def accept(state, signature):
+    return bytes([3, 0, 0, 0]) + state.to_bytes(2, "little") + signature.to_bytes(2, "little")
+
+
+class Sample:
+    """A good list with the letters and states that it speaks of."""
+
+    def __init__(self, records, letters, states):
+        self.records = records
+        self.data = b"".join(records)
+        self.letters = letters
+        self.states = states
+        self.nfa = model.Automaton(self.data)
+        assert model.list_refusal(self.data) == 0
+
+
+def search_list(dice):
+    """A root that loops on all bytes, and one to three words behind it."""
+    letters = dice.some(LETTERS, dice.between(2, 4))
+    states = dice.some(STATES, 12)
+    root, rest = states[0], states[1:]
+    records = [start(root)]
+    if dice.chance(85):
+        records.append(edge(0, 255, root, root))
+    else:
+        records.append(edge(0, dice.pick(letters), root, root))
+    if dice.chance(15):
+        records.append(start(rest[0]))
+    for _ in range(dice.between(1, 3)):
+        at = root
+        for _ in range(dice.between(1, 3)):
+            to = rest.pop() if rest and dice.chance(80) else dice.pick(states)
+            low = dice.pick(letters)
+            high = dice.between(low, 255) if dice.chance(20) else low
+            records.append(edge(low, high, at, to))
+            at = to
+        records.append(accept(at, dice.below(256)))
+        if dice.chance(30):
+            records.append(accept(at, dice.pick([0, 7, 254, 255])))
+    return Sample(dice.shuffled(records), letters, states)
+
+
+def web_list(dice):
+    """Edges between few states at random, with repeats and several starts."""
+    letters = dice.some(LETTERS, dice.between(1, 4))
+    states = dice.some(STATES, dice.between(2, 6))
+    records = [start(dice.pick(states)) for _ in range(dice.pick([1, 1, 2, 3]))]
+    for _ in range(dice.between(1, 9)):
+        shape = dice.below(10)
+        if shape < 5:
+            low = high = dice.pick(letters)
+        elif shape < 7:
+            low, high = sorted([dice.pick(letters), dice.pick(letters)])
+        elif shape < 8:
+            low, high = 0, 255
+        elif shape < 9:
+            low, high = 0, dice.pick(letters)
+        else:
+            low, high = dice.pick(letters), 255
+        records.append(edge(low, high, dice.pick(states), dice.pick(states)))
+    signatures = [dice.below(256) for _ in range(3)] + [255]
+    for _ in range(dice.below(7)):
+        records.append(accept(dice.pick(states), dice.pick(signatures)))
+    if dice.chance(40):
+        records.append(dice.pick(records))
+    return Sample(dice.shuffled(records), letters, states)
+
+
+def crowded_list(dice, accepts):
+    """Many accept records on one looping state."""
+    letters = dice.some(LETTERS, 2)
+    states = dice.some(STATES, 3)
+    records = [start(states[0]), edge(0, 255, states[0], states[0]),
+               edge(letters[0], letters[0], states[0], states[1])]
+    if dice.chance(50):
+        records.append(edge(0, 255, states[1], states[2]))
+    many = dice.pick(states[:2])
+    records += [accept(many, g) for g in dice.some(range(256), accepts)]
+    records += [accept(dice.pick(states), dice.below(256)) for _ in range(3)]
+    return Sample(dice.shuffled(records), letters, states)
+
+
+def any_list(dice):
+    shape = dice.below(10)
+    if shape < 5:
+        return search_list(dice)
+    if shape < 9:
+        return web_list(dice)
+    return crowded_list(dice, dice.between(3, 14))
+
+
+def broken_list(dice, sample, number):
+    """A list near a good one that gives refusal 1, 2 or 3."""
+    records = list(sample.records)
+    if number == 1:
+        data = sample.data
+        return dice.pick([b"", data[:-1], data + b"\0", data[:7], data + bytes(4)])
+    if number == 2:
+        bad = dice.pick([bytes([4, 0, 0, 0, 0, 0, 0, 0]), edge(9, 8, 0, 0), start(256),
+                         accept(0, 256), accept(300, 1), edge(0, 1, 256, 0),
+                         edge(0, 1, 0, 511), bytes([1, 0, 0, 1, 0, 0, 0, 0])])
+        records.insert(dice.below(len(records) + 1), bad)
+        return b"".join(records)
+    records = [record for record in records if record[0] != 2]
+    return b"".join(records) if records else edge(0, 0, 0, 0)
+
+
+# Pieces and records of a flow
+
+def a_piece(dice, sample, length):
+    out = []
+    for _ in range(length):
+        near = dice.pick(sample.letters)
+        shape = dice.below(20)
+        if shape < 15:
+            out.append(near)
+        elif shape < 16:
+            out.append(min(255, near + 1))
+        elif shape < 17:
+            out.append(max(0, near - 1))
+        else:
+            out.append(dice.below(256))
+    return bytes(out)
+
+
+def short_length(dice):
+    shape = dice.below(20)
+    if shape < 1:
+        return 0
+    if shape < 6:
+        return dice.between(1, 3)
+    if shape < 15:
+        return dice.between(4, 12)
+    return dice.between(13, 40)
+
+
+def word_count(dice):
+    shape = dice.below(20)
+    if shape < 8:
+        return dice.below(8)
+    if shape < 18:
+        return dice.between(5, 60)
+    return dice.between(61, 1200) if dice.chance(20) else dice.between(61, 300)
+
+
+def any_frontier(dice, sample):
+    shape = dice.below(12)
+    if shape < 5:
+        return dice.subset(sample.states, 60)
+    if shape < 7:
+        return dice.subset(range(256), 10)
+    if shape < 8:
+        return frozenset(range(256))
+    if shape < 9:
+        return frozenset()
+    return dice.subset(sample.states, 50) | dice.subset(STATES, 20)
+
+
+def any_flow(dice, frontier):
+    offset = dice.pick([1, 2, dice.below(300), dice.below(70000), dice.below(2 ** 32),
+                        model.LAST_OFFSET - dice.below(50)])
+    rows = dice.pick([0, 256 * offset, 256 * offset - dice.below(256 * offset + 1)
+                      if offset < 2 ** 24 - 1 else 256 * offset - 1, offset])
+    return pack_flow(Flow(frontier, offset, rows))
+
+
+# Split tables
+
+class Plan:
+    """A table as sets and lists that can be changed before it is packed."""
+
+    def __init__(self, classes, width, parts, rows, splits):
+        self.classes = list(classes)
+        self.width = width
+        self.parts = list(parts)
+        self.rows = dict(rows)
+        self.splits = [(members, list(slots)) for members, slots in splits]
+
+    def copy(self):
+        return Plan(self.classes, self.width, self.parts, self.rows, self.splits)
+
+    def sort(self):
+        self.splits.sort(key=lambda split: pack_set(split[0]))
+
+    def table(self):
+        return Table(
+            bytes(self.classes),
+            b"".join(pack_set(part) for part in self.parts),
+            b"".join(pack_set(self.rows[p, k])
+                     for p in range(len(self.parts)) for k in range(self.width)),
+            b"".join(pack_set(members) + b"".join(slot.to_bytes(2, "little") for slot in slots)
+                     for members, slots in self.splits))
+
+    def used(self):
+        return max(len([s for s in slots if s != UNUSED]) for _, slots in self.splits)
+
+
+def padded(slots):
+    return list(slots) + [UNUSED] * (4 - len(slots))
+
+
+def alike(nfa):
+    """The 256 bytes in groups that take the same edges, by lowest byte."""
+    groups = {}
+    for byte in range(256):
+        taken = frozenset(e for e in nfa.edges if e.low <= byte <= e.high)
+        groups.setdefault(taken, []).append(byte)
+    return list(groups.values())
+
+
+def close(nfa, sets, most):
+    """The sets and all that steps lead to, or None when they are too many."""
+    bytes_to_try = [group[0] for group in alike(nfa)]
+    found = set(sets)
+    todo = sorted(found, key=pack_set)
+    while todo:
+        members = todo.pop()
+        for byte in bytes_to_try:
+            after = nfa.step(members, byte)
+            if after not in found:
+                found.add(after)
+                todo.append(after)
+        if len(found) > most:
+            return None
+    return sorted(found, key=pack_set)
+
+
+def cover(dice, members, bound, known):
+    """At most bound sets whose union is members, some of them known ones."""
+    if not members:
+        return [frozenset()] if dice.chance(20) else []
+    if dice.chance(10):
+        return [members]
+    chosen = []
+    inside = [part for part in known if part and part <= members]
+    for part in dice.shuffled(inside):
+        if len(chosen) < bound - 1 and not part <= model.union(chosen):
+            chosen.append(part)
+    left = members - model.union(chosen)
+    if left:
+        pieces = bound - len(chosen)
+        groups = [set() for _ in range(dice.between(1, pieces))]
+        for state in sorted(left):
+            dice.pick(groups).add(state)
+        if dice.chance(40):
+            for group in groups:
+                group.update(dice.subset(sorted(members), 30))
+        for group in groups:
+            if group and frozenset(group) not in chosen:
+                chosen.append(frozenset(group))
+    return chosen
+
+
+def build_plan(dice, sample, bound, most_sets=30, most_parts=12, wide=False):
+    """A table that the check accepts at bound, or None when it grows too big."""
+    nfa = sample.nfa
+    sets = close(nfa, [nfa.starts], most_sets)
+    if sets is None:
+        return None
+    for _ in range(dice.pick([0, 0, 1, 2])):
+        more = dice.subset(sample.states, 40)
+        larger = close(nfa, sets + [more], most_sets)
+        if larger is not None:
+            sets = larger
+
+    parts = []
+    covers = {}
+    for members in dice.shuffled(sets):
+        covers[members] = cover(dice, members, bound, parts)
+        for part in covers[members]:
+            if part not in parts:
+                parts.append(part)
+    spare = dice.pick([0, 0, 0, 1, 2])
+    for _ in range(spare):
+        parts.append(dice.pick([frozenset(), dice.subset(sample.states, 50),
+                                dice.subset(range(256), 8)] + parts))
+    if not parts:
+        parts.append(dice.subset(sample.states, 50))
+    if len(parts) > most_parts:
+        return None
+    parts = dice.shuffled(parts)
+
+    splits = []
+    for members in sets:
+        slots = set()
+        for part in covers[members]:
+            places = [p for p, known in enumerate(parts) if known == part]
+            slots.add(dice.pick(places))
+        if len(slots) < bound and dice.chance(10):
+            inside = [p for p, known in enumerate(parts) if known <= members]
+            if inside:
+                slots.add(dice.pick(inside))
+        splits.append((members, padded(sorted(slots))))
+
+    # Bytes of one class step alike for every part, perhaps finer than needed.
+    groups = {}
+    for byte in range(256):
+        key = tuple(pack_set(nfa.step(part, byte)) for part in parts)
+        groups.setdefault(key, []).append(byte)
+    groups = list(groups.values())
+    for _ in range(dice.pick([0, 0, 1, 2])):
+        old = groups.pop(dice.below(len(groups)))
+        out = dice.subset(old, dice.pick([5, 50]))
+        groups += [half for half in ([b for b in old if b in out],
+                                     [b for b in old if b not in out]) if half]
+    if len(groups) > 9:
+        return None
+    if wide:
+        names = sorted(dice.some(range(63), len(groups) - 1)) + [63]
+    elif dice.chance(25):
+        names = dice.some(range(len(groups) + 2), len(groups))
+    else:
+        names = dice.shuffled(range(len(groups)))
+    names = dice.shuffled(names)
+    classes = [0] * 256
+    rows = {}
+    for name, group in zip(names, groups):
+        for byte in group:
+            classes[byte] = name
+        for p, part in enumerate(parts):
+            rows[p, name] = nfa.step(part, group[0])
+    width = max(classes) + 1
+    for p in range(len(parts)):
+        for name in range(width):
+            if name not in names:
+                rows[p, name] = dice.pick([frozenset(), dice.subset(sample.states, 50),
+                                           dice.subset(range(256), 30)])
+    return Plan(classes, width, parts, rows, splits)
+
+
+def good_table(dice, bound, most_sets=30, most_parts=12, wide=False):
+    """A list and a plan accepted for it at bound."""
+    while True:
+        sample = any_list(dice)
+        if len(sample.data) > 320:
+            continue
+        plan = build_plan(dice, sample, bound, most_sets, most_parts, wide)
+        if plan is not None:
+            return sample, plan

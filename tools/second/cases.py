@@ -1,0 +1,743 @@
+"""The cases: what is loaded, asked and fed, in which order."""
+
+import builders
+import examples
+import faults
+import model
+from builders import (Sample, a_piece, accept, any_flow, any_frontier, any_list, broken_list,
+                      crowded_list, edge, good_table, padded, short_length, start, word_count)
+from faults import BAD_BOUNDS
+from model import LAST_OFFSET, UNUSED, Flow, Table, pack_flow, pack_set, unpack_flow
+
+EMPTY_TABLE = Table(b"", b"", b"", b"")
+
+
+def offset_of(record):
+    """The offset that a record of any length seems to have."""
+    return model.number(record[32:36])
+
+
+# The worked examples
+
+def worked(tape):
+    tape.load_list(examples.LIST)
+    tape.load_table(examples.TABLE)
+    tape.load_record(b"\xff" * 48)
+    tape.check_list()
+    for bound in (1, 2, 3, 4, 0, 5, 257, 2 ** 32 + 1):
+        tape.check_table(bound)
+    tape.open()
+    fresh = tape.record
+    for words in (0, 1, 2, 3, 4, 5, 512):
+        for piece in (b"abab", b"aba", b""):
+            tape.load_record(fresh)
+            tape.feed(0, words, piece)
+            for bound in (1, 2, 3, 4):
+                tape.load_record(fresh)
+                tape.split_feed(bound, 0, words, piece)
+    tape.load_record(fresh)
+    tape.feed(0, 4, b"a")
+    tape.feed(0, 4, b"bab")
+    tape.feed(1, 4, b"bab")
+    tape.feed(0, 4, b"bab")
+    for table in (examples.WITHOUT_02, examples.WITHOUT_0):
+        tape.load_table(table)
+        for bound in (1, 2, 3, 4):
+            tape.check_table(bound)
+        for words in (0, 2, 8):
+            tape.load_record(fresh)
+            tape.split_feed(2, 0, words, b"abab")
+    for data in (examples.NO_START, examples.LIST):
+        tape.load_list(data)
+        tape.check_list()
+        tape.check_table(2)
+
+
+# Lists
+
+def ask_list(tape, dice, often):
+    """The list check, and now and then the other entry points on this list."""
+    tape.check_list()
+    if dice.chance(often):
+        tape.load_record(dice.bytes(48) if dice.chance(40)
+                         else dice.pick([b"\xff" * 48, bytes(48), bytes(47), b"\x01" * 49]))
+        tape.open()
+    if dice.chance(often):
+        at = offset_of(tape.record)
+        tape.feed(dice.pick([at, at, at + 1]), word_count(dice), dice.bytes(dice.below(9)))
+    if dice.chance(often):
+        tape.check_table(dice.pick([1, 2, 3, 4, 0, 5]))
+    if dice.chance(often):
+        at = offset_of(tape.record)
+        tape.split_feed(dice.pick([1, 2, 3, 4, 0, 5]), dice.pick([at, at, at + 1]),
+                        word_count(dice), dice.bytes(dice.below(9)))
+
+
+def with_record(dice, records, record):
+    """The list with one more record at the front, in the middle or at the end."""
+    records = list(records)
+    records.insert(dice.pick([0, len(records), dice.below(len(records) + 1)]), record)
+    return b"".join(records)
+
+
+def lists(tape, dice):
+    tape.load_table(examples.TABLE)
+    sample = any_list(dice)
+
+    def ask(data, often=20):
+        tape.load_list(data)
+        ask_list(tape, dice, often)
+
+    # Every kind byte on a record that is sound as each of the three kinds.
+    for kind in range(256):
+        ask(with_record(dice, dice.some(sample.records, 2) + [start(1)],
+                        bytes([kind]) + bytes(7)))
+
+    # Every reserved byte of each kind, and every byte of a record in turn.
+    for kind, places in ((1, [3]), (2, [1, 2, 3, 4, 5]), (3, [1, 2, 3])):
+        for at in places:
+            for value in (1, 2, 4, 8, 16, 32, 64, 128, 255, dice.between(1, 254)):
+                record = bytearray([kind]) + bytes(7)
+                record[at] = value
+                ask(with_record(dice, [start(3), edge(0, 255, 3, 3)], bytes(record)))
+    for kind in (1, 2, 3):
+        for at in range(1, 8):
+            for value in (0, 1, 255):
+                record = bytearray([kind]) + bytes(7)
+                record[at] = value
+                ask(with_record(dice, [start(3)], bytes(record)))
+
+    # Low against high.
+    for low, high in ((0, 0), (255, 255), (0, 255), (255, 0), (1, 0), (255, 254), (254, 255),
+                      (128, 127), (127, 128), (97, 96), (97, 97), (0, 1)):
+        ask(with_record(dice, [start(3), accept(2, 4)], edge(low, high, 3, 2)))
+    for _ in range(60):
+        ask(with_record(dice, [start(3)], edge(dice.below(256), dice.below(256), 3, 2)))
+
+    # States and signatures up to 255, and past it in either byte.
+    for value in (0, 1, 127, 128, 254, 255, 256, 257, 510, 511, 512, 4096, 32768, 65280, 65534,
+                  65535, dice.between(256, 65535)):
+        for record in (edge(1, 2, value, 3), edge(1, 2, 3, value), start(value),
+                       accept(value, 3), accept(3, value)):
+            ask(with_record(dice, [start(3), edge(0, 255, 3, 3)], record))
+        ask(start(value))
+
+    # No start, start last, and a bad record in a list without a start.
+    for _ in range(60):
+        other = any_list(dice)
+        bare = [record for record in other.records if record[0] != 2]
+        starts = [record for record in other.records if record[0] == 2]
+        if bare:
+            ask(b"".join(bare))
+            bad = dice.pick([edge(3, 2, 0, 0), start(256), accept(1, 999), bytes(8)])
+            ask(with_record(dice, bare, bad))
+        ask(b"".join(bare + starts))
+        ask(b"".join(starts + bare))
+        ask(b"".join(starts))
+        ask(b"".join(other.records + other.records))
+
+    # Lengths: fronts of a good list and of a bad one, zeros, and the ends of the range.
+    for length in range(0, 58):
+        for source in (b"".join([start(1), edge(0, 9, 1, 2), accept(2, 255)] * 3),
+                       b"".join([edge(1, 0, 0, 0), start(1), accept(2, 300)] * 3)):
+            ask(source[:length], 30)
+    for length in (8, 16, 40):
+        ask(bytes(length))
+        ask(b"\xff" * length)
+
+    # One byte of a good list changed, and bytes at random.
+    for _ in range(1000):
+        other = any_list(dice)
+        data = bytearray(other.data)
+        at = dice.below(len(data))
+        data[at] = dice.pick([0, 1, 2, 3, 255, dice.below(256)])
+        ask(bytes(data))
+    for _ in range(80):
+        data = b"".join(bytes([dice.between(1, 3)]) + dice.bytes(7)
+                        for _ in range(dice.between(1, 4)))
+        ask(data, 10)
+
+
+def longest_lists(tape, dice):
+    """4,096 records and one more, with the start at either end."""
+    tape.load_table(examples.TABLE)
+    body = [edge(b % 256, 255, b % 7, (b + 1) % 7) for b in range(2000)]
+    body += [accept(b % 7, b % 256) for b in range(4095 - len(body))]
+    for data in (b"".join(body + [start(0)]), b"".join([start(0)] + body),
+                 b"".join(body + [accept(0, 0)]), b"".join(body + [accept(0, 256)]),
+                 b"".join([start(0)] + body + [start(0)]), b"".join([start(0)] + body) + b"\2"):
+        tape.load_list(data)
+        tape.check_list()
+        tape.load_record(b"\x55" * 48)
+        tape.open()
+        for words in (1200, 512, 511):
+            tape.feed(offset_of(tape.record), words, b"ab\xff")
+        tape.check_table(2)
+        tape.split_feed(2, offset_of(tape.record), 600, b"ab")
+
+
+# Opening
+
+def openings(tape, dice):
+    for turn in range(90):
+        sample = any_list(dice)
+        data = sample.data if turn % 3 else broken_list(dice, sample, 1 + turn // 3 % 3)
+        tape.load_list(data)
+        tape.check_list()
+        for length in dice.some(range(65), 3) + [dice.pick([47, 49])] + [48] * 4:
+            content = dice.pick([bytes(length), b"\xff" * length, dice.bytes(length)])
+            tape.load_record(content)
+            tape.open()
+            if dice.chance(30):
+                tape.feed(offset_of(tape.record), word_count(dice),
+                          a_piece(dice, sample, dice.below(6)))
+    for length in range(65):
+        tape.load_list(any_list(dice).data)
+        tape.load_record(dice.bytes(length))
+        tape.open()
+        tape.open()
+
+
+# Flows
+
+class Walk:
+    """Moves on one list, through the plain feed or a table at a bound."""
+
+    def __init__(self, tape, dice, sample, bound=None):
+        self.tape = tape
+        self.dice = dice
+        self.sample = sample
+        self.bound = bound
+
+    def feed(self, at, words, piece, bound=None):
+        if self.bound is None:
+            return self.tape.feed(at, words, piece)
+        return self.tape.split_feed(self.bound if bound is None else bound, at, words, piece)
+
+    def piece(self):
+        return a_piece(self.dice, self.sample, short_length(self.dice))
+
+    def offset(self):
+        return offset_of(self.tape.record)
+
+    def begin(self):
+        self.tape.load_list(self.sample.data)
+        self.tape.load_record(self.dice.pick([bytes(48), b"\xff" * 48, self.dice.bytes(48)]))
+        self.tape.open()
+
+    def go_on(self):
+        """Feed a piece, and after a pause its rest."""
+        piece = self.piece()
+        for _ in range(3):
+            answer = self.feed(self.offset(), word_count(self.dice), piece)
+            piece = piece[answer.consumed:]
+            if answer.refusal or not piece or self.dice.chance(30):
+                break
+
+    def wrong_start(self):
+        dice, at = self.dice, self.offset()
+        wrong = dice.pick([at + 1, max(0, at - 1), 0, at + 2 ** 32, at + 256, at + 65536,
+                           2 ** 64 - 1, dice.below(2 ** 32), at + 2 ** 63])
+        self.feed(wrong, word_count(dice), dice.pick([b"", self.piece(), self.piece()]))
+
+    def other_list(self):
+        dice = self.dice
+        broken = broken_list(dice, self.sample, dice.between(1, 3))
+        self.tape.load_list(broken)
+        if dice.chance(30):
+            self.tape.check_list()
+        at = self.offset()
+        self.feed(dice.pick([at, at, at + 1]), word_count(dice),
+                  dice.pick([b"", self.piece(), self.piece()]))
+        self.tape.load_list(self.sample.data)
+
+    def damage(self):
+        dice, good = self.dice, self.tape.record
+        at = self.offset()
+        shape = dice.below(6)
+        if shape == 0:
+            bad = dice.pick([good[:47], good + b"\0", b"", good[:dice.below(48)],
+                             good + bytes(16)])
+        elif shape in (1, 2):
+            spot = dice.between(36, 39)
+            bad = good[:spot] + bytes([dice.pick([1, 128, 255])]) + good[spot + 1:]
+        else:
+            rows = dice.pick([256 * at + 1, 256 * at + 1, 256 * at + 256, 2 ** 63,
+                              2 ** 64 - 1, 2 ** 40 + dice.below(1000)])
+            bad = good[:40] + rows.to_bytes(8, "little")
+        self.tape.load_record(bad)
+        self.feed(dice.pick([at, at, at + 1]), word_count(dice),
+                  dice.pick([b"", self.piece(), self.piece()]))
+        self.tape.load_record(good)
+
+    def full_rows(self):
+        """Rows at exactly 256 times the offset, or just under it."""
+        good = self.tape.record
+        rows = max(0, 256 * self.offset() - self.dice.pick([0, 0, 1]))
+        self.tape.load_record(good[:40] + rows.to_bytes(8, "little"))
+        self.go_on()
+
+    def other_frontier(self):
+        self.tape.load_record(any_flow(self.dice, any_frontier(self.dice, self.sample)))
+        self.go_on()
+
+    def limit(self):
+        """Offsets next to the last one."""
+        dice = self.dice
+        left = dice.pick([0, 0, 1, 2, 3, dice.below(12)])
+        longer = 4096 if dice.chance(2) else dice.pick([left + 2, 0, left + 40])
+        at = LAST_OFFSET - left
+        flow = unpack_flow(self.tape.record)
+        self.tape.load_record(pack_flow(Flow(flow.frontier, at, min(flow.rows, 256 * at))))
+        for length in dice.shuffled([left + 1, left, longer]):
+            at = self.offset()
+            words = dice.pick([0, 1, 3, 20, 40, 64])
+            self.feed(dice.pick([at, at, at, at, at + 1]), words,
+                      a_piece(dice, self.sample, length))
+        if dice.chance(50):
+            self.tape.open()
+
+    def every_byte(self):
+        self.feed(self.offset(), self.dice.pick([0, 40, 600, 1200]),
+                  bytes(self.dice.shuffled(range(256))))
+
+    def bad_bound(self):
+        dice = self.dice
+        at = self.offset()
+        bound = dice.pick(BAD_BOUNDS)
+        if self.bound is None:
+            self.feed(at, word_count(dice), b"")
+        else:
+            self.feed(dice.pick([at, at, at, at, at + 1]), word_count(dice),
+                      dice.pick([b"", self.piece(), self.piece()]), bound)
+
+    def other_bound(self):
+        """The next bound up or down, on the same table."""
+        if self.bound is not None:
+            self.feed(self.offset(), word_count(self.dice), self.piece(), self.dice.between(1, 4))
+
+    def other_feed(self):
+        """The plain feed in a flow of the split feed."""
+        self.tape.feed(self.offset(), word_count(self.dice), self.piece())
+
+    def again(self):
+        self.tape.open()
+
+    def move(self):
+        dice = self.dice
+        dice.pick([self.go_on] * 24 + [self.wrong_start] * 3 + [self.other_list] * 3
+                  + [self.damage] * 4 + [self.full_rows] * 2 + [self.other_frontier] * 2
+                  + [self.limit] * 1 + [self.bad_bound] * 2 + [self.other_bound] * 2
+                  + [self.other_feed] + [self.again] * 4)()
+        if dice.chance(1):
+            self.every_byte()
+
+
+def plain_flows(tape, dice):
+    for _ in range(280):
+        walk = Walk(tape, dice, any_list(dice))
+        walk.begin()
+        for _ in range(dice.between(12, 26)):
+            walk.move()
+
+
+def crowded_flows(tape, dice):
+    """256 signatures on one state: a feed with less room pauses."""
+    for turn in range(14):
+        sample = crowded_list(dice, dice.pick([256, 256, 255, 100]))
+        walk = Walk(tape, dice, sample)
+        walk.begin()
+        for _ in range(12):
+            piece = a_piece(dice, sample, dice.between(1, 8))
+            words = dice.pick([0, 1, 510, 511, 512, 513, 514, 1022, 1023, 1024, 1025, 1199, 1200,
+                               dice.below(1201)])
+            tape.feed(walk.offset(), words, piece)
+            if dice.chance(20):
+                walk.begin()
+
+
+def long_pieces(tape, dice):
+    """Pieces of 4,096 bytes and near it."""
+    for turn in range(14):
+        bound = dice.between(1, 4)
+        sample, plan = good_table(dice, bound)
+        tape.load_table(plan.table())
+        for engine in (None, bound):
+            walk = Walk(tape, dice, sample, engine)
+            walk.begin()
+            piece = a_piece(dice, sample, dice.pick([4096, 4096, 4095, 4097, 1500, 2048]))
+            answer = walk.feed(0, 1200, piece)
+            rest = piece[answer.consumed:][:300]
+            while rest and not answer.refusal and dice.chance(70):
+                answer = walk.feed(walk.offset(), dice.pick([100, 600, 1200]), rest)
+                rest = rest[answer.consumed:]
+
+
+# Tables
+
+def agree(dice, sample, table, bound):
+    """An accepted table tells what the plain feed tells, within its rows."""
+    record = model.open_flow(sample.data, bytes(48))[1]
+    piece = a_piece(dice, sample, 40)
+    plain = model.plain_feed(sample.data, record, 0, [0] * 900, piece)
+    split = model.split_feed(sample.data, table, bound, record, 0, [0] * 900, piece)
+    assert split[:5] == plain[:5] and split.record[:40] == plain.record[:40]
+    assert unpack_flow(split.record).rows <= bound * split.consumed
+
+
+def ask_bounds(tape, dice, bound):
+    for other in dice.shuffled([1, 2, 3, 4]):
+        if other == bound or dice.chance(60):
+            tape.check_table(other)
+    if dice.chance(35):
+        tape.check_table(dice.pick(BAD_BOUNDS))
+
+
+def good_tables(tape, dice):
+    """Accepted tables, and flows through them."""
+    for turn in range(280):
+        bound = 1 + turn % 4
+        wide = turn % 16 == 3
+        sample, plan = good_table(dice, bound, 30 if turn % 5 == 0 else 14,
+                                  3 if wide else 12 if turn % 5 == 0 else 9, wide)
+        table = plan.table()
+        assert model.table_refusal(sample.data, table, bound) == 0
+        agree(dice, sample, table, bound)
+        tape.load_list(sample.data)
+        tape.load_table(table)
+        ask_bounds(tape, dice, bound)
+        walk = Walk(tape, dice, sample, bound)
+        walk.begin()
+        for _ in range(dice.between(8, 18)):
+            walk.move()
+        if dice.chance(30):
+            # A list that is refused, or another list, beside this table.
+            tape.load_list(broken_list(dice, sample, dice.between(1, 3)))
+            tape.check_table(dice.pick([bound, 0, 5]))
+            tape.load_list(any_list(dice).data)
+            tape.check_table(bound)
+            walk.go_on()
+        if dice.chance(15):
+            # No table at all, and then this one again.
+            tape.load_table(EMPTY_TABLE)
+            tape.check_table(dice.pick([bound, bound, 0]))
+            tape.load_list(sample.data)
+            walk.go_on()
+            tape.load_table(table)
+            walk.go_on()
+
+
+def crowded_tables(tape, dice):
+    """Split feeds that pause."""
+    for turn in range(6):
+        sample = crowded_list(dice, dice.pick([256, 250]))
+        bound = dice.between(1, 3)
+        plan = builders.build_plan(dice, sample, bound)
+        tape.load_table(plan.table())
+        walk = Walk(tape, dice, sample, bound)
+        walk.begin()
+        tape.check_table(bound)
+        for _ in range(14):
+            piece = a_piece(dice, sample, dice.between(1, 8))
+            words = dice.pick([0, 1, 510, 511, 512, 513, 514, 1023, 1024, 1025, 1200])
+            walk.feed(walk.offset(), words, piece)
+            if dice.chance(20):
+                walk.begin()
+
+
+def start_from_split(tape, dice, plan):
+    """A record whose frontier is a split's set, at any offset."""
+    members, _ = dice.pick(plan.splits)
+    tape.load_record(any_flow(dice, members))
+
+
+def ask_faulty(tape, dice, sample, plan, table, bound, number):
+    """The check gives the number, and the split feed runs the table as it stands."""
+    tape.load_list(sample.data)
+    tape.load_table(table)
+    assert tape.check_table(bound) == number
+    if dice.chance(60):
+        tape.check_table(dice.between(1, 4))
+    if dice.chance(12):
+        tape.check_table(dice.pick(BAD_BOUNDS))
+    if dice.chance(8):
+        tape.load_list(broken_list(dice, sample, dice.between(1, 3)))
+        tape.check_table(dice.pick([bound, 9]))
+        tape.load_list(sample.data)
+    walk = Walk(tape, dice, sample, bound)
+    walk.begin()
+    for _ in range(dice.pick([1, 1, 2])):
+        walk.go_on()
+    if dice.chance(50):
+        start_from_split(tape, dice, plan)
+        walk.go_on()
+    if dice.chance(25):
+        walk.wrong_start()
+    if dice.chance(20):
+        walk.damage()
+    if dice.chance(20):
+        walk.bad_bound()
+    if dice.chance(20):
+        walk.feed(walk.offset(), word_count(dice), b"")
+
+
+def one_byte_tables(tape, dice):
+    """Faults that a single one of the 256 bytes shows: 10 and 13."""
+    for number in (10, 13):
+        made = 0
+        while made < 36:
+            letter = dice.pick([0, 255, 0, 255, 63, 64, dice.below(256)])
+            root, after = dice.some(builders.STATES, 2)
+            sample = Sample([edge(0, 255, root, root), start(root),
+                             edge(letter, letter, root, after), accept(after, dice.below(256))],
+                            [letter, dice.below(256)], [root, after])
+            bound = dice.between(1, 3)
+            plan = builders.build_plan(dice, sample, bound)
+            if plan is None:
+                continue
+            if number == 10:
+                plan.classes[letter] = plan.classes[(letter + dice.pick([1, 255, 7])) % 256]
+                plan.width = max(plan.classes) + 1
+            else:
+                plan.splits = [split for split in plan.splits if split[0] != {root, after}]
+            if model.table_refusal(sample.data, plan.table(), bound) == number:
+                ask_faulty(tape, dice, sample, plan, plan.table(), bound, number)
+                made += 1
+
+
+def faulty_tables(tape, dice):
+    """Single faults, and two at once."""
+
+    for number, fault, times in faults.SINGLE:
+        made = 0
+        while made < times:
+            bound = dice.between(1, 4)
+            sample, plan = good_table(dice, bound, 9, 7)
+            changed = fault(dice, plan.copy(), bound, sample)
+            if changed is None:
+                continue
+            table = changed if isinstance(changed, Table) else changed.table()
+            if model.table_refusal(sample.data, table, bound) != number:
+                continue  # Such a change may well leave a good table, or break a lower rule.
+            ask_faulty(tape, dice, sample, plan, table, bound, number)
+            made += 1
+
+    for low, high, first, second in faults.DOUBLE:
+        made = 0
+        while made < 9:
+            bound = dice.between(1, 4)
+            sample, plan = good_table(dice, bound, 9, 7)
+            alone = second(dice, plan.copy(), bound, sample)
+            if alone is None or model.table_refusal(sample.data, alone.table(), bound) != high:
+                continue
+            both = first(dice, alone.copy(), bound, sample)
+            if both is None or model.table_refusal(sample.data, both.table(), bound) != low:
+                continue
+            ask_faulty(tape, dice, sample, plan, both.table(), bound, low)
+            made += 1
+
+    made = 0
+    while made < 25:
+        bound = dice.between(1, 4)
+        sample, plan = good_table(dice, bound, 9, 7)
+        both = faults.last_9_first_11(dice, plan.copy(), bound, sample)
+        if both is not None:
+            ask_faulty(tape, dice, sample, plan, both.table(), bound, 9)
+            made += 1
+
+    # Each wrong length and class, at each bound.
+    for bound in (1, 2, 3, 4):
+        sample, plan = good_table(dice, bound, 9, 7)
+        for table in faults.wrong_lists(dice, plan):
+            ask_faulty(tape, dice, sample, plan, table, bound, 8)
+
+    # 8 beside 9 to 13, and one more start record beside a good table: 12.
+    for _ in range(20):
+        bound = dice.between(1, 4)
+        sample, plan = good_table(dice, bound, 9, 7)
+        changed = faults.order_9(dice, plan.copy(), bound, sample)
+        table = faults.lists_8(dice, changed or plan, bound, sample)
+        ask_faulty(tape, dice, sample, plan, table, bound, 8)
+    made = 0
+    while made < 20:
+        bound = dice.between(1, 4)
+        sample, plan = good_table(dice, bound, 9, 7)
+        more = Sample(dice.shuffled(sample.records + [start(dice.pick(sample.states))]),
+                      sample.letters, sample.states)
+        if model.table_refusal(more.data, plan.table(), bound) == 12:
+            ask_faulty(tape, dice, more, plan, plan.table(), bound, 12)
+            made += 1
+
+
+def harmless_tables(tape, dice):
+    """Changes that no rule sees: the check still gives 0."""
+    made = 0
+    while made < 40:
+        bound = dice.between(1, 4)
+        sample, plan = good_table(dice, bound, 9, 5, made % 10 == 0)
+        free = [(p, k) for p in range(len(plan.parts)) for k in range(plan.width)
+                if k not in plan.classes]
+        if not free:
+            continue
+        tape.load_list(sample.data)
+        place = dice.pick(free)
+        plan.rows[place] = faults.toggled(plan.rows[place], dice.below(256))
+        tape.load_table(plan.table())
+        assert tape.check_table(bound) == 0
+        ask_bounds(tape, dice, bound)
+        walk = Walk(tape, dice, sample, bound)
+        walk.begin()
+        walk.go_on()
+        made += 1
+
+    # The empty set without slots, with an empty part, and alone; {8} before {0}.
+    dead = Sample([start(8), start(0), accept(0, 1)], [0, 255], [0, 8])
+    for order, number in (([(), (8,), (0,), (0, 8)], 0), ([(), (0,), (8,), (0, 8)], 9),
+                          ([(8,), (0,), (0, 8), ()], 9), ([(8,), (0,), (0, 8)], 13),
+                          ([(), (8,), (0,)], 12), ([()], 12), ([(), (0, 8)], 0)):
+        for nothing in ([], [2]):
+            slots = {(): nothing, (8,): [0], (0,): [1], (0, 8): [0, 1]}
+            parts = [frozenset({8}), frozenset({0}), frozenset()]
+            plan = builders.Plan([0] * 256, 1, parts, {(p, 0): frozenset() for p in range(3)},
+                                 [(frozenset(members), padded(slots[members]))
+                                  for members in order])
+            tape.load_list(dead.data)
+            tape.load_table(plan.table())
+            assert tape.check_table(2) == number
+            tape.check_table(1)
+            walk = Walk(tape, dice, dead, 2)
+            walk.begin()
+            walk.go_on()
+            walk.go_on()
+
+
+def wild_tables(tape, dice):
+    """Tables of no sense, run as they stand: unsorted and equal splits, slots
+    after an unused one, slots that name no part, more taken than the bound."""
+    for turn in range(190):
+        sample = any_list(dice)
+        sets = [dice.subset(sample.states, 50) for _ in range(dice.between(2, 5))]
+        sets.append(sample.nfa.starts)
+        count = dice.between(1, 5)
+        width = dice.between(1, 3)
+        parts = [dice.subset(sample.states, 50) for _ in range(count)]
+        single = turn % 3 == 0
+        # One slot taken at most, or rows that hold one set for each class: the join
+        # of rows stays among the sets more often, so that flows go on for longer.
+        common = {k: dice.pick(sets) for k in range(width)}
+        rows = {(p, k): common[k] if dice.chance(55) else dice.pick(sets)
+                for p in range(count) for k in range(width)}
+        splits = []
+        for members in dice.shuffled(sets + sets[:dice.below(4)]):
+            slots = [dice.below(count) for _ in range(4)]
+            if single:
+                slots[1] = UNUSED
+            for at in range(4):
+                if dice.chance(35):
+                    slots[at] = UNUSED
+                elif dice.chance(5):
+                    slots[at] = dice.pick([count, 65534, 256, count + 1])
+            splits.append((members, slots))
+        classes = [dice.below(width) for _ in range(256)]
+        classes[dice.below(256)] = width - 1
+        width = max(classes) + 1
+        plan = builders.Plan(classes, width, parts, rows, splits)
+        tape.load_list(sample.data)
+        tape.load_table(plan.table())
+        bound = dice.between(1, 4)
+        tape.check_table(bound)
+        walk = Walk(tape, dice, sample, bound)
+        walk.begin()
+        for _ in range(dice.between(7, 13)):
+            shape = dice.below(10)
+            if shape < 4:
+                walk.go_on()
+            elif shape < 8:
+                start_from_split(tape, dice, plan)
+                walk.go_on()
+            elif shape < 9:
+                walk.other_bound()
+            else:
+                walk.move()
+
+
+def largest_tables(tape, dice):
+    """1,024 parts, 4,096 splits, and one more of each."""
+    tape.load_record(bytes(48))
+
+    # No edges: every step leads to the empty set.
+    states = sorted(dice.some(range(256), 20))
+    dead = Sample([start(states[0]), accept(states[1], 9), accept(states[0], 3)],
+                  [0, 97], states)
+    names = [[]] + [[p] for p in range(20)]
+    names += [[p, q] for p in range(20) for q in range(p)]
+    names += [[p, q, r] for p in range(20) for q in range(p) for r in range(q)]
+    more = [[p, q, r, s] for p in range(20) for q in range(p) for r in range(q) for s in range(r)]
+    names += dice.some(more, 4096 - len(names))
+    splits = [(frozenset(states[p] for p in slots), padded(sorted(slots))) for slots in names]
+    plan = builders.Plan([0] * 256, 1, [frozenset({state}) for state in states],
+                         {(p, 0): frozenset() for p in range(20)}, splits)
+    plan.sort()
+    table = plan.table()
+    tape.load_list(dead.data)
+    tape.load_table(table)
+    assert tape.check_table(4) == 0
+    assert tape.check_table(3) == 9
+    tape.open()
+    tape.split_feed(4, 0, 8, b"ab")
+    for _ in range(8):
+        members, _ = dice.pick(plan.splits)
+        tape.load_record(any_flow(dice, members))
+        tape.split_feed(dice.between(1, 4), offset_of(tape.record), 8, b"a")
+    tape.load_table(table._replace(splits=table.splits + b"\xff" * 40))
+    tape.load_record(bytes(48))
+    tape.open()
+    for bound in (1, 2, 3, 4):
+        assert tape.check_table(bound) == 8
+        tape.split_feed(bound, 0, 8, b"ab")
+
+    # As many parts as there may be, in one class and in four, and one more.
+    for classes, over in ((1, 0), (1, 1), (4, 0)):
+        sample = Sample([start(200), edge(0, 255, 200, 200), edge(97, 97, 200, 3),
+                         edge(98, 98, 3, 255), accept(255, 255), accept(3, 0)]
+                        if classes == 4 else
+                        [start(200), edge(0, 255, 200, 200), edge(0, 255, 200, 3), accept(3, 77)],
+                        [97, 98], [3, 200, 255])
+        groups = [3 if c == 97 else 1 if c == 98 else 0 for c in range(256)] if classes == 4 \
+            else [0] * 256
+        parts = [dice.subset(range(256), 3) - {3, 200, 255} for _ in range(1024 + over)]
+        parts[300], parts[1023], parts[256] = (frozenset({200}), frozenset({3}),
+                                               frozenset({255}))
+        byte_of = {0: 0, 1: 98, 2: 97, 3: 97}
+        rows = {(p, k): sample.nfa.step(part, byte_of[k])
+                for p, part in enumerate(parts) for k in range(classes)}
+        splits = [(frozenset({200}), padded([300])), (frozenset({200, 3}), padded([300, 1023])),
+                  (frozenset({200, 255}), padded([256, 300]))]
+        plan = builders.Plan(groups, classes, parts, rows, splits)
+        plan.sort()
+        tape.load_list(sample.data)
+        tape.load_table(plan.table())
+        assert tape.check_table(2) == (8 if over else 0)
+        tape.check_table(1)
+        tape.check_table(4)
+        walk = Walk(tape, dice, sample, 2)
+        walk.begin()
+        for _ in range(6):
+            walk.go_on()
+
+
+def make(tape, dice):
+    worked(tape)
+    lists(tape, dice)
+    longest_lists(tape, dice)
+    openings(tape, dice)
+    plain_flows(tape, dice)
+    crowded_flows(tape, dice)
+    good_tables(tape, dice)
+    crowded_tables(tape, dice)
+    faulty_tables(tape, dice)
+    one_byte_tables(tape, dice)
+    harmless_tables(tape, dice)
+    wild_tables(tape, dice)
+    long_pieces(tape, dice)
+    largest_tables(tape, dice)

@@ -1,0 +1,95 @@
+"""The worked examples of the rules, as assertions on the model."""
+
+import model
+from model import Flow, Table, pack_flow, pack_set
+
+LIST = bytes.fromhex("0100FF0000000000" "0161610000000100" "0162620001000200"
+                     "0200000000000000" "0300000002000700")
+NO_START = LIST[:24] + LIST[32:]
+
+
+def _set(*states):
+    return pack_set(frozenset(states))
+
+
+def _split(states, *slots):
+    slots = list(slots) + [model.UNUSED] * (4 - len(slots))
+    return _set(*states) + b"".join(slot.to_bytes(2, "little") for slot in slots)
+
+
+# As byte strings {0} = 01 00.. comes before {0,1} = 03 00.., and {0,2} = 05 00.. is last.
+SPLITS = [_split([0], 0), _split([0, 1], 0, 1), _split([0, 2], 0, 2)]
+TABLE = Table(
+    bytes(1 if c == 97 else 2 if c == 98 else 0 for c in range(256)),
+    _set(0) + _set(1) + _set(2),
+    _set(0) + _set(0, 1) + _set(0) + _set() + _set() + _set(2) + _set() * 3,
+    b"".join(SPLITS))
+WITHOUT_02 = TABLE._replace(splits=SPLITS[0] + SPLITS[1])
+WITHOUT_0 = TABLE._replace(splits=SPLITS[1] + SPLITS[2])
+
+
+def check():
+    opened = model.open_flow(LIST, b"\xff" * 48)
+    assert opened == (0, _set(0) + bytes(16))
+    fresh = opened[1]
+    words = [11, 12, 13, 14, 15]
+
+    def plain(record, start, words, piece):
+        return model.plain_feed(LIST, record, start, words, piece)
+
+    def split(table, bound, words, piece, record=fresh, start=0):
+        return model.split_feed(LIST, table, bound, record, start, words, piece)
+
+    # 1 and 2: the pairs of "abab" and 7 rows, the odd last word untouched.
+    whole = plain(fresh, 0, words, b"abab")
+    assert whole == (0, 4, 2, True, [7, 2, 7, 4, 15],
+                     pack_flow(Flow(frozenset({0, 2}), 4, 7)))
+    # 3: the same through the table at 2, 3 and 4.
+    for bound in (2, 3, 4):
+        assert model.table_refusal(LIST, TABLE, bound) == 0
+        assert split(TABLE, bound, words, b"abab") == whole
+    assert model.unpack_flow(whole.record).rows == 7 <= 2 * 4
+    # 4: the record after "aba".
+    assert plain(fresh, 0, words, b"aba").record == bytes.fromhex(
+        "03" + "00" * 31 + "03000000" + "00000000" + "05" + "00" * 7)
+    # 5 and 6: "a" then "bab"; "bab" from 0 is refused at offset 1 and at offset 4.
+    first = plain(fresh, 0, words, b"a")
+    assert (first.refusal, first.consumed, first.pairs, first.all) == (0, 1, 0, True)
+    second = plain(first.record, 1, words, b"bab")
+    assert second.words[:4] == [7, 2, 7, 4] and second.record == whole.record
+    for record in (first.record, second.record):
+        assert plain(record, 0, words, b"bab") == (5, 0, 0, False, words, record)
+    # 7: room 1 and room 0.
+    assert plain(fresh, 0, [1, 2], b"abab")[:5] == (0, 3, 1, False, [7, 2])
+    assert plain(fresh, 0, [1], b"abab")[:5] == (0, 1, 0, False, [1])
+    # 8: an empty piece is taken whole.
+    assert plain(fresh, 0, [], b"") == (0, 0, 0, True, [], fresh)
+    # 9 to 12.
+    assert model.table_refusal(LIST, TABLE, 1) == 9
+    assert model.table_refusal(LIST, WITHOUT_02, 2) == 13
+    assert model.table_refusal(LIST, WITHOUT_0, 2) == 12
+    assert model.list_refusal(LIST) == 0
+    assert model.list_refusal(NO_START) == 3
+
+    # 14 keeps the bytes before it and is found before the byte's room.
+    after_ab = pack_flow(Flow(frozenset({0, 2}), 2, 3))
+    assert split(WITHOUT_02, 2, [0] * 8, b"abab") == (
+        14, 2, 1, False, [7, 2, 0, 0, 0, 0, 0, 0], after_ab)
+    assert split(WITHOUT_02, 2, [], b"abab")[:4] == (0, 1, 0, False)
+    for bound_words in ([], [0] * 8):
+        assert split(TABLE, 1, bound_words, b"abab") == (
+            14, 1, 0, False, bound_words, pack_flow(Flow(frozenset({0, 1}), 1, 1)))
+    assert split(WITHOUT_02, 2, [], b"", after_ab, 2) == (0, 0, 0, True, [], after_ab)
+
+    # Lengths, the highest state and the highest offset.
+    many = LIST[24:32] * 4096
+    assert model.list_refusal(many) == 0
+    assert model.list_refusal(many + LIST[24:32]) == 1
+    assert model.list_refusal(bytes.fromhex("020000000000FF00")) == 0
+    assert model.list_refusal(bytes.fromhex("0200000000000001")) == 2
+    last = pack_flow(Flow(frozenset({0}), model.LAST_OFFSET, 256 * model.LAST_OFFSET))
+    assert plain(last, model.LAST_OFFSET, [], b"")[:4] == (0, 0, 0, True)
+    assert plain(last, model.LAST_OFFSET, [], b"x") == (6, 0, 0, False, [], last)
+
+    # {8} comes before {0} in the order of byte strings.
+    assert _set(8) < _set(0)

@@ -1,0 +1,54 @@
+"""Writes crates/vectors/stdin and crates/vectors/stdout, and counts.txt here."""
+
+import sys
+
+sys.dont_write_bytecode = True
+
+from pathlib import Path
+
+import cases
+import examples
+from dice import Dice
+from tape import Tape
+
+SEED = 20261115
+NEEDED = {
+    "c": [0, 1, 2, 3],
+    "o": [0, 1, 2, 3, 4],
+    "f": [0, 1, 2, 3, 4, 5, 6],
+    "k": [0, 1, 2, 3, 7, 8, 9, 10, 11, 12, 13],
+    "s": [0, 1, 2, 3, 4, 5, 6, 7, 8, 14],
+}
+NAMES = {"c": "list check", "o": "opening", "f": "plain feed", "k": "table check",
+         "s": "split feed"}
+
+
+def counts_text(counts):
+    lines = ["entry point     total  refusal:count"]
+    for name, numbers in NEEDED.items():
+        found = {number: times for (key, number), times in counts.items() if key == name}
+        assert sorted(found) == numbers, (name, found)
+        assert min(found.values()) >= 50, (name, found)
+        lines.append("%-2s %-11s %6d  %s" % (
+            name, NAMES[name], sum(found.values()),
+            " ".join("%d:%d" % (number, found[number]) for number in numbers)))
+    lines.append("all            %6d" % sum(counts.values()))
+    return "\n".join(lines) + "\n"
+
+
+def main():
+    examples.check()
+    tape = Tape()
+    cases.make(tape, Dice(SEED))
+    here = Path(__file__).resolve().parent
+    target = here.parent.parent / "crates" / "vectors"
+    target.mkdir(parents=True, exist_ok=True)
+    text = counts_text(tape.counts)
+    (target / "stdin").write_bytes(tape.stdin())
+    (target / "stdout").write_bytes(tape.stdout())
+    (here / "counts.txt").write_text(text)
+    sys.stderr.write(text)
+    sys.stderr.write("stdin %d bytes, stdout %d bytes\n" % (len(tape.stdin()), len(tape.stdout())))
+
+
+main()

@@ -1,0 +1,318 @@
+"""The rules of the matcher, over named tuples, sets of numbers and dicts.
+
+A set of states is a frozenset of numbers, a frontier likewise. Bytes are
+packed and unpacked at the edges of this file only. Every function takes any
+bytes and gives the answer that the rules fix for them.
+"""
+
+from collections import namedtuple
+from functools import lru_cache
+
+LAST_OFFSET = 4294967295
+UNUSED = 65535
+
+Edge = namedtuple("Edge", "low high source target")
+Accept = namedtuple("Accept", "state signature")
+Flow = namedtuple("Flow", "frontier offset rows")
+Table = namedtuple("Table", "classes parts rows splits")  # four byte lists
+Split = namedtuple("Split", "name members slots")
+Answer = namedtuple("Answer", "refusal consumed pairs all words record")
+
+
+# Numbers and sets as bytes
+
+def number(data):
+    return int.from_bytes(data, "little")
+
+
+def cut(data, size):
+    """The records of one fixed size that follow one another in data."""
+    return [data[at:at + size] for at in range(0, len(data), size)]
+
+
+@lru_cache(maxsize=20000)
+def unpack_set(data):
+    return frozenset(s for s in range(256) if data[s // 8] // 2 ** (s % 8) % 2 == 1)
+
+
+@lru_cache(maxsize=20000)
+def pack_set(members):
+    data = [0] * 32
+    for state in members:
+        data[state // 8] += 2 ** (state % 8)
+    return bytes(data)
+
+
+def unpack_flow(record):
+    return Flow(unpack_set(record[0:32]), number(record[32:36]), number(record[40:48]))
+
+
+def pack_flow(flow):
+    return (pack_set(flow.frontier) + flow.offset.to_bytes(4, "little")
+            + bytes(4) + flow.rows.to_bytes(8, "little"))
+
+
+# The signature list
+
+def sound(record):
+    """Whether one record of a list passes by itself."""
+    kind = record[0]
+    if kind == 1:
+        return (record[1] <= record[2] and record[3] == 0
+                and number(record[4:6]) <= 255 and number(record[6:8]) <= 255)
+    if kind == 2:
+        return set(record[1:6]) == {0} and number(record[6:8]) <= 255
+    if kind == 3:
+        return (set(record[1:4]) == {0}
+                and number(record[4:6]) <= 255 and number(record[6:8]) <= 255)
+    return False
+
+
+@lru_cache(maxsize=64)
+def list_refusal(data):
+    if len(data) == 0 or len(data) > 32768 or len(data) % 8 != 0:
+        return 1
+    records = cut(data, 8)
+    if not all(sound(record) for record in records):
+        return 2
+    if 2 not in {record[0] for record in records}:
+        return 3
+    return 0
+
+
+class Automaton:
+    """A good list, read into sets. Steps already worked out are kept."""
+
+    def __init__(self, data):
+        records = cut(data, 8)
+        self.edges = frozenset(
+            Edge(r[1], r[2], number(r[4:6]), number(r[6:8])) for r in records if r[0] == 1)
+        self.starts = frozenset(number(r[6:8]) for r in records if r[0] == 2)
+        self.accepts = frozenset(
+            Accept(number(r[4:6]), number(r[6:8])) for r in records if r[0] == 3)
+        self.steps = {}
+
+    def step(self, frontier, byte):
+        key = (frontier, byte)
+        if key not in self.steps:
+            self.steps[key] = frozenset(
+                e.target for e in self.edges
+                if e.low <= byte <= e.high and e.source in frontier)
+        return self.steps[key]
+
+    def signatures(self, frontier):
+        return sorted({a.signature for a in self.accepts if a.state in frontier})
+
+
+@lru_cache(maxsize=8)
+def automaton(data):
+    return Automaton(data)
+
+
+def open_flow(data, record):
+    """Refusal and record at exit."""
+    refusal = list_refusal(data)
+    if refusal:
+        return refusal, record
+    if len(record) != 48:
+        return 4, record
+    return 0, pack_flow(Flow(automaton(data).starts, 0, 0))
+
+
+# The split table
+
+def wrong_lists(table):
+    if len(table.classes) != 256 or max(table.classes) > 63:
+        return True
+    if len(table.parts) % 32 != 0 or not 1 <= len(table.parts) // 32 <= 1024:
+        return True
+    if len(table.splits) % 40 != 0 or not 1 <= len(table.splits) // 40 <= 4096:
+        return True
+    width = max(table.classes) + 1
+    return len(table.rows) != (len(table.parts) // 32) * width * 32
+
+
+class Decoded:
+    """A table whose four lists have the right lengths, read into sets."""
+
+    def __init__(self, table):
+        self.classes = list(table.classes)
+        self.width = max(self.classes) + 1
+        self.parts = [unpack_set(data) for data in cut(table.parts, 32)]
+        rows = [unpack_set(data) for data in cut(table.rows, 32)]
+        self.row = {(part, group): rows[part * self.width + group]
+                    for part in range(len(self.parts)) for group in range(self.width)}
+        self.splits = []
+        for record in cut(table.splits, 40):
+            slots = [number(record[at:at + 2]) for at in (32, 34, 36, 38)]
+            self.splits.append(Split(record[0:32], unpack_set(record[0:32]), slots))
+        self.first = {}
+        for split in self.splits:
+            self.first.setdefault(split.members, split)
+
+
+@lru_cache(maxsize=8)
+def decoded(table):
+    return Decoded(table)
+
+
+def used_slots(split):
+    return [slot for slot in split.slots if slot != UNUSED]
+
+
+def taken_slots(split):
+    if UNUSED in split.slots:
+        return split.slots[:split.slots.index(UNUSED)]
+    return split.slots
+
+
+def union(sets):
+    return frozenset().union(*sets)
+
+
+def breaks_9(table, bound):
+    before = None
+    for split in table.splits:
+        used = used_slots(split)
+        if [slot for slot in used if slot >= len(table.parts)]:
+            return True
+        if split.slots != used + [UNUSED] * (4 - len(used)):
+            return True
+        if used != sorted(set(used)):
+            return True
+        if len(used) > bound:
+            return True
+        if before is not None and not before < split.name:
+            return True
+        before = split.name
+    return False
+
+
+def breaks_10(table, nfa):
+    return any(table.row[part, table.classes[byte]] != nfa.step(members, byte)
+               for part, members in enumerate(table.parts) for byte in range(256))
+
+
+def breaks_11(table):
+    return any(split.members != union(table.parts[slot] for slot in used_slots(split))
+               for split in table.splits)
+
+
+def breaks_12(table, nfa):
+    return nfa.starts not in table.first
+
+
+def breaks_13(table, nfa):
+    return any(nfa.step(split.members, byte) not in table.first
+               for split in table.splits for byte in range(256))
+
+
+@lru_cache(maxsize=8)
+def deep_refusal(data, table):
+    """The lowest of 10 to 13, for a table that passes 1 to 9."""
+    nfa = automaton(data)
+    lists = decoded(table)
+    if breaks_10(lists, nfa):
+        return 10
+    if breaks_11(lists):
+        return 11
+    if breaks_12(lists, nfa):
+        return 12
+    if breaks_13(lists, nfa):
+        return 13
+    return 0
+
+
+def table_refusal(data, table, bound):
+    refusal = list_refusal(data)
+    if refusal:
+        return refusal
+    if bound not in (1, 2, 3, 4):
+        return 7
+    if wrong_lists(table):
+        return 8
+    if breaks_9(decoded(table), bound):
+        return 9
+    return deep_refusal(data, table)
+
+
+# The feeds
+
+def feed_refusal(data, record, start, piece):
+    """The lowest of 1 to 6, the tests that both feeds begin with."""
+    refusal = list_refusal(data)
+    if refusal:
+        return refusal
+    if len(record) != 48 or record[36:40] != bytes(4):
+        return 4
+    flow = unpack_flow(record)
+    if flow.rows > 256 * flow.offset:
+        return 4
+    if start != flow.offset:
+        return 5
+    if flow.offset + len(piece) > LAST_OFFSET:
+        return 6
+    return 0
+
+
+def run(nfa, record, words, piece, move):
+    """Feed byte by byte. move gives the new frontier and the rows read for a
+    frontier and a byte, or None where the split feed refuses with 14."""
+    room = len(words) // 2
+    flow = unpack_flow(record)
+    told = []
+    consumed = 0
+    refusal = 0
+    for byte in piece:
+        moved = move(flow.frontier, byte)
+        if moved is None:
+            refusal = 14
+            break
+        frontier, rows = moved
+        due = [(signature, flow.offset + 1) for signature in nfa.signatures(frontier)]
+        if len(told) + len(due) > room:
+            break
+        told += due
+        flow = Flow(frontier, flow.offset + 1, flow.rows + rows)
+        consumed += 1
+    written = [value for pair in told for value in pair]
+    return Answer(refusal, consumed, len(told), refusal == 0 and consumed == len(piece),
+                  written + words[len(written):], pack_flow(flow))
+
+
+def refused(refusal, words, record):
+    return Answer(refusal, 0, 0, False, words, record)
+
+
+def plain_feed(data, record, start, words, piece):
+    refusal = feed_refusal(data, record, start, piece)
+    if refusal:
+        return refused(refusal, words, record)
+    nfa = automaton(data)
+
+    def move(frontier, byte):
+        return nfa.step(frontier, byte), len(frontier)
+
+    return run(nfa, record, words, piece, move)
+
+
+def split_feed(data, table, bound, record, start, words, piece):
+    refusal = feed_refusal(data, record, start, piece)
+    if not refusal and bound not in (1, 2, 3, 4):
+        refusal = 7
+    if not refusal and wrong_lists(table):
+        refusal = 8
+    if refusal:
+        return refused(refusal, words, record)
+    lists = decoded(table)
+
+    def move(frontier, byte):
+        if frontier not in lists.first:
+            return None
+        taken = taken_slots(lists.first[frontier])
+        if len(taken) > bound or [slot for slot in taken if slot >= len(lists.parts)]:
+            return None
+        group = lists.classes[byte]
+        return union(lists.row[slot, group] for slot in taken), len(taken)
+
+    return run(automaton(data), record, words, piece, move)

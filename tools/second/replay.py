@@ -1,0 +1,62 @@
+"""Reads a stream of commands on standard input and writes the lines expected.
+
+Used to see that the stream can be read back: its output equals the file
+crates/vectors/stdout.
+"""
+
+import sys
+
+sys.dont_write_bytecode = True
+
+from model import Table
+from tape import Tape
+
+
+class Reader:
+    def __init__(self, data):
+        self.data = data
+        self.at = 0
+
+    def take(self, count):
+        assert self.at + count <= len(self.data)
+        self.at += count
+        return self.data[self.at - count:self.at]
+
+    def number(self, count):
+        return int.from_bytes(self.take(count), "little")
+
+    def block(self):
+        return self.take(self.number(4))
+
+
+def replay(data, tape):
+    reader = Reader(data)
+    while reader.at < len(data):
+        command = reader.take(1)
+        if command == b"L":
+            tape.load_list(reader.block())
+        elif command == b"T":
+            tape.load_table(Table(reader.block(), reader.block(), reader.block(), reader.block()))
+        elif command == b"R":
+            tape.load_record(reader.block())
+        elif command == b"c":
+            tape.check_list()
+        elif command == b"o":
+            tape.open()
+        elif command == b"f":
+            start, words, piece = reader.number(8), reader.number(4), reader.block()
+            tape.feed(start, words, piece)
+        elif command == b"k":
+            tape.check_table(reader.number(8))
+        elif command == b"s":
+            bound, start, words, piece = (reader.number(8), reader.number(8), reader.number(4),
+                                          reader.block())
+            tape.split_feed(bound, start, words, piece)
+        else:
+            raise ValueError("no such command: %r" % command)
+
+
+if __name__ == "__main__":
+    result = Tape()
+    replay(sys.stdin.buffer.read(), result)
+    sys.stdout.buffer.write(result.stdout())

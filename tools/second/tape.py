@@ -1,0 +1,114 @@
+"""The stream of commands and the lines expected for them.
+
+A tape holds the same state as the program that replays the stream: the
+current list, table and record. Each method writes one command, and where the
+command answers, works out its line with the model.
+"""
+
+import model
+
+# Word i of a lent buffer holds this number plus i before each feed.
+WORD_FILL = 2774138880
+
+
+def digest(data):
+    value = 0
+    for byte in data:
+        value = (value * 257 + byte + 1) % 4294967291
+    return value
+
+
+def digest_words(words):
+    return digest(b"".join(word.to_bytes(4, "little") for word in words))
+
+
+def u32(value):
+    return value.to_bytes(4, "little")
+
+
+def u64(value):
+    return value.to_bytes(8, "little")
+
+
+def block(data):
+    return u32(len(data)) + data
+
+
+class Tape:
+    def __init__(self):
+        self.commands = []
+        self.lines = []
+        self.counts = {}
+        self.list = b""
+        self.table = model.Table(b"", b"", b"", b"")
+        self.record = b""
+
+    # Loading. Nothing is written when the content is already current.
+
+    def load_list(self, data):
+        assert len(data) <= 33000
+        if data != self.list or not self.commands:
+            self.list = data
+            self.commands.append(b"L" + block(data))
+
+    def load_table(self, table):
+        for data, most in zip(table, (300, 33000, 131200, 164000)):
+            assert len(data) <= most
+        if table != self.table:
+            self.table = table
+            self.commands.append(b"T" + b"".join(block(data) for data in table))
+
+    def load_record(self, record):
+        assert len(record) <= 64
+        if record != self.record:
+            self.record = record
+            self.commands.append(b"R" + block(record))
+
+    # Commands that answer.
+
+    def _answer(self, command, name, values):
+        self.commands.append(command)
+        self.lines.append(" ".join([name] + [str(int(value)) for value in values]))
+        key = (name, values[0])
+        self.counts[key] = self.counts.get(key, 0) + 1
+        return values[0]
+
+    def check_list(self):
+        return self._answer(b"c", "c", [model.list_refusal(self.list)])
+
+    def open(self):
+        refusal, self.record = model.open_flow(self.list, self.record)
+        return self._answer(b"o", "o", [refusal, digest(self.record)])
+
+    def check_table(self, bound):
+        return self._answer(b"k" + u64(bound), "k",
+                            [model.table_refusal(self.list, self.table, bound)])
+
+    def _fed(self, command, name, answer):
+        self.record = answer.record
+        self._answer(command, name, [
+            answer.refusal, answer.consumed, answer.pairs, answer.all,
+            digest_words(answer.words), digest(answer.record)])
+        return answer
+
+    def feed(self, start, words, piece):
+        assert words <= 1200 and len(piece) <= 4200
+        buffer = [WORD_FILL + i for i in range(words)]
+        answer = model.plain_feed(self.list, self.record, start, buffer, piece)
+        return self._fed(b"f" + u64(start) + u32(words) + block(piece), "f", answer)
+
+    def split_feed(self, bound, start, words, piece):
+        assert words <= 1200 and len(piece) <= 4200
+        buffer = [WORD_FILL + i for i in range(words)]
+        answer = model.split_feed(self.list, self.table, bound, self.record, start,
+                                  buffer, piece)
+        return self._fed(b"s" + u64(bound) + u64(start) + u32(words) + block(piece),
+                         "s", answer)
+
+    # The two files.
+
+    def stdin(self):
+        return b"".join(self.commands)
+
+    def stdout(self):
+        return "".join(line + "\n" for line in self.lines).encode("ascii")
