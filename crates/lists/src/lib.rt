@@ -3,7 +3,7 @@ use sets::SigSet;
 use sets::StateSet;
 ghost use mathlib.Core.Path.{_≡_};
 ghost use mathlib.Core.Bool.{cond};
-ghost use Prim.Native.Nat.{_<_, _^_};
+ghost use Prim.Native.Nat.{_+_, _<_, _^_};
 ghost use lib.ListN.{getD};
 ghost use Rattle.sets.specs.Set.{states, signatures, setOf, sigsOf, holds, join, insert};
 ghost use Rattle.lists.specs.List.{recordSize, records, word, byteOf, wordOf, isEdge, isStart, isAccept, from, target, zeros, goodEdge, goodStart, goodAccept, goodRecord, badLength, badRecord, noStart, listRefusal};
@@ -55,15 +55,15 @@ fn byte_of(l: &[u8], i: usize, k: usize) -> u8
     requires { ⌜ (i < records (now l)) × (k < recordSize) ⌝ }
     ensures { λ r. ⌜ r ≡ byteOf (now (l .entry)) i k ⌝ }
 {
-    byte_at(l, RECORD_SIZE * i + k)
+    l[RECORD_SIZE * i + k]
 }
 
 // The number at bytes k and k + 1 of record i.
 fn word_of(l: &[u8], i: usize, k: usize) -> usize
-    requires { ⌜ (i < records (now l)) × (k < recordSize) ⌝ }
+    requires { ⌜ (i < records (now l)) × (k + 1 < recordSize) ⌝ }
     ensures { λ r. ⌜ r ≡ wordOf (now (l .entry)) i k ⌝ }
 {
-    word_at(l, RECORD_SIZE * i + k)
+    byte_of(l, i, k) as usize + 256 * (byte_of(l, i, k + 1) as usize)
 }
 
 // Says whether record i is an edge.
