@@ -1,15 +1,18 @@
 // The program as a library: it reads rules.bin and standard input, feeds the flow, and writes a line for each pair.
+// A write that fails stops nothing: the program goes on to its end, and its exit status does not tell.
 ghost use mathlib.Core.Path.{_≡_};
 ghost use Prim.Native.Nat.{_+_, _*_, _≤_, _<_};
-ghost use lib.ListN.{length};
+ghost use mathlib.Core.List.{[], _∷_};
+ghost use lib.ListN.{length, take};
 ghost use Rattle.io.specs.Counts.{Counts};
 ghost use Rattle.flows.specs.Flow.{mostOffset};
-ghost use Rattle.app.specs.App.{pairWords, lineSize, Step};
+ghost use Rattle.app.specs.App.{pairWords, Step};
+ghost use Rattle.app.specs.Text.{mostDigits, lineSize, decimal, line, lines, Puts};
 
 // Words of the pairs buffer: room for 1,024 pairs, four times what one byte can tell.
 const PAIR_WORDS: usize = 2048;
 
-// The most digits of a number, and the most bytes of a line: two numbers, a space and a line feed.
+// The most digits of a number.
 const DIGITS: usize = 20;
 
 // Bytes of a piece of the input.
@@ -28,18 +31,10 @@ struct Turn {
     read: usize,
 }
 
-// The smaller of two numbers.
-fn least(a: usize, b: usize) -> usize
-    ensures { λ r. ⌜ r ≤ b ⌝ }
-{
-    if a < b { a } else { b }
-}
-
 // Puts a byte at a place of the text; answers the place after it.
 fn put_byte(text: &mut [u8], at: usize, b: u8) -> usize
     requires { ⌜ at < length (now text) ⌝ }
-    ensures { λ r. ⌜ r ≡ at + 1 ⌝ }
-    ensures { λ _. ⌜ length (now (text .exit)) ≡ length (now (text .entry)) ⌝ }
+    ensures { λ r. ⌜ Puts 1 (b ∷ []) (now (text .entry)) at r (now (text .exit)) ⌝ }
 {
     text[at] = b;
     at + 1
@@ -47,9 +42,8 @@ fn put_byte(text: &mut [u8], at: usize, b: u8) -> usize
 
 // Puts the first k digits at a place of the text; answers the place after them.
 fn put_digits(text: &mut [u8], at: usize, digits: &[u8; DIGITS], k: usize) -> usize
-    requires { ⌜ (at + 20 ≤ length (now text)) × (k ≤ 20) ⌝ }
-    ensures { λ r. ⌜ r ≤ at + 20 ⌝ }
-    ensures { λ _. ⌜ length (now (text .exit)) ≡ length (now (text .entry)) ⌝ }
+    requires { ⌜ (at + mostDigits ≤ length (now text)) × (k ≤ mostDigits) × (k ≤ length (now digits)) ⌝ }
+    ensures { λ r. ⌜ Puts mostDigits (take k (now (digits .entry))) (now (text .entry)) at r (now (text .exit)) ⌝ }
 {
     for i in 0..k {
         text[at + i] = digits[i];
@@ -59,20 +53,18 @@ fn put_digits(text: &mut [u8], at: usize, digits: &[u8; DIGITS], k: usize) -> us
 
 // Puts a number in decimal at a place of the text; answers the place after it.
 fn put_number(text: &mut [u8], at: usize, n: u64) -> usize
-    requires { ⌜ at + 20 ≤ length (now text) ⌝ }
-    ensures { λ r. ⌜ r ≤ at + 20 ⌝ }
-    ensures { λ _. ⌜ length (now (text .exit)) ≡ length (now (text .entry)) ⌝ }
+    requires { ⌜ at + mostDigits ≤ length (now text) ⌝ }
+    ensures { λ r. ⌜ Puts mostDigits (decimal n) (now (text .entry)) at r (now (text .exit)) ⌝ }
 {
     let mut digits = [0u8; DIGITS];
     let k = io::decimal(n, &mut digits);
-    put_digits(text, at, &digits, least(k, DIGITS))
+    put_digits(text, at, &digits, k)
 }
 
 // Puts the line of a pair: signature, a space, offset, a line feed.
 fn put_pair(text: &mut [u8], at: usize, signature: u32, offset: u32) -> usize
     requires { ⌜ at + lineSize ≤ length (now text) ⌝ }
-    ensures { λ r. ⌜ r ≤ at + lineSize ⌝ }
-    ensures { λ _. ⌜ length (now (text .exit)) ≡ length (now (text .entry)) ⌝ }
+    ensures { λ r. ⌜ Puts lineSize (line signature offset) (now (text .entry)) at r (now (text .exit)) ⌝ }
 {
     let a = put_number(text, at, signature as u64);
     let b = put_byte(text, a, b' ');
@@ -80,10 +72,11 @@ fn put_pair(text: &mut [u8], at: usize, signature: u32, offset: u32) -> usize
     put_byte(text, c, b'\n')
 }
 
-// Puts the lines of the first n pairs of the words; answers where the text ends.
+// Puts the lines of the first n pairs of the words at the text's start; answers where they end.
 fn put_pairs(text: &mut [u8], out: &[u32], n: usize) -> usize
     requires { ⌜ (2 * n ≤ length (now out)) × (lineSize * n ≤ length (now text)) ⌝ }
     ensures { λ r. ⌜ Counts r (now (text .exit)) ⌝ }
+    ensures { λ r. ⌜ take r (now (text .exit)) ≡ lines (now (out .entry)) n ⌝ }
 {
     let mut at: usize = 0;
     for i in 0..n {
@@ -92,7 +85,7 @@ fn put_pairs(text: &mut [u8], out: &[u32], n: usize) -> usize
     at
 }
 
-// Writes the lines of the first n pairs in one call.
+// Writes the lines of the first n pairs in one call; no pairs, no call.
 fn tell(out: &[u32], n: usize)
     requires { ⌜ (2 * n ≤ length (now out)) × (2 * n ≤ pairWords) ⌝ }
 {
@@ -181,7 +174,7 @@ fn feed_all(list: &[u8], flow: &mut [u8]) -> Stand {
     }
 }
 
-// Reads rules.bin into the list; answers how many bytes it has, none where it cannot be opened.
+// Reads rules.bin into the list, up to its end, a read that fails, or the list's size; answers how many bytes came, none where it cannot be opened.
 fn read_rules(list: &mut [u8]) -> usize
     ensures { λ r. ⌜ Counts r (now (list .exit)) ⌝ }
 {
@@ -221,7 +214,7 @@ fn watch(list: &[u8]) {
     finish(s);
 }
 
-// The program.
+// The program. The list's buffer holds more than the longest list, so a longer one is seen as too long.
 pub fn start() {
     let mut list = io::large_buffer();
     let n = read_rules(&mut list);
