@@ -4,6 +4,8 @@ use mathlib.Core.Path.{_≡_, refl, sym, ap, _∙_}
 use mathlib.Core.List.{List, [], _∷_, _++_, append-assoc, append-nil}
 use mathlib.Core.Bool.{Bool, true, false, cond}
 use native.Mathlib.Omega.{arith}
+use native.Mathlib.Nat.{lt-of-not-le}
+use native.Mathlib.Decide.{decLt}
 use lib.ListN.{length, getD, set, take, drop, length-append, length-drop, take-append-drop}
 use lib.Seq.{drop-cons, drop-drop, take-at, drop-at, set-at, drop-length, length-take-le}
 use lib.Dec.{leb}
@@ -11,6 +13,7 @@ use borrow.Author.Tests.{le-leb, leb-true}
 use Rattle.sets.specs.Set.{signatures, setSize, digits, setBytes, holds, members, placed}
 use Rattle.sets.proofs.Laws.{length-digits}
 use Rattle.sets.proofs.Members.{members-in, members-out}
+use Rattle.sets.proofs.Bytes.{placed-out}
 use Rattle.flows.specs.Engine.{pairsAt}
 use Rattle.flows.specs.Flow.{flowSize, flow}
 use Rattle.flows.proofs.Runs.{pairsAt-length}
@@ -37,6 +40,11 @@ pub placed-none : (b : List ℕ) (at : ℕ) → at ≤ length b → b ≡ placed
 placed-none b at l =
     let e : at + 0 ≡ at = omega arith in
     sym (placed-fits b at [] (omega arith) ∙ rw (e, append-nil (take at b)) (take-append-drop at b))
+
+-- and nothing at all, put at any place
+pub placed-empty : (b : List ℕ) (at : ℕ) (xs : List ℕ) → length xs ≡ 0 → b ≡ placed b at xs
+placed-empty b at [] e = elim (decLt (length b) at) [ yes l ↦ placed-out b at [] (omega arith) | no n ↦ placed-none b at (omega (arith, lt-of-not-le (λ (l : suc (length b) ≤ at). n l))) ]
+placed-empty b at (x ∷ xs) e = absurd (omega arith)
 
 -- one element after what is written
 pub placed-one : (b : List ℕ) (at : ℕ) (xs : List ℕ) (x : ℕ) → at + length xs < length b

@@ -144,8 +144,12 @@ fn tell_all(out: &mut [u32], at: usize, g: SigSet, offset: u32)
 pub fn tell(out: &mut [u32], at: usize, g: SigSet, offset: u32)
     ensures { λ res. ⌜ now (out .exit) ≡ placed (now (out .entry)) at (pairsAt offset (members signatures (sigsOf g))) ⌝ }
 {
+    let n = g.count() as usize;
+    if n == 0 {
+        return;
+    }
     if at <= out.len() {
-        if g.count() as usize <= (out.len() - at) / 2 {
+        if n <= (out.len() - at) / 2 {
             tell_all(out, at, g, offset);
         }
     }
