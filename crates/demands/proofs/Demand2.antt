@@ -3,17 +3,22 @@ use Prim.Native.Nat.{ℕ, zero, suc, _+_, _*_, _^_, _≤_, _<_}
 use mathlib.Core.Path.{_≡_, refl, sym, ap, _∙_, subst}
 use mathlib.Core.Bool.{Bool, true, false, not, true≢false}
 use mathlib.Core.List.{List, [], _∷_, _++_}
+use mathlib.Core.Logic.{_↔_}
 use native.Mathlib.Omega.{arith}
 use native.Mathlib.Nat.{mul-add}
 use lib.ListN.{length, take}
 use borrow.Author.Tests.{eq-eqb}
-use Rattle.sets.specs.Set.{states, signatures}
+use Rattle.sets.specs.Set.{states, signatures, holds}
 use Rattle.lists.specs.Scan.{verdict}
+use Rattle.lists.specs.Automaton.{accepted}
+use Rattle.lists.proofs.Steps.{accepted-exactly}
 use Rattle.lists.proofs.Rules.{passes}
+use Rattle.flows.specs.Pairs.{Pair}
 use Rattle.flows.specs.Engine.{Engine, Layout, Outcome, room, run, costs, told, consumed, ended, refused, feed}
 use Rattle.flows.specs.Flow.{flowLayout, frontierOf, offsetOf, rowsOf, flow, badFlow, otherStart, mostOffset}
 use Rattle.flows.specs.Calls.{Bytes, Asked, answer, recordAfter, allTold, allBytes, Along}
-use Rattle.flows.proofs.Runs.{consumed-most, consumed-fits, consumed-longest, costs-most, bytes-take, length-take-most}
+use Rattle.flows.proofs.Runs.{run-more, consumed-most, consumed-fits, consumed-longest, costs-most, bytes-take, length-take-most}
+use Rattle.flows.proofs.Told.{told-exactly, told-ordered}
 use Rattle.flows.proofs.Follows.{follows-within}
 use Rattle.flows.proofs.Records.{frontier-lt, flow-good}
 use Rattle.flows.proofs.Moves.{feed-bytes, no-refusal, feed-moves}
@@ -72,6 +77,19 @@ plainly-fair L R c f v =
       short = q .short;
     }
 
+-- a signature that the next frontier accepts is one of all signatures
+accepted-below : (L : List ℕ) (F g : ℕ) → holds (accepted L F) g ≡ true → g < signatures
+accepted-below L F g e = accepted-exactly L F g .0 e .0
+
+-- the pairs that the automaton tells of some bytes, by the frontiers after them
+told-due : (L : List ℕ) (F k : ℕ) (bs : List ℕ) (g o : ℕ) → Pair (told (plain L) F k bs) g o
+    ↔ ((n : ℕ) × (n < length bs) × (o ≡ k + suc n) × (holds (accepted L (run (plain L) F (take (suc n) bs))) g ≡ true))
+told-due L F k bs g o =
+    let e = told-exactly (plain L) F k bs g o in (
+      λ p. let w = e .0 p in (w .0, w .1, w .2, rw (run-more (plain L) F bs (w .0) (w .1)) (w .4)),
+      λ w. let q = rw (run-more (plain L) F bs (w .0) (w .1)) at (w .3) in e .1 (w .0, w .1, w .2, accepted-below L _ g q, q),
+    )
+
 pub demand-2 : (L R : List ℕ) (cs : List Call) → Bytes R → InBytes cs → Each (Plainly L) R cs → Demand2 L R cs
 demand-2 L R cs hR hb h =
     let fair = each-along (Plainly L) (Fair flowLayout (plain L) (Equal IsSet) states) (plainly-fair L) R cs h in
@@ -82,6 +100,8 @@ demand-2 L R cs hR hb h =
     (λ Q c f v F G r. ap (λ (E : Engine ℕ). E .cost F) (plainly-one L Q c f v .engine) ∙ ap (plain L .cost) (r .0)) R cs h in
     record {
       tells = w .tells;
+      due = λ g k. rw (w .tells) (told-due L (frontierOf R) (offsetOf R) (bytesOf R cs) g k);
+      ordered = rw (w .tells) (told-ordered (plain L) (frontierOf R) (offsetOf R) (bytesOf R cs));
       frontier = w .related .0;
       offset = w .moved;
       rows = w .rows ∙ ap (λ (n : ℕ). rowsOf R + n) (one-engine flowLayout (plain L) (Equal IsSet) states sound (plain L) refl (allAsked cs) R (frontierOf R) fair pieces (refl, at) same);

@@ -5,10 +5,11 @@ use mathlib.Core.List.{List, [], _∷_, _++_}
 use mathlib.Core.Logic.{_⊎_, _↔_}
 use mathlib.Core.Path.{_≡_}
 use lib.ListN.{length, take, drop, getD}
-use Rattle.sets.specs.Set.{states, signatures}
+use Rattle.sets.specs.Set.{signatures, holds}
 use Rattle.lists.specs.Scan.{Rule, verdict, number, Given, Refuses}
 use Rattle.lists.specs.List.{listRules, listRefusal}
-use Rattle.lists.specs.Automaton.{start, step}
+use Rattle.lists.specs.Automaton.{start, accepted}
+use Rattle.flows.specs.Pairs.{Pair, Before}
 use Rattle.flows.specs.Engine.{Engine, Outcome, run, costs, told, amount, room}
 use Rattle.flows.specs.Flow.{flowLayout, frontierOf, offsetOf, rowsOf, badFlow, otherStart, feedRules}
 use Rattle.flows.specs.Calls.{Bytes, recordAfter, allTold, allBytes, allRows, refusals, Along, Asked}
@@ -101,6 +102,11 @@ pub record Longest (E : Engine ℕ) (F most : ℕ) (piece : List ℕ) (n : ℕ) 
 pub record Demand2 (L R : List ℕ) (cs : List Call) : Type 0 where
   -- exactly the pairs of the definition on the bytes consumed, going on from the saved frontier
   pub tells : wordsOf R cs ≡ told (plain L) (frontierOf R) (offsetOf R) (bytesOf R cs)
+  -- in the automaton's words: (g, k) is told exactly when k is the offset after one of those bytes and a state of the frontier there accepts g
+  pub due : (g k : ℕ) → Pair (wordsOf R cs) g k
+      ↔ ((n : ℕ) × (n < length (bytesOf R cs)) × (k ≡ offsetOf R + suc n) × (holds (accepted L (run (plain L) (frontierOf R) (take (suc n) (bytesOf R cs)))) g ≡ true))
+  -- by offset and then signature, both rising, so that no pair is told twice
+  pub ordered : (i j : ℕ) → i < j → 2 * j + 1 < length (wordsOf R cs) → Before (wordsOf R cs) i j
   -- and the record goes on from there
   pub frontier : frontierOf (after R cs) ≡ run (plain L) (frontierOf R) (bytesOf R cs)
   pub offset : offsetOf (after R cs) ≡ offsetOf R + length (bytesOf R cs)

@@ -76,6 +76,13 @@ module _ {C : Type 0} (E : Engine C) where
   run-append x [] ys = refl
   run-append x (c ∷ xs) ys = run-append (E .next x c) xs ys
 
+  -- one byte more
+  pub run-more : (x : C) (cs : List ℕ) (n : ℕ) → n < length cs → run E x (take (suc n) cs) ≡ E .next (run E x (take n cs)) (getD cs n 0)
+  unfolding run
+  run-more x [] n h = absurd (omega arith)
+  run-more x (c ∷ cs) zero h = refl
+  run-more x (c ∷ cs) (suc n) h = run-more (E .next x c) cs n (omega arith)
+
   -- the rows add up
   pub costs-append : (x : C) (xs ys : List ℕ) → costs E x (xs ++ ys) ≡ costs E x xs + costs E (run E x xs) ys
   unfolding run costs

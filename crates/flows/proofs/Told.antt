@@ -10,18 +10,9 @@ use native.Mathlib.Decide.{decLt}
 use lib.ListN.{length, getD, take, length-append, List·getD-append}
 use lib.Seq.{getD-append-add}
 use Rattle.sets.specs.Set.{signatures, holds}
+use Rattle.flows.specs.Pairs.{Pair, Before}
 use Rattle.flows.specs.Engine.{Engine, due, run, pairsAt, told}
 use Rattle.flows.proofs.Runs.{pairsAt-length, due-rises, due-exactly}
-
--- the pair (g, o) stands among the words: its signature at an even place, its offset at the next
-abbrev pub Pair : List ℕ → ℕ → ℕ → Type 0
-Pair ws g o = (i : ℕ) × (2 * i + 1 < length ws) × (getD ws (2 * i) 0 ≡ g) × (getD ws (2 * i + 1) 0 ≡ o)
-
--- the pair at place i is before that at place j: by offset, and at one offset by signature
-abbrev Before : List ℕ → ℕ → ℕ → Type 0
-Before ws i j =
-    (getD ws (2 * i + 1) 0 < getD ws (2 * j + 1) 0)
-    ⊎ ((getD ws (2 * i + 1) 0 ≡ getD ws (2 * j + 1) 0) × (getD ws (2 * i) 0 < getD ws (2 * j) 0))
 
 -- a number is below another, or not
 side : (i m : ℕ) → (i < m) ⊎ (m ≤ i)

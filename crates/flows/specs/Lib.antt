@@ -1,3 +1,4 @@
+pub mod Pairs
 pub mod Engine
 pub mod Flow
 pub mod Calls
