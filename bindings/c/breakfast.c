@@ -1,0 +1,126 @@
+/* Watches a flow by the list of examples/two-breakfasts, as the program does, over the C face.
+ *
+ *     tools/build-c
+ *     gcc -std=c11 -Wall -Wextra -Werror -Iinclude bindings/c/breakfast.c include/libwatch_c.a -o target/breakfast
+ *     target/breakfast examples/two-breakfasts/twice
+ *
+ * Usage: breakfast FLOW [RULES]. Writes a line for each pair, signature and offset, and last `end` and the offset, or `refused` and the number.
+ * It goes about it in the most awkward way that a device may have to:
+ *
+ *   - the flow arrives in pieces of 7 bytes;
+ *   - between pieces the flow record is saved to a file and loaded again, as if the box had been switched off;
+ *   - the buffer for pairs begins with a single word, which is no room at all, so the feed pauses at each byte that tells a
+ *     pair. The rest of the piece is then fed from its middle, and where not a byte was consumed, with a larger room.
+ *
+ * How many pieces, pauses and saved records there were goes to standard error. The exit status is 0 where the flow ended, 1 where it was
+ * refused, 2 where a file could not be read.
+ */
+#include <inttypes.h>
+#include <stdio.h>
+#include <stdlib.h>
+
+#include "watch.h"
+
+/* The longest list is 32,768 bytes; one byte more shows that a list is too long. */
+enum { MOST_LIST = 32768, PIECE = 7 };
+
+static unsigned pieces, pauses, saves;
+
+static void fail(const char *what, const char *name)
+{
+    fprintf(stderr, "breakfast: cannot %s %s\n", what, name);
+    exit(2);
+}
+
+static FILE *opened(const char *name)
+{
+    FILE *file = fopen(name, "rb");
+    if (file == NULL)
+        fail("open", name);
+    return file;
+}
+
+/* Writes the flow record to the file and forgets it; then reads it back. */
+static void save_and_load(FILE *disk, uint8_t flow[WATCH_FLOW_SIZE])
+{
+    rewind(disk);
+    if (fwrite(flow, 1, WATCH_FLOW_SIZE, disk) != WATCH_FLOW_SIZE || fflush(disk) != 0)
+        fail("write", "the record");
+    for (int i = 0; i < WATCH_FLOW_SIZE; i++)
+        flow[i] = 0xEE;
+    rewind(disk);
+    if (fread(flow, 1, WATCH_FLOW_SIZE, disk) != WATCH_FLOW_SIZE)
+        fail("read", "the record");
+    saves++;
+}
+
+/* Feeds a whole piece that begins at `start`, whatever pauses it takes, and prints its pairs. Answers the refusal, or 0. */
+static uint32_t feed_piece(const uint8_t *list, size_t list_len, uint8_t *flow, uint64_t start,
+                           const uint8_t *piece, size_t piece_len)
+{
+    uint32_t pairs[WATCH_ENOUGH_WORDS];
+    size_t words = 1;
+    for (;;) {
+        watch_fed fed = watch_feed(list, list_len, flow, WATCH_FLOW_SIZE, start, piece, piece_len, pairs, words);
+        for (uint64_t i = 0; i < fed.pairs; i++)
+            printf("%" PRIu32 " %" PRIu32 "\n", pairs[2 * i], pairs[2 * i + 1]);
+        if (fed.refusal != 0)
+            return fed.refusal;
+        if (fed.all)
+            return 0;
+        pauses++;
+        /* A feed that stood still gets more room. With WATCH_ENOUGH_WORDS none does, so this ends. */
+        if (fed.bytes == 0)
+            words = 2 * words + 1 < WATCH_ENOUGH_WORDS ? 2 * words + 1 : WATCH_ENOUGH_WORDS;
+        else
+            words = 1;
+        start += fed.bytes;
+        piece += fed.bytes;
+        piece_len -= fed.bytes;
+    }
+}
+
+int main(int argc, char **argv)
+{
+    if (argc != 2 && argc != 3) {
+        fprintf(stderr, "usage: breakfast FLOW [RULES]\n");
+        return 2;
+    }
+    const char *rules = argc == 3 ? argv[2] : "examples/two-breakfasts/rules.bin";
+
+    static uint8_t list[MOST_LIST + 1];
+    FILE *file = opened(rules);
+    size_t list_len = fread(list, 1, sizeof list, file);
+    fclose(file);
+
+    uint8_t flow[WATCH_FLOW_SIZE];
+    uint32_t refusal = watch_open(list, list_len, flow, sizeof flow);
+    if (refusal != 0) {
+        printf("refused %" PRIu32 "\n", refusal);
+        return 1;
+    }
+
+    FILE *disk = tmpfile();
+    if (disk == NULL)
+        fail("make", "a file for the record");
+    file = opened(argv[1]);
+    uint8_t piece[PIECE];
+    uint64_t offset = 0;
+    size_t piece_len;
+    while ((piece_len = fread(piece, 1, sizeof piece, file)) != 0) {
+        save_and_load(disk, flow);
+        pieces++;
+        refusal = feed_piece(list, list_len, flow, offset, piece, piece_len);
+        if (refusal != 0)
+            break;
+        offset += piece_len;
+    }
+    fclose(file);
+    fclose(disk);
+    if (refusal != 0)
+        printf("refused %" PRIu32 "\n", refusal);
+    else
+        printf("end %" PRIu64 "\n", offset);
+    fprintf(stderr, "breakfast: %u pieces, %u pauses, %u records saved\n", pieces, pauses, saves);
+    return refusal != 0;
+}

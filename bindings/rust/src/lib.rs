@@ -1,0 +1,495 @@
+//! A signature matcher whose code is proved: for every list, table, saved record and piece of bytes it does what its rules say.
+//!
+//! A [`List`] of signatures is an automaton. A [`Flow`] of bytes is fed to it in pieces, and each time that a signature ends there is a
+//! [`Pair`]: the signature's number and the offset at which it ends. A flow is 48 bytes, so it can be saved between any two pieces.
+//!
+//! ```
+//! use watch::{Flow, List, Pair};
+//!
+//! // Signature 7 after any "ab".
+//! let bytes = [
+//!     1, 0x00, 0xFF, 0, 0, 0, 0, 0, // edge: on any byte, from state 0 to state 0
+//!     1, b'a', b'a', 0, 0, 0, 1, 0, // edge: on 'a', from state 0 to state 1
+//!     1, b'b', b'b', 0, 1, 0, 2, 0, // edge: on 'b', from state 1 to state 2
+//!     2, 0, 0, 0, 0, 0, 0, 0, //       start: state 0
+//!     3, 0, 0, 0, 2, 0, 7, 0, //       accept: state 2 tells signature 7
+//! ];
+//! let list = List::check(&bytes)?;
+//! let mut flow = Flow::open(&list);
+//! let mut words = [0; 512];
+//!
+//! let fed = flow.feed(&list, 0, b"abab", &mut words)?;
+//! assert!(fed.all);
+//! let told: Vec<Pair> = fed.told(&words).collect();
+//! assert_eq!(told, [Pair { signature: 7, offset: 2 }, Pair { signature: 7, offset: 4 }]);
+//! # Ok::<(), watch::Refusal>(())
+//! ```
+//!
+//! # Room and pauses
+//!
+//! Pairs go into a lent buffer of words, two a pair. A feed consumes the longest front of the piece whose pairs all fit; where that is not
+//! the whole piece, it has paused, and the rest is fed from its middle:
+//!
+//! ```
+//! # use watch::{Flow, List, Refusal};
+//! fn watch_all(list: &List, flow: &mut Flow, piece: &[u8], mut alarm: impl FnMut(watch::Pair)) -> Result<(), Refusal> {
+//!     let mut words = [0; watch::ENOUGH_WORDS];
+//!     let mut rest = piece;
+//!     loop {
+//!         let start = u64::from(flow.offset());
+//!         let fed = flow.feed(list, start, rest, &mut words)?;
+//!         fed.told(&words).for_each(&mut alarm);
+//!         rest = &rest[fed.bytes..];
+//!         if fed.all {
+//!             return Ok(());
+//!         }
+//!     }
+//! }
+//! # let bytes = *b"\x01\x00\xFF\0\0\0\0\0\x02\0\0\0\0\0\0\0\x03\0\0\0\0\0\x09\0";
+//! # let list = List::check(&bytes).unwrap();
+//! # let mut flow = Flow::open(&list);
+//! # let mut told = 0;
+//! # watch_all(&list, &mut flow, &[0; 1000], |_| told += 1).unwrap();
+//! # assert_eq!(told, 1000);
+//! ```
+//!
+//! With room for 256 pairs ([`ENOUGH_WORDS`]) a feed of a non-empty piece that is not refused consumes at least one byte, so such a loop ends.
+//!
+//! # Split tables
+//!
+//! A [`Table`] is an automaton worked out beforehand, with at most four rows read a byte. One that passes [`Table::check`] tells the same
+//! pairs as the plain feed.
+//!
+//! # Linking
+//!
+//! The code itself is the archive `libwatch_c.a`, for x86-64 and the System V calling convention. `tools/build-c` in the repository
+//! makes it. The build script links the archive in the folder that `WATCH_LIB_DIR` names, or, where that is not set, the newer of
+//! `include/libwatch_c.a` and `target/staticlib/libwatch_c.a` in the repository that this crate stands in. It has no other dependency.
+//!
+//! This wrapper is not proved. All that is unsafe in it is five calls, in which slices are handed on as pointers and lengths.
+
+#![deny(missing_docs)]
+#![deny(unsafe_op_in_unsafe_fn)]
+
+pub mod raw;
+mod refusal;
+
+pub use refusal::{Refusal, SplitError};
+
+use std::fmt;
+
+/// Bytes in a flow record.
+pub const FLOW_SIZE: usize = 48;
+
+/// Words with which a feed never stands still: room for 256 pairs.
+pub const ENOUGH_WORDS: usize = 512;
+
+/// A signature list that has passed its check.
+///
+/// It is 1 to 4,096 records of 8 bytes: edges `1 low high 0 from from to to`, starts `2 0 0 0 0 0 state state`, accepts
+/// `3 0 0 0 state state signature signature`. Two-byte numbers have the low byte first.
+#[derive(Clone, Copy, PartialEq, Eq)]
+pub struct List<'a> {
+    bytes: &'a [u8],
+}
+
+impl<'a> List<'a> {
+    /// Checks a list: refusals 1 to 3.
+    ///
+    /// ```
+    /// use watch::{List, Refusal};
+    ///
+    /// assert!(List::check(&[2, 0, 0, 0, 0, 0, 255, 0]).is_ok());
+    /// assert_eq!(List::check(&[2, 0, 0, 0, 0, 0, 0, 1]), Err(Refusal::ListRecord)); // state 256
+    /// assert_eq!(List::check(&[1, 0, 9, 0, 0, 0, 0, 0]), Err(Refusal::NoStart));
+    /// ```
+    pub fn check(bytes: &'a [u8]) -> Result<List<'a>, Refusal> {
+        // SAFETY: pointer and length are those of a slice that is borrowed over the call.
+        let number = unsafe { raw::watch_check_list(bytes.as_ptr(), bytes.len()) };
+        Refusal::verdict(number)?;
+        Ok(List { bytes })
+    }
+
+    /// The list's bytes.
+    pub fn as_bytes(&self) -> &'a [u8] {
+        self.bytes
+    }
+
+    /// The number of records.
+    pub fn records(&self) -> usize {
+        self.bytes.len() / 8
+    }
+}
+
+impl fmt::Debug for List<'_> {
+    fn fmt(&self, f: &mut fmt::Formatter<'_>) -> fmt::Result {
+        write!(f, "List({} records)", self.records())
+    }
+}
+
+/// A flow: its record of 48 bytes, which is all that has to be kept between two pieces.
+///
+/// Bytes 0-31 are the frontier, 32-35 the offset, 36-39 zero, 40-47 the rows read. Any 48 bytes make a `Flow`; a feed refuses those that
+/// can't have come from one. A record that was saved under another list is not told from a good one: it is run as it stands.
+///
+/// ```
+/// use watch::{Flow, List};
+///
+/// # let bytes = *b"\x01\x00\xFF\0\0\0\0\0\x01aa\0\0\0\x01\0\x01bb\0\x01\0\x02\0\x02\0\0\0\0\0\0\0\x03\0\0\0\x02\0\x07\0";
+/// let list = List::check(&bytes)?; // signature 7 after any "ab"
+/// let mut words = [0; 512];
+/// let mut flow = Flow::open(&list);
+/// flow.feed(&list, 0, b"a", &mut words)?;
+/// let saved: [u8; 48] = *flow.as_bytes();
+///
+/// let mut flow = Flow::from_bytes(saved);
+/// let fed = flow.feed(&list, 1, b"bab", &mut words)?;
+/// assert_eq!(words[..2 * fed.pairs], [7, 2, 7, 4]);
+/// # Ok::<(), watch::Refusal>(())
+/// ```
+#[derive(Clone, PartialEq, Eq, Hash)]
+pub struct Flow {
+    bytes: [u8; FLOW_SIZE],
+}
+
+impl Flow {
+    /// Opens a flow on a list: the start states, offset 0, no rows read. A list that has passed its check is never refused here.
+    pub fn open(list: &List<'_>) -> Flow {
+        let mut flow = Flow { bytes: [0; FLOW_SIZE] };
+        // SAFETY: the list is a borrowed slice; the record is this function's own.
+        let number =
+            unsafe { raw::watch_open(list.bytes.as_ptr(), list.bytes.len(), flow.bytes.as_mut_ptr(), FLOW_SIZE) };
+        assert_eq!(number, 0, "opening refuses nothing but a bad list and a record of another size");
+        flow
+    }
+
+    /// The flow with a record that was saved.
+    pub fn from_bytes(bytes: [u8; FLOW_SIZE]) -> Flow {
+        Flow { bytes }
+    }
+
+    /// The record, to be saved.
+    pub fn as_bytes(&self) -> &[u8; FLOW_SIZE] {
+        &self.bytes
+    }
+
+    /// The record, to be saved.
+    pub fn into_bytes(self) -> [u8; FLOW_SIZE] {
+        self.bytes
+    }
+
+    /// The number of bytes consumed since the opening.
+    pub fn offset(&self) -> u32 {
+        u32::from_le_bytes(self.bytes[32..36].try_into().expect("4 bytes"))
+    }
+
+    /// Rows read: for each byte consumed by a plain feed the states in the frontier before it, by a split feed the slots taken.
+    pub fn rows_read(&self) -> u64 {
+        u64::from_le_bytes(self.bytes[40..48].try_into().expect("8 bytes"))
+    }
+
+    /// The states in the frontier, rising.
+    ///
+    /// ```
+    /// # use watch::{Flow, List};
+    /// # let bytes = *b"\x02\0\0\0\0\0\x03\0\x02\0\0\0\0\0\xFF\0";
+    /// # let list = List::check(&bytes).unwrap();
+    /// // A list with the start states 3 and 255:
+    /// assert_eq!(Flow::open(&list).frontier().collect::<Vec<u8>>(), [3, 255]);
+    /// ```
+    pub fn frontier(&self) -> impl Iterator<Item = u8> + '_ {
+        (0..=255).filter(|&state| self.bytes[usize::from(state / 8)] >> (state % 8) & 1 == 1)
+    }
+
+    /// The plain feed of a piece that begins at offset `start` of the flow: refusals 1 to 6, which change nothing.
+    ///
+    /// The pairs of the bytes consumed are in the first `2 * pairs` words; later words stay as they are, an odd last word always.
+    ///
+    /// ```
+    /// # use watch::{Flow, List, Refusal};
+    /// # let bytes = *b"\x01\x00\xFF\0\0\0\0\0\x01aa\0\0\0\x01\0\x01bb\0\x01\0\x02\0\x02\0\0\0\0\0\0\0\x03\0\0\0\x02\0\x07\0";
+    /// let list = List::check(&bytes)?; // signature 7 after any "ab"
+    /// let mut flow = Flow::open(&list);
+    /// let mut words = [0; 2]; // room for one pair
+    ///
+    /// let fed = flow.feed(&list, 0, b"abab", &mut words)?;
+    /// assert_eq!((fed.bytes, fed.pairs, fed.all), (3, 1, false)); // paused before the second pair
+    /// assert_eq!(words, [7, 2]);
+    ///
+    /// let again = flow.feed(&list, 0, b"abab", &mut words);
+    /// assert_eq!(again, Err(Refusal::OtherStart)); // the flow is at 3
+    ///
+    /// let fed = flow.feed(&list, 3, b"b", &mut words)?;
+    /// assert_eq!((fed.bytes, fed.pairs, fed.all), (1, 1, true));
+    /// assert_eq!(words, [7, 4]);
+    /// # Ok::<(), Refusal>(())
+    /// ```
+    pub fn feed(&mut self, list: &List<'_>, start: u64, piece: &[u8], pairs: &mut [u32]) -> Result<Fed, Refusal> {
+        // SAFETY: each pointer and length is that of a slice that is borrowed over the call, and the two that are written are
+        // borrowed as mutable, so they overlap nothing.
+        let fed = unsafe {
+            raw::watch_feed(
+                list.bytes.as_ptr(),
+                list.bytes.len(),
+                self.bytes.as_mut_ptr(),
+                FLOW_SIZE,
+                start,
+                piece.as_ptr(),
+                piece.len(),
+                pairs.as_mut_ptr(),
+                pairs.len(),
+            )
+        };
+        Refusal::verdict(fed.refusal)?;
+        Ok(Fed::from_raw(fed))
+    }
+
+    /// The split feed of a piece that begins at offset `start` of the flow, by the table and the table's list.
+    ///
+    /// A flow that was opened on the list and fed by nothing but the list and a table that has passed its check is never halted.
+    ///
+    /// ```
+    /// # use watch::{Flow, List, SplitError, Table, TableLists};
+    /// # fn set(states: &[u8]) -> [u8; 32] {
+    /// #     let mut set = [0; 32];
+    /// #     states.iter().for_each(|s| set[usize::from(s / 8)] |= 1 << (s % 8));
+    /// #     set
+    /// # }
+    /// # let bytes = *b"\x01\x00\xFF\0\0\0\0\0\x02\0\0\0\0\0\0\0\x03\0\0\0\0\0\x09\0";
+    /// let list = List::check(&bytes)?; // signature 9 at every byte, by state 0
+    /// let classes = [0; 256];
+    /// let parts = set(&[0]);
+    /// let rows = set(&[0]);
+    /// let splits = [&set(&[0])[..], &[0, 0, 255, 255, 255, 255, 255, 255]].concat();
+    /// let table = Table::check(&list, 1, TableLists { classes: &classes, parts: &parts, rows: &rows, splits: &splits })?;
+    ///
+    /// let mut words = [0; 3];
+    /// let mut flow = Flow::open(&list);
+    /// let fed = flow.split_feed(&table, 0, b"x", &mut words)?;
+    /// assert_eq!((fed.all, words), (true, [9, 1, 0]));
+    ///
+    /// // A record from elsewhere, with a frontier that is no split: halted at its first byte.
+    /// let mut lost = Flow::from_bytes([0; 48]);
+    /// assert_eq!(lost.split_feed(&table, 0, b"x", &mut words), Err(SplitError::Halted { bytes: 0, pairs: 0 }));
+    /// # Ok::<(), SplitError>(())
+    /// ```
+    pub fn split_feed(
+        &mut self,
+        table: &Table<'_>,
+        start: u64,
+        piece: &[u8],
+        pairs: &mut [u32],
+    ) -> Result<Fed, SplitError> {
+        let (list, lists) = (table.list.bytes, table.lists);
+        // SAFETY: as in `feed`.
+        let fed = unsafe {
+            raw::watch_split_feed(
+                list.as_ptr(),
+                list.len(),
+                table.bound,
+                lists.classes.as_ptr(),
+                lists.classes.len(),
+                lists.parts.as_ptr(),
+                lists.parts.len(),
+                lists.rows.as_ptr(),
+                lists.rows.len(),
+                lists.splits.as_ptr(),
+                lists.splits.len(),
+                self.bytes.as_mut_ptr(),
+                FLOW_SIZE,
+                start,
+                piece.as_ptr(),
+                piece.len(),
+                pairs.as_mut_ptr(),
+                pairs.len(),
+            )
+        };
+        match Refusal::verdict(fed.refusal) {
+            Ok(()) => Ok(Fed::from_raw(fed)),
+            Err(Refusal::NoSplit) => {
+                let before = Fed::from_raw(fed);
+                Err(SplitError::Halted { bytes: before.bytes, pairs: before.pairs })
+            }
+            Err(refusal) => Err(SplitError::Refused(refusal)),
+        }
+    }
+}
+
+impl From<[u8; FLOW_SIZE]> for Flow {
+    fn from(bytes: [u8; FLOW_SIZE]) -> Flow {
+        Flow { bytes }
+    }
+}
+
+impl TryFrom<&[u8]> for Flow {
+    type Error = Refusal;
+
+    /// The flow with a saved record of any length: refusal 4 where it is not 48.
+    fn try_from(bytes: &[u8]) -> Result<Flow, Refusal> {
+        match bytes.try_into() {
+            Ok(bytes) => Ok(Flow { bytes }),
+            Err(_) => Err(Refusal::FlowRecord),
+        }
+    }
+}
+
+impl AsRef<[u8]> for Flow {
+    fn as_ref(&self) -> &[u8] {
+        &self.bytes
+    }
+}
+
+impl fmt::Debug for Flow {
+    fn fmt(&self, f: &mut fmt::Formatter<'_>) -> fmt::Result {
+        let frontier: Vec<u8> = self.frontier().collect();
+        f.debug_struct("Flow")
+            .field("offset", &self.offset())
+            .field("rows_read", &self.rows_read())
+            .field("frontier", &frontier)
+            .finish()
+    }
+}
+
+/// What a feed that was not refused did.
+#[derive(Clone, Copy, Debug, PartialEq, Eq, Hash)]
+pub struct Fed {
+    /// Bytes consumed, from the front of the piece.
+    pub bytes: usize,
+    /// Pairs written, two words each.
+    pub pairs: usize,
+    /// Whether the whole piece was consumed. Where not, the feed paused for want of room.
+    pub all: bool,
+}
+
+impl Fed {
+    fn from_raw(fed: raw::WatchFed) -> Fed {
+        Fed { bytes: fed.bytes as usize, pairs: fed.pairs as usize, all: fed.all }
+    }
+
+    /// The pairs told, read from the buffer that the feed wrote.
+    ///
+    /// # Panics
+    ///
+    /// Where the buffer is shorter than what the feed wrote: it is another one.
+    pub fn told<'w>(&self, words: &'w [u32]) -> impl Iterator<Item = Pair> + 'w {
+        pairs_in(&words[..2 * self.pairs])
+    }
+}
+
+/// The pairs that words hold, two a pair; an odd last word is passed over.
+///
+/// ```
+/// use watch::{pairs_in, Pair};
+///
+/// let told: Vec<Pair> = pairs_in(&[7, 2, 7]).collect();
+/// assert_eq!(told, [Pair { signature: 7, offset: 2 }]);
+/// ```
+pub fn pairs_in(words: &[u32]) -> impl Iterator<Item = Pair> + '_ {
+    words.chunks_exact(2).map(|pair| Pair { signature: pair[0], offset: pair[1] })
+}
+
+/// A signature that ended in a flow.
+#[derive(Clone, Copy, Debug, PartialEq, Eq, PartialOrd, Ord, Hash)]
+pub struct Pair {
+    /// The signature's number.
+    pub signature: u32,
+    /// The number of bytes of the flow up to its end.
+    pub offset: u32,
+}
+
+impl fmt::Display for Pair {
+    /// The line that the program writes: signature, a space, offset.
+    fn fmt(&self, f: &mut fmt::Formatter<'_>) -> fmt::Result {
+        write!(f, "{} {}", self.signature, self.offset)
+    }
+}
+
+/// The four lists of a split table, as they are.
+///
+/// A set is 32 bytes: state s is bit s mod 8 of byte s div 8.
+#[derive(Clone, Copy, PartialEq, Eq)]
+pub struct TableLists<'a> {
+    /// The class of each byte: exactly 256 bytes, each 0 to 63.
+    pub classes: &'a [u8],
+    /// 1 to 1,024 sets.
+    pub parts: &'a [u8],
+    /// A set for each part and class: the row of part p and class k is number p × K + k, K the largest class plus 1.
+    pub rows: &'a [u8],
+    /// 1 to 4,096 records of 40 bytes: a set, then four 2-byte part numbers, 65,535 for an unused slot.
+    pub splits: &'a [u8],
+}
+
+impl fmt::Debug for TableLists<'_> {
+    fn fmt(&self, f: &mut fmt::Formatter<'_>) -> fmt::Result {
+        write!(
+            f,
+            "TableLists({} parts, {} rows, {} splits)",
+            self.parts.len() / 32,
+            self.rows.len() / 32,
+            self.splits.len() / 40
+        )
+    }
+}
+
+/// A split table with the list and the bound that it is for.
+#[derive(Clone, Copy, Debug, PartialEq, Eq)]
+pub struct Table<'a> {
+    list: List<'a>,
+    bound: u64,
+    lists: TableLists<'a>,
+}
+
+impl<'a> Table<'a> {
+    /// Checks a table against a list, at a bound of 1 to 4 rows a byte: refusals 7 to 13.
+    ///
+    /// ```
+    /// use watch::{List, Refusal, Table, TableLists};
+    ///
+    /// let list = List::check(&[2, 0, 0, 0, 0, 0, 0, 0]).unwrap();
+    /// let none = TableLists { classes: &[], parts: &[], rows: &[], splits: &[] };
+    /// assert_eq!(Table::check(&list, 5, none), Err(Refusal::Bound));
+    /// assert_eq!(Table::check(&list, 1, none), Err(Refusal::TableLists));
+    /// ```
+    pub fn check(list: &List<'a>, bound: u64, lists: TableLists<'a>) -> Result<Table<'a>, Refusal> {
+        // SAFETY: each pointer and length is that of a slice that is borrowed over the call.
+        let number = unsafe {
+            raw::watch_check_table(
+                list.bytes.as_ptr(),
+                list.bytes.len(),
+                bound,
+                lists.classes.as_ptr(),
+                lists.classes.len(),
+                lists.parts.as_ptr(),
+                lists.parts.len(),
+                lists.rows.as_ptr(),
+                lists.rows.len(),
+                lists.splits.as_ptr(),
+                lists.splits.len(),
+            )
+        };
+        Refusal::verdict(number)?;
+        Ok(Table { list: *list, bound, lists })
+    }
+
+    /// A table that is not checked here, as one that passed when it was stored: the check works through every part and split on every
+    /// byte. Nothing is unsafe about a bad one, but a split feed may then refuse it (7, 8), halt (14), or tell other pairs than the
+    /// plain feed.
+    pub fn unchecked(list: &List<'a>, bound: u64, lists: TableLists<'a>) -> Table<'a> {
+        Table { list: *list, bound, lists }
+    }
+
+    /// The list that the table is for.
+    pub fn list(&self) -> List<'a> {
+        self.list
+    }
+
+    /// The most rows that a byte may read.
+    pub fn bound(&self) -> u64 {
+        self.bound
+    }
+
+    /// The table's four lists.
+    pub fn lists(&self) -> TableLists<'a> {
+        self.lists
+    }
+}

@@ -1,0 +1,81 @@
+//! The five functions of the archive as they are: numbers, pointers and lengths. `include/watch.h` says the same in C.
+//!
+//! The rest of this crate is a safe face over them; these are here for callers that hold foreign buffers, and for tests.
+//!
+//! # Safety
+//!
+//! Of every function here: each pointer is valid for its length (`pairs_len` counts words), for reads, and `flow` and `pairs` for writes
+//! too; `pairs` is aligned; `flow` and `pairs` overlap nothing else of the call; nobody else writes any of the buffers, or reads `flow` or
+//! `pairs`, during the call. A pointer with length 0 may dangle. There is no wrong content.
+
+/// What a feed answers, as C lays it out.
+#[repr(C)]
+#[derive(Clone, Copy, Debug, PartialEq, Eq)]
+pub struct WatchFed {
+    /// Bytes consumed, from the front of the piece.
+    pub bytes: u64,
+    /// Pairs written, two words each.
+    pub pairs: u64,
+    /// 0, or the number of the refusal.
+    pub refusal: u32,
+    /// Whether the whole piece was consumed.
+    pub all: bool,
+}
+
+extern "C" {
+    /// The list check: 0, or a refusal 1 to 3.
+    pub fn watch_check_list(list: *const u8, list_len: usize) -> u32;
+
+    /// Opens a flow: 0, or a refusal 1 to 4.
+    pub fn watch_open(list: *const u8, list_len: usize, flow: *mut u8, flow_len: usize) -> u32;
+
+    /// The plain feed: refusals 1 to 6.
+    pub fn watch_feed(
+        list: *const u8,
+        list_len: usize,
+        flow: *mut u8,
+        flow_len: usize,
+        start: u64,
+        piece: *const u8,
+        piece_len: usize,
+        pairs: *mut u32,
+        pairs_len: usize,
+    ) -> WatchFed;
+
+    /// The table check: 0, or a refusal 1 to 3 or 7 to 13.
+    pub fn watch_check_table(
+        list: *const u8,
+        list_len: usize,
+        bound: u64,
+        classes: *const u8,
+        classes_len: usize,
+        parts: *const u8,
+        parts_len: usize,
+        rows: *const u8,
+        rows_len: usize,
+        splits: *const u8,
+        splits_len: usize,
+    ) -> u32;
+
+    /// The split feed: refusals 1 to 8, and 14.
+    pub fn watch_split_feed(
+        list: *const u8,
+        list_len: usize,
+        bound: u64,
+        classes: *const u8,
+        classes_len: usize,
+        parts: *const u8,
+        parts_len: usize,
+        rows: *const u8,
+        rows_len: usize,
+        splits: *const u8,
+        splits_len: usize,
+        flow: *mut u8,
+        flow_len: usize,
+        start: u64,
+        piece: *const u8,
+        piece_len: usize,
+        pairs: *mut u32,
+        pairs_len: usize,
+    ) -> WatchFed;
+}

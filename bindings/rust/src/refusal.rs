@@ -1,0 +1,204 @@
+use std::error::Error;
+use std::fmt;
+
+/// Why a call was refused. Each has a [`number`](Refusal::number), 1 to 14; of several that apply, the lowest is given.
+///
+/// ```
+/// use watch::{List, Refusal};
+///
+/// let refusal = List::check(b"").unwrap_err();
+/// assert_eq!(refusal, Refusal::ListLength);
+/// assert_eq!(refusal.number(), 1);
+/// assert_eq!(refusal.to_string(), "list length is 0, over 32,768, or no multiple of 8");
+/// ```
+#[derive(Clone, Copy, Debug, PartialEq, Eq, PartialOrd, Ord, Hash)]
+#[non_exhaustive]
+#[repr(u32)]
+pub enum Refusal {
+    /// 1: list length is 0, over 32,768, or no multiple of 8.
+    ListLength = 1,
+    /// 2: a record has another kind, a non-zero reserved byte, low > high, or a state or signature over 255.
+    ListRecord = 2,
+    /// 3: no start record.
+    NoStart = 3,
+    /// 4: flow record not 48 bytes; or, when fed, bytes 36-39 not zero, or rows read > 256 × offset.
+    FlowRecord = 4,
+    /// 5: the piece's stated start differs from the flow's offset.
+    OtherStart = 5,
+    /// 6: offset + piece length > 4,294,967,295.
+    TooLong = 6,
+    /// 7: bound not 1 to 4.
+    Bound = 7,
+    /// 8: a table list has the wrong length, or a class is over 63.
+    TableLists = 8,
+    /// 9: a split has a used slot that names no part, a used slot after an unused one, slots not strictly rising, more
+    /// than b used, or a set not greater (as byte strings) than the one before.
+    SplitRecord = 9,
+    /// 10: a row that some byte selects differs from the NFA step of its part on that byte.
+    WrongRow = 10,
+    /// 11: a split's set is not the union of its parts.
+    WrongUnion = 11,
+    /// 12: the start set is no split.
+    NoStartSplit = 12,
+    /// 13: for some split and byte, the NFA step of its set is no split.
+    NotClosed = 13,
+    /// 14: split feed, at a byte: the frontier is no split, or the slots taken name no part or are more than b.
+    NoSplit = 14,
+}
+
+impl Refusal {
+    /// All refusals, by number.
+    pub const ALL: [Refusal; 14] = [
+        Refusal::ListLength,
+        Refusal::ListRecord,
+        Refusal::NoStart,
+        Refusal::FlowRecord,
+        Refusal::OtherStart,
+        Refusal::TooLong,
+        Refusal::Bound,
+        Refusal::TableLists,
+        Refusal::SplitRecord,
+        Refusal::WrongRow,
+        Refusal::WrongUnion,
+        Refusal::NoStartSplit,
+        Refusal::NotClosed,
+        Refusal::NoSplit,
+    ];
+
+    /// The refusal's number, 1 to 14.
+    pub const fn number(self) -> u32 {
+        self as u32
+    }
+
+    /// The refusal with a number; `None` for 0 and for a number over 14.
+    ///
+    /// ```
+    /// use watch::Refusal;
+    ///
+    /// assert_eq!(Refusal::from_number(5), Some(Refusal::OtherStart));
+    /// assert_eq!(Refusal::from_number(0), None);
+    /// ```
+    pub fn from_number(number: u32) -> Option<Refusal> {
+        Refusal::ALL.into_iter().find(|refusal| refusal.number() == number)
+    }
+
+    /// What a function of the archive answers, as a result.
+    pub(crate) fn verdict(number: u32) -> Result<(), Refusal> {
+        match number {
+            0 => Ok(()),
+            _ => Err(Refusal::from_number(number).expect("the archive answers 0 to 14")),
+        }
+    }
+}
+
+impl fmt::Display for Refusal {
+    fn fmt(&self, f: &mut fmt::Formatter<'_>) -> fmt::Result {
+        f.write_str(match self {
+            Refusal::ListLength => "list length is 0, over 32,768, or no multiple of 8",
+            Refusal::ListRecord => {
+                "a record has another kind, a non-zero reserved byte, low > high, or a state or signature over 255"
+            }
+            Refusal::NoStart => "no start record",
+            Refusal::FlowRecord => {
+                "flow record not 48 bytes; or, when fed, bytes 36-39 not zero, or rows read > 256 × offset"
+            }
+            Refusal::OtherStart => "the piece's stated start differs from the flow's offset",
+            Refusal::TooLong => "offset + piece length > 4,294,967,295",
+            Refusal::Bound => "bound not 1 to 4",
+            Refusal::TableLists => "a table list has the wrong length, or a class is over 63",
+            Refusal::SplitRecord => {
+                "a split has a used slot that names no part, a used slot after an unused one, slots not strictly rising, \
+                 more than b used, or a set not greater (as byte strings) than the one before"
+            }
+            Refusal::WrongRow => "a row that some byte selects differs from the NFA step of its part on that byte",
+            Refusal::WrongUnion => "a split's set is not the union of its parts",
+            Refusal::NoStartSplit => "the start set is no split",
+            Refusal::NotClosed => "for some split and byte, the NFA step of its set is no split",
+            Refusal::NoSplit => {
+                "split feed, at a byte: the frontier is no split, or the slots taken name no part or are more than b"
+            }
+        })
+    }
+}
+
+impl Error for Refusal {}
+
+/// Why a split feed did not end well.
+///
+/// A feed that is [`Refused`](SplitError::Refused) changed nothing. One that [`Halted`](SplitError::Halted) has consumed the bytes
+/// before the byte at which refusal 14 was found: the flow stands there, and the pairs up to there are in the buffer. So the pairs of a
+/// halted feed are not to be thrown away:
+///
+/// ```
+/// use watch::{pairs_in, Pair, SplitError, Flow, Table};
+///
+/// /// Feeds a piece and hands on every pair that it tells, also those before a refusal.
+/// fn told(flow: &mut Flow, table: &Table, piece: &[u8], words: &mut [u32]) -> (Vec<Pair>, Option<SplitError>) {
+///     let start = u64::from(flow.offset());
+///     match flow.split_feed(table, start, piece, words) {
+///         Ok(fed) => (fed.told(words).collect(), None),
+///         Err(error) => (pairs_in(&words[..2 * error.pairs()]).collect(), Some(error)),
+///     }
+/// }
+/// ```
+#[derive(Clone, Copy, Debug, PartialEq, Eq, Hash)]
+pub enum SplitError {
+    /// A refusal 1 to 8. No buffer has changed.
+    Refused(Refusal),
+    /// Refusal 14, at the byte after those consumed.
+    Halted {
+        /// Bytes consumed before that byte.
+        bytes: usize,
+        /// Pairs written for them.
+        pairs: usize,
+    },
+}
+
+impl SplitError {
+    /// The refusal: the one that it carries, or [`Refusal::NoSplit`] (14) where the feed halted.
+    pub fn refusal(&self) -> Refusal {
+        match self {
+            SplitError::Refused(refusal) => *refusal,
+            SplitError::Halted { .. } => Refusal::NoSplit,
+        }
+    }
+
+    /// Bytes consumed before the refusal: 0 unless the feed halted.
+    pub fn bytes(&self) -> usize {
+        match self {
+            SplitError::Refused(_) => 0,
+            SplitError::Halted { bytes, .. } => *bytes,
+        }
+    }
+
+    /// Pairs written before the refusal: 0 unless the feed halted.
+    pub fn pairs(&self) -> usize {
+        match self {
+            SplitError::Refused(_) => 0,
+            SplitError::Halted { pairs, .. } => *pairs,
+        }
+    }
+}
+
+impl fmt::Display for SplitError {
+    fn fmt(&self, f: &mut fmt::Formatter<'_>) -> fmt::Result {
+        match self {
+            SplitError::Refused(refusal) => refusal.fmt(f),
+            SplitError::Halted { bytes, pairs } => {
+                write!(f, "{} (after {bytes} bytes and {pairs} pairs)", Refusal::NoSplit)
+            }
+        }
+    }
+}
+
+impl Error for SplitError {}
+
+impl From<Refusal> for SplitError {
+    /// A refusal that consumed nothing.
+    fn from(refusal: Refusal) -> SplitError {
+        match refusal {
+            Refusal::NoSplit => SplitError::Halted { bytes: 0, pairs: 0 },
+            _ => SplitError::Refused(refusal),
+        }
+    }
+}

@@ -1,0 +1,250 @@
+//! The worked examples of the rules, through the safe face, and on the ordinary matcher that the random tests compare with.
+
+mod ordinary;
+
+use ordinary::Automaton;
+use watch::{Fed, Flow, List, Pair, Refusal, SplitError, Table, TableLists};
+
+/// Signature 7 after any "ab".
+const L: [u8; 40] = [
+    1, 0x00, 0xFF, 0, 0, 0, 0, 0, //
+    1, 0x61, 0x61, 0, 0, 0, 1, 0, //
+    1, 0x62, 0x62, 0, 1, 0, 2, 0, //
+    2, 0, 0, 0, 0, 0, 0, 0, //
+    3, 0, 0, 0, 2, 0, 7, 0,
+];
+
+fn list() -> List<'static> {
+    List::check(&L).unwrap()
+}
+
+fn set(states: &[u8]) -> Vec<u8> {
+    ordinary::bytes_of(&states.iter().copied().collect()).to_vec()
+}
+
+fn split(states: &[u8], slots: [u16; 4]) -> Vec<u8> {
+    let mut record = set(states);
+    slots.iter().for_each(|slot| record.extend(slot.to_le_bytes()));
+    record
+}
+
+const NO: u16 = 65_535;
+
+/// The four lists of the table T.
+struct T {
+    classes: Vec<u8>,
+    parts: Vec<u8>,
+    rows: Vec<u8>,
+    splits: Vec<Vec<u8>>,
+}
+
+impl T {
+    fn new() -> T {
+        let mut classes = vec![0; 256];
+        classes[usize::from(b'a')] = 1;
+        classes[usize::from(b'b')] = 2;
+        T {
+            classes,
+            parts: [set(&[0]), set(&[1]), set(&[2])].concat(),
+            rows: [
+                [set(&[0]), set(&[0, 1]), set(&[0])].concat(),
+                [set(&[]), set(&[]), set(&[2])].concat(),
+                [set(&[]), set(&[]), set(&[])].concat(),
+            ]
+            .concat(),
+            splits: vec![split(&[0], [0, NO, NO, NO]), split(&[0, 1], [0, 1, NO, NO]), split(&[0, 2], [0, 2, NO, NO])],
+        }
+    }
+
+    fn without(mut self, i: usize) -> T {
+        self.splits.remove(i);
+        self
+    }
+
+    /// Checks the table through the safe face and on the ordinary matcher; hands it on unchecked.
+    fn check(&self, bound: u64, then: impl FnOnce(Result<Table, Refusal>, Table)) {
+        let splits = self.splits.concat();
+        let lists = TableLists { classes: &self.classes, parts: &self.parts, rows: &self.rows, splits: &splits };
+        let checked = Table::check(&list(), bound, lists);
+        let read = ordinary::Table::read(&self.classes, &self.parts, &self.rows, &splits);
+        let refusal = ordinary::check_table(&Automaton::read(&L), bound, &read);
+        assert_eq!(checked.err().map_or(0, Refusal::number), refusal);
+        then(checked, Table::unchecked(&list(), bound, lists));
+    }
+}
+
+#[test]
+fn plain_abab() {
+    let mut flow = Flow::open(&list());
+    let mut words = [0; 512];
+    let fed = flow.feed(&list(), 0, b"abab", &mut words).unwrap();
+    assert_eq!(fed, Fed { bytes: 4, pairs: 2, all: true });
+    assert_eq!(words[..5], [7, 2, 7, 4, 0]);
+    assert_eq!(flow.rows_read(), 7);
+    let told: Vec<String> = fed.told(&words).map(|pair| pair.to_string()).collect();
+    assert_eq!(told, ["7 2", "7 4"]);
+}
+
+#[test]
+fn plain_aba_leaves_this_record() {
+    let mut flow = Flow::open(&list());
+    flow.feed(&list(), 0, b"aba", &mut [0; 512]).unwrap();
+    let mut record = [0; 48];
+    record[0] = 3;
+    record[32] = 3;
+    record[40] = 5;
+    assert_eq!(flow.as_bytes(), &record);
+    assert_eq!(flow.frontier().collect::<Vec<u8>>(), [0, 1]);
+    assert_eq!(Flow::try_from(&record[..]), Ok(flow));
+    assert_eq!(Flow::try_from(&record[..47]), Err(Refusal::FlowRecord));
+}
+
+#[test]
+fn a_cut_changes_nothing() {
+    let mut flow = Flow::open(&list());
+    let mut words = [0; 512];
+    assert_eq!(flow.feed(&list(), 0, b"a", &mut words).unwrap().pairs, 0);
+    let before = flow.clone();
+    assert_eq!(flow.feed(&list(), 0, b"bab", &mut words), Err(Refusal::OtherStart));
+    assert_eq!(flow, before);
+    let fed = flow.feed(&list(), 1, b"bab", &mut words).unwrap();
+    assert_eq!(fed.told(&words).collect::<Vec<Pair>>(), [2, 4].map(|offset| Pair { signature: 7, offset }));
+}
+
+#[test]
+fn room() {
+    for (words, bytes, pairs) in [(0, 1, 0), (1, 1, 0), (2, 3, 1), (3, 3, 1), (4, 4, 2)] {
+        let mut buffer = vec![99; words];
+        let fed = Flow::open(&list()).feed(&list(), 0, b"abab", &mut buffer).unwrap();
+        assert_eq!(fed, Fed { bytes, pairs, all: bytes == 4 });
+        assert!(buffer[2 * pairs..].iter().all(|&word| word == 99));
+    }
+    let fed = Flow::open(&list()).feed(&list(), 0, b"", &mut []).unwrap();
+    assert_eq!(fed, Fed { bytes: 0, pairs: 0, all: true });
+}
+
+#[test]
+fn the_last_offset() {
+    let mut record = *Flow::open(&list()).as_bytes();
+    record[32..36].fill(255);
+    let mut flow = Flow::from_bytes(record);
+    assert_eq!(flow.feed(&list(), 4_294_967_295, b"", &mut []).unwrap(), Fed { bytes: 0, pairs: 0, all: true });
+    assert_eq!(flow.feed(&list(), 4_294_967_295, b"a", &mut []), Err(Refusal::TooLong));
+    record[32] = 254;
+    let mut flow = Flow::from_bytes(record);
+    assert!(flow.feed(&list(), 4_294_967_294, b"a", &mut []).unwrap().all);
+    assert_eq!(flow.offset(), 4_294_967_295);
+}
+
+#[test]
+fn lists() {
+    assert_eq!(List::check(&[&L[..24], &L[32..]].concat()), Err(Refusal::NoStart));
+    let mut long = L[..8].repeat(4095);
+    long.extend_from_slice(&L[24..32]);
+    assert_eq!(List::check(&long).unwrap().records(), 4096);
+    long.extend_from_slice(&L[..8]);
+    assert_eq!(List::check(&long), Err(Refusal::ListLength));
+    assert!(List::check(&[2, 0, 0, 0, 0, 0, 255, 0]).is_ok());
+    assert_eq!(List::check(&[2, 0, 0, 0, 0, 0, 0, 1]), Err(Refusal::ListRecord));
+}
+
+#[test]
+fn the_table() {
+    T::new().check(2, |checked, table| assert_eq!(checked, Ok(table)));
+    T::new().check(1, |checked, _| assert_eq!(checked, Err(Refusal::SplitRecord)));
+    T::new().without(2).check(2, |checked, _| assert_eq!(checked, Err(Refusal::NotClosed)));
+    T::new().without(0).check(2, |checked, _| assert_eq!(checked, Err(Refusal::NoStartSplit)));
+}
+
+#[test]
+fn split_abab() {
+    T::new().check(2, |checked, _| {
+        let table = checked.unwrap();
+        let mut flow = Flow::open(&table.list());
+        let mut words = [0; 512];
+        let fed = flow.split_feed(&table, 0, b"abab", &mut words).unwrap();
+        assert_eq!(fed, Fed { bytes: 4, pairs: 2, all: true });
+        assert_eq!(words[..5], [7, 2, 7, 4, 0]);
+        assert_eq!(flow.rows_read(), 7);
+        assert!(flow.rows_read() <= table.bound() * 4);
+    });
+}
+
+#[test]
+fn a_halted_split_feed_keeps_what_was_before() {
+    // Without {0, 2} the feed can't go on after "ab": 14 at the third byte.
+    T::new().without(2).check(2, |_, table| {
+        let mut flow = Flow::open(&list());
+        let mut words = [0; 512];
+        let halted = flow.split_feed(&table, 0, b"abab", &mut words).unwrap_err();
+        assert_eq!(halted, SplitError::Halted { bytes: 2, pairs: 1 });
+        assert_eq!((halted.refusal().number(), halted.bytes(), halted.pairs()), (14, 2, 1));
+        assert_eq!(words[..3], [7, 2, 0]);
+        assert_eq!(flow.offset(), 2);
+        // A pause before that byte is no refusal, and neither is an empty piece at it.
+        let mut flow = Flow::open(&list());
+        assert!(!flow.split_feed(&table, 0, b"abab", &mut []).unwrap().all);
+        let fed = flow.split_feed(&table, 1, b"b", &mut words).unwrap();
+        assert_eq!(fed, Fed { bytes: 1, pairs: 1, all: true });
+        assert!(flow.split_feed(&table, 2, b"", &mut []).unwrap().all);
+        // 14 comes before room.
+        assert_eq!(flow.split_feed(&table, 2, b"a", &mut []), Err(SplitError::Halted { bytes: 0, pairs: 0 }));
+        assert_eq!(flow.split_feed(&table, 9, b"a", &mut []), Err(SplitError::Refused(Refusal::OtherStart)));
+    });
+}
+
+#[test]
+fn the_ordinary_matcher_agrees() {
+    let automaton = Automaton::read(&L);
+    let mut record = vec![0; 48];
+    assert_eq!(ordinary::open(&automaton, &mut record), 0);
+    assert_eq!(record, Flow::open(&list()).as_bytes());
+    let mut words = [0; 5];
+    let answer = ordinary::feed(&automaton, &mut record, 0, b"abab", &mut words);
+    assert_eq!(answer, ordinary::Answer { refusal: 0, bytes: 4, pairs: 2, all: true });
+    assert_eq!((words, record[40]), ([7, 2, 7, 4, 0], 7));
+    let t = T::new();
+    let table = ordinary::Table::read(&t.classes, &t.parts, &t.rows, &t.splits.concat());
+    assert_eq!(ordinary::open(&automaton, &mut record), 0);
+    let answer = ordinary::split_feed(&automaton, 2, &table, &mut record, 0, b"abab", &mut [0; 3]);
+    assert_eq!(answer, ordinary::Answer { refusal: 0, bytes: 3, pairs: 1, all: false });
+    assert_eq!(record[40], 5);
+}
+
+#[test]
+fn refusals_have_numbers_and_texts() {
+    for (i, refusal) in Refusal::ALL.into_iter().enumerate() {
+        assert_eq!(refusal.number(), i as u32 + 1);
+        assert_eq!(Refusal::from_number(refusal.number()), Some(refusal));
+        let error: Box<dyn std::error::Error> = Box::new(refusal);
+        assert!(!error.to_string().is_empty());
+    }
+    assert_eq!(Refusal::from_number(0), None);
+    assert_eq!(Refusal::from_number(15), None);
+}
+
+/// A pointer with length 0 is not followed, not even NULL. (The header advises against NULL all the same.)
+#[test]
+fn nothing_is_read_where_a_length_is_0() {
+    use std::ptr::{null, null_mut};
+    use watch::raw;
+    let mut record = *Flow::open(&list()).as_bytes();
+    // SAFETY: all lengths but the list's and the record's are 0.
+    unsafe {
+        assert_eq!(raw::watch_check_list(null(), 0), 1);
+        assert_eq!(raw::watch_open(null(), 0, null_mut(), 0), 1);
+        assert_eq!(raw::watch_open(L.as_ptr(), L.len(), null_mut(), 0), 4);
+        let fed = raw::watch_feed(L.as_ptr(), L.len(), record.as_mut_ptr(), 48, 0, null(), 0, null_mut(), 0);
+        assert_eq!(fed, raw::WatchFed { bytes: 0, pairs: 0, refusal: 0, all: true });
+        let fed = raw::watch_feed(L.as_ptr(), L.len(), record.as_mut_ptr(), 48, 0, b"ab".as_ptr(), 2, null_mut(), 0);
+        assert_eq!(fed, raw::WatchFed { bytes: 1, pairs: 0, refusal: 0, all: false });
+        let table = raw::watch_check_table(L.as_ptr(), L.len(), 1, null(), 0, null(), 0, null(), 0, null(), 0);
+        assert_eq!(table, 8);
+    }
+}
+
+#[test]
+fn the_answer_is_laid_out_as_in_c() {
+    use std::mem::{align_of, size_of};
+    assert_eq!((size_of::<watch::raw::WatchFed>(), align_of::<watch::raw::WatchFed>()), (24, 8));
+}

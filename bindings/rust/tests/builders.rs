@@ -1,0 +1,503 @@
+//! Random lists, tables, records and pieces: good ones, broken ones, and ones that are nonsense but well formed.
+
+use crate::dice::Dice;
+use crate::ordinary::{bytes_of, Automaton, Set, LAST_OFFSET, UNUSED};
+use std::collections::{BTreeMap, BTreeSet, VecDeque};
+
+// Lists.
+
+fn edge(low: u8, high: u8, from: u8, to: u8) -> [u8; 8] {
+    [1, low, high, 0, from, 0, to, 0]
+}
+
+fn start(state: u8) -> [u8; 8] {
+    [2, 0, 0, 0, 0, 0, state, 0]
+}
+
+fn accept(state: u8, signature: u8) -> [u8; 8] {
+    [3, 0, 0, 0, state, 0, signature, 0]
+}
+
+/// The letters that pieces and edges are mostly made of.
+const LETTERS: &[u8] = b"abcde\x00\xFF";
+
+/// A good list: some states, edges on letters and ranges, and accepts from none to all signatures at one state.
+pub fn good_list(dice: &mut Dice) -> Vec<u8> {
+    let states: Vec<u8> =
+        (0..dice.from(1, 9)).map(|_| if dice.once_in(2) { dice.below(12) as u8 } else { dice.byte() }).collect();
+    let mut records = Vec::new();
+    for _ in 0..dice.from(0, 2 * states.len() + 4) {
+        let (from, to) = (dice.pick(&states), dice.pick(&states));
+        let (low, high) = match dice.below(6) {
+            0 => (0, 255),
+            1 => {
+                let (a, b) = (dice.byte(), dice.byte());
+                (a.min(b), a.max(b))
+            }
+            2 => {
+                let (a, b) = (dice.pick(LETTERS), dice.pick(LETTERS));
+                (a.min(b), a.max(b))
+            }
+            _ => {
+                let letter = dice.pick(LETTERS);
+                (letter, letter)
+            }
+        };
+        records.push(edge(low, high, from, to));
+    }
+    if dice.once_in(2) {
+        let state = dice.pick(&states);
+        records.push(edge(0, 255, state, state));
+    }
+    for _ in 0..dice.from(1, 3) {
+        records.push(start(dice.pick(&states)));
+    }
+    for _ in 0..dice.from(0, 6) {
+        let signature = if dice.once_in(2) { dice.below(4) as u8 } else { dice.byte() };
+        records.push(accept(dice.pick(&states), signature));
+    }
+    if dice.once_in(25) {
+        let state = dice.pick(&states);
+        let few = dice.from(1, 256);
+        records.extend((0..few).map(|signature| accept(state, signature as u8)));
+    }
+    if dice.once_in(150) {
+        // A long list: exactly the most records, or about that.
+        let most = if dice.once_in(2) { 4096 } else { dice.from(1000, 4095) };
+        while records.len() < most {
+            let again = dice.pick(&records);
+            records.push(again);
+        }
+    }
+    if dice.once_in(4) {
+        let again = dice.pick(&records);
+        records.push(again);
+        records.truncate(4096);
+        if !records.iter().any(|record| record[0] == 2) {
+            records[0] = start(states[0]);
+        }
+    }
+    dice.shuffle(&mut records);
+    records.concat()
+}
+
+/// A list with one or two faults in it (some of which do no harm).
+pub fn broken_list(dice: &mut Dice) -> Vec<u8> {
+    let mut list = good_list(dice);
+    for _ in 0..dice.from(1, 2) {
+        if list.is_empty() {
+            break;
+        }
+        let at = 8 * dice.below(list.len().div_ceil(8));
+        match dice.below(12) {
+            0 => list.clear(),
+            1 => list.truncate(list.len() - dice.from(1, list.len().min(9))),
+            2 => list.extend((0..dice.from(1, 7)).map(|_| dice.byte())),
+            3 => {
+                let record = list[at..list.len().min(at + 8)].to_vec();
+                let most = dice.pick(&[4097, 4098, 5000]);
+                while list.len() / 8 < most && record.len() == 8 {
+                    list.extend(&record);
+                }
+            }
+            4 => list[at] = dice.pick(&[0, 4, 5, 128, 255]),
+            5 | 6 => {
+                let any = dice.below(list.len());
+                list[any] = dice.byte();
+            }
+            7 if at + 7 < list.len() => list[at + 7] = dice.from(1, 255) as u8,
+            8 if at + 5 < list.len() => list[at + 5] = dice.from(1, 255) as u8,
+            9 if at + 3 < list.len() => list[at + 3] = dice.from(1, 255) as u8,
+            10 if at + 2 < list.len() => list.swap(at + 1, at + 2),
+            _ => list = list.chunks(8).filter(|record| record[0] != 2).collect::<Vec<_>>().concat(),
+        }
+    }
+    list
+}
+
+// Tables.
+
+#[derive(Clone, Default)]
+pub struct Lists {
+    pub bound: u64,
+    pub classes: Vec<u8>,
+    pub parts: Vec<u8>,
+    pub rows: Vec<u8>,
+    pub splits: Vec<u8>,
+}
+
+fn random_set(dice: &mut Dice, states: &[u8]) -> Set {
+    match dice.below(8) {
+        0 => Set::new(),
+        1 => (0..dice.from(0, 40)).map(|_| dice.byte()).collect(),
+        _ => (0..dice.from(1, 4)).map(|_| dice.pick(states)).collect(),
+    }
+}
+
+fn states_of(automaton: &Automaton) -> Vec<u8> {
+    let mut states = automaton.starts.clone();
+    for (from, edges) in &automaton.edges {
+        states.insert(*from);
+        states.extend(edges.iter().map(|edge| edge.to));
+    }
+    states.into_iter().collect()
+}
+
+/// The bytes at which some edge begins, or the byte after which it ends: between two of them all bytes step alike.
+fn corners(automaton: &Automaton) -> Vec<u8> {
+    let mut corners = BTreeSet::from([0]);
+    for edge in automaton.edges.values().flatten() {
+        corners.insert(edge.low);
+        if edge.high < 255 {
+            corners.insert(edge.high + 1);
+        }
+    }
+    corners.into_iter().collect()
+}
+
+fn split_record(set: &Set, slots: &[u16]) -> Vec<u8> {
+    let mut record = bytes_of(set).to_vec();
+    for i in 0..4 {
+        record.extend(slots.get(i).copied().unwrap_or(UNUSED).to_le_bytes());
+    }
+    record
+}
+
+/// A table that obeys the rules; `None` where the automaton has too many frontiers or classes for one.
+pub fn good_table(dice: &mut Dice, automaton: &Automaton) -> Option<Lists> {
+    let states = states_of(automaton);
+    let corners = corners(automaton);
+
+    // The frontiers: from the start set, and from some others that no flow reaches.
+    let mut waiting = VecDeque::from([automaton.starts.clone()]);
+    for _ in 0..dice.below(3) {
+        waiting.push_back(random_set(dice, &states));
+    }
+    let mut frontiers = BTreeSet::new();
+    while let Some(frontier) = waiting.pop_front() {
+        if frontiers.contains(&frontier) {
+            continue;
+        }
+        waiting.extend(corners.iter().map(|&byte| automaton.step(&frontier, byte)));
+        frontiers.insert(frontier);
+        if frontiers.len() > 40 {
+            return None;
+        }
+    }
+
+    // The parts of each: its states by colour, sometimes with a state of another colour too.
+    let colours = dice.from(1, 4);
+    let colour: Vec<usize> = (0..256).map(|_| dice.below(colours)).collect();
+    let mut parts: Vec<Set> = Vec::new();
+    let mut covers: Vec<(Set, Vec<Set>)> = Vec::new();
+    for frontier in &frontiers {
+        let mut cover = Vec::new();
+        for c in 0..colours {
+            let mut part: Set = frontier.iter().copied().filter(|&state| colour[usize::from(state)] == c).collect();
+            if part.is_empty() && !dice.once_in(20) {
+                continue;
+            }
+            if dice.once_in(6) && !frontier.is_empty() {
+                let members: Vec<u8> = frontier.iter().copied().collect();
+                part.insert(dice.pick(&members));
+            }
+            if cover.contains(&part) {
+                continue;
+            }
+            if !parts.contains(&part) {
+                parts.push(part.clone());
+            }
+            cover.push(part);
+        }
+        covers.push((frontier.clone(), cover));
+    }
+    for _ in 0..dice.below(3) {
+        // Parts that no split uses, and parts that are there twice.
+        let more = if dice.once_in(2) && !parts.is_empty() { dice.pick(&parts) } else { random_set(dice, &states) };
+        parts.push(more);
+    }
+    if parts.is_empty() {
+        parts.push(Set::new());
+    }
+    dice.shuffle(&mut parts);
+
+    // The classes: bytes on which every part steps alike may share one.
+    let column = |byte: u8| -> Vec<Set> { parts.iter().map(|part| automaton.step(part, byte)).collect() };
+    let by_corner: Vec<Vec<Set>> = corners.iter().map(|&byte| column(byte)).collect();
+    let mut numbers: Vec<u8> = (0..64).collect();
+    if dice.once_in(3) {
+        dice.shuffle(&mut numbers);
+    } else {
+        let few = dice.from(1, 64);
+        dice.shuffle(&mut numbers[..few]);
+    }
+    let mut given: BTreeMap<&Vec<Set>, u8> = BTreeMap::new();
+    let mut classes = vec![0; 256];
+    let mut selected: BTreeMap<u8, &Vec<Set>> = BTreeMap::new();
+    let mut taken = 0;
+    for byte in 0..=255 {
+        let corner = corners.partition_point(|&c| c <= byte) - 1;
+        let steps = &by_corner[corner];
+        let fresh = !given.contains_key(steps) || (taken < 60 && dice.once_in(200));
+        if fresh {
+            if taken == 64 {
+                return None;
+            }
+            given.insert(steps, numbers[taken]);
+            taken += 1;
+        }
+        classes[usize::from(byte)] = given[steps];
+        selected.insert(given[steps], steps);
+    }
+    let width = classes.iter().max().unwrap() + 1;
+
+    // Rows: those that no byte selects hold anything.
+    let mut rows = Vec::new();
+    for part in 0..parts.len() {
+        for class in 0..width {
+            match selected.get(&class) {
+                Some(steps) => rows.extend(bytes_of(&steps[part])),
+                None => rows.extend(bytes_of(&random_set(dice, &states))),
+            }
+        }
+    }
+
+    let mut splits: Vec<Vec<u8>> = Vec::new();
+    let mut most = 1;
+    for (frontier, cover) in &covers {
+        let mut slots: Vec<u16> = cover
+            .iter()
+            .map(|part| {
+                let places: Vec<u16> = (0..parts.len()).filter(|&i| parts[i] == *part).map(|i| i as u16).collect();
+                dice.pick(&places)
+            })
+            .collect();
+        slots.sort_unstable();
+        most = most.max(slots.len());
+        splits.push(split_record(frontier, &slots));
+    }
+    splits.sort();
+    Some(Lists {
+        bound: dice.from(most, 4) as u64,
+        classes,
+        parts: parts.iter().flat_map(bytes_of).collect(),
+        rows,
+        splits: splits.concat(),
+    })
+}
+
+/// A table whose lists have the right lengths, and nothing else about it is right: its rows lead from split to split, so that a
+/// feed gets some way, its splits stand in any order and more than once, and their slots hold anything.
+pub fn wild_table(dice: &mut Dice, automaton: &Automaton) -> Lists {
+    let states = states_of(automaton);
+    let mut pool: Vec<Set> = (0..dice.from(1, 4)).map(|_| random_set(dice, &states)).collect();
+    pool.push(automaton.starts.clone());
+    if dice.once_in(2) {
+        pool.push(Set::new());
+    }
+    let (parts, width) = (dice.from(1, 5), dice.from(1, 6));
+    let mut classes: Vec<u8> = (0..256).map(|_| dice.below(width) as u8).collect();
+    classes[dice.below(256)] = width as u8 - 1;
+    let mut unions: Vec<Set> = pool.clone();
+    for a in &pool {
+        unions.extend(pool.iter().map(|b| a | b));
+    }
+    let mut splits: Vec<Vec<u8>> = Vec::new();
+    for set in &unions {
+        if dice.once_in(12) {
+            continue;
+        }
+        let mut slots = [UNUSED; 4];
+        for slot in slots.iter_mut().take(dice.pick(&[0, 1, 1, 2, 2, 2, 3, 4])) {
+            *slot = dice.below(parts) as u16;
+        }
+        if dice.once_in(15) {
+            slots[dice.below(4)] = dice.pick(&[parts as u16, 1024, 65_534, 256, UNUSED]);
+        }
+        splits.push(split_record(set, &slots));
+    }
+    if splits.is_empty() {
+        splits.push(split_record(&automaton.starts, &[0]));
+    }
+    dice.shuffle(&mut splits);
+    Lists {
+        bound: dice.from(1, 4) as u64,
+        classes,
+        parts: (0..parts).flat_map(|_| bytes_of(&random_set(dice, &states))).collect(),
+        rows: (0..parts * width).flat_map(|_| bytes_of(&dice.pick(&pool))).collect(),
+        splits: splits.concat(),
+    }
+}
+
+/// One fault, at a random place (some do no harm).
+pub fn damage(dice: &mut Dice, lists: &mut Lists) {
+    let splits = lists.splits.len() / 40;
+    let parts = lists.parts.len() / 32;
+    match dice.below(22) {
+        0 => lists.bound = dice.pick(&[0, 5, 6, 255, 256, 257, 4_294_967_297, u64::MAX]),
+        1 => lists.bound = dice.from(1, 4) as u64,
+        2 => lists.bound = lists.bound.saturating_sub(1),
+        3 => {
+            let list = [&mut lists.classes, &mut lists.parts, &mut lists.rows, &mut lists.splits];
+            let list = list.into_iter().nth(dice.below(4)).unwrap();
+            match dice.below(5) {
+                0 => list.clear(),
+                1 => drop(list.pop()),
+                2 => list.push(dice.byte()),
+                3 => list.extend(list.clone()),
+                _ => list.truncate(list.len().saturating_sub(dice.pick(&[32, 40]))),
+            }
+        }
+        4 => {
+            if !lists.classes.is_empty() {
+                let at = dice.below(lists.classes.len());
+                lists.classes[at] = dice.pick(&[0, 1, 63, 64, 65, 128, 255]);
+            }
+        }
+        5 | 6 => {
+            // A byte moves to the class of another.
+            if lists.classes.len() == 256 {
+                let from = dice.below(256);
+                let to = if dice.once_in(2) { usize::from(dice.pick(LETTERS)) } else { dice.below(256) };
+                lists.classes[to] = lists.classes[from];
+            }
+        }
+        7..=10 => {
+            let list = if dice.once_in(3) { &mut lists.parts } else { &mut lists.rows };
+            if !list.is_empty() {
+                let at = dice.below(list.len());
+                list[at] ^= 1 << dice.below(8);
+            }
+        }
+        11 => {
+            if !lists.splits.is_empty() {
+                let at = dice.below(lists.splits.len());
+                lists.splits[at] ^= 1 << dice.below(8);
+            }
+        }
+        12 | 13 if splits > 0 => {
+            let at = 40 * dice.below(splits) + 32 + 2 * dice.below(4);
+            let slot =
+                if dice.once_in(2) { dice.below(parts + 2) as u16 } else { dice.pick(&[UNUSED, 65_534, 1024, 0]) };
+            lists.splits[at..at + 2].copy_from_slice(&slot.to_le_bytes());
+        }
+        14 if splits > 0 => {
+            // Two slots change places.
+            let at = 40 * dice.below(splits) + 32;
+            let (a, b) = (dice.below(4), dice.below(4));
+            lists.splits.swap(at + 2 * a, at + 2 * b);
+            lists.splits.swap(at + 2 * a + 1, at + 2 * b + 1);
+        }
+        15 if splits > 1 => {
+            // Two splits change places.
+            let (a, b) = (dice.below(splits), dice.below(splits));
+            for i in 0..40 {
+                lists.splits.swap(40 * a + i, 40 * b + i);
+            }
+        }
+        16 if splits > 0 => {
+            let at = 40 * dice.below(splits);
+            let again = lists.splits[at..at + 40].to_vec();
+            lists.splits.splice(at..at, again);
+        }
+        17..=19 if splits > 1 => {
+            let at = 40 * dice.below(splits);
+            lists.splits.drain(at..at + 40);
+        }
+        20 if splits > 0 && parts > 0 => {
+            // One more split, at its place in the order: a part by itself.
+            let part = dice.below(parts);
+            let mut record = lists.parts[32 * part..32 * part + 32].to_vec();
+            record.extend((part as u16).to_le_bytes());
+            record.extend([255; 6]);
+            let mut records: Vec<Vec<u8>> = lists.splits.chunks(40).map(|split| split.to_vec()).collect();
+            if records.iter().all(|split| split[..split.len().min(32)] != record[..32]) {
+                records.push(record);
+                records.sort();
+                lists.splits = records.concat();
+            }
+        }
+        _ => {
+            if dice.once_in(2) {
+                lists.parts.extend([0; 32]);
+            } else {
+                // One part more, with rows for it, all empty.
+                let width = lists.rows.len() / lists.parts.len().max(1);
+                lists.parts.extend([0; 32]);
+                lists.rows.extend(vec![0; 32 * width]);
+            }
+        }
+    }
+}
+
+// Records and pieces.
+
+/// A record that no feed refuses with 4, with a frontier of the list's own states and any offset.
+pub fn saved_record(dice: &mut Dice, automaton: Option<&Automaton>) -> Vec<u8> {
+    let states = automaton.map_or(vec![0, 1, 255], states_of);
+    let mut record = bytes_of(&random_set(dice, &states)).to_vec();
+    let offset = match dice.below(4) {
+        0 => dice.below(100) as u64,
+        1 => LAST_OFFSET - dice.below(4) as u64,
+        2 => LAST_OFFSET - dice.below(70) as u64,
+        _ => dice.next() >> 32,
+    };
+    let most = 256 * offset;
+    let rows = match dice.below(4) {
+        0 => most,
+        1 => 0,
+        _ => dice.next() % (most + 1),
+    };
+    record.extend((offset as u32).to_le_bytes());
+    record.extend([0; 4]);
+    record.extend(rows.to_le_bytes());
+    record
+}
+
+/// One fault in a record (some do no harm).
+pub fn damage_record(dice: &mut Dice, record: &mut Vec<u8>) {
+    match dice.below(8) {
+        0 => record.truncate(dice.below(48)),
+        1 => record.extend((0..dice.from(1, 16)).map(|_| dice.byte())),
+        2 => record.clear(),
+        3 if record.len() >= 48 => {
+            let at = dice.from(36, 39);
+            record[at] = dice.from(1, 255) as u8;
+        }
+        4 | 5 if record.len() >= 48 => {
+            // Rows read, just over what the offset allows, or just not.
+            let offset = u32::from_le_bytes(record[32..36].try_into().unwrap());
+            let rows = 256 * u64::from(offset) + dice.pick(&[0, 1, 2, 1 << 40]);
+            record[40..48].copy_from_slice(&rows.to_le_bytes());
+        }
+        6 if record.len() >= 48 => record[dice.pick(&[40, 44, 47])] = dice.byte(),
+        _ => {
+            if !record.is_empty() {
+                let at = dice.below(record.len());
+                record[at] = dice.byte();
+            }
+        }
+    }
+}
+
+pub fn piece(dice: &mut Dice) -> Vec<u8> {
+    let length = match dice.below(40) {
+        0..=4 => 0,
+        5..=20 => dice.from(1, 8),
+        21..=38 => dice.from(1, 60),
+        _ => dice.from(1, 1000),
+    };
+    let mostly = dice.from(0, 6);
+    (0..length).map(|_| if dice.below(6) < mostly { dice.pick(LETTERS) } else { dice.byte() }).collect()
+}
+
+/// Words in a pairs buffer, odd ones as often as even ones.
+pub fn words(dice: &mut Dice) -> usize {
+    match dice.below(10) {
+        0 => 0,
+        1 => 1,
+        2..=5 => dice.from(2, 12),
+        6..=8 => dice.from(2, 90),
+        _ => dice.from(500, 1200),
+    }
+}

@@ -1,0 +1,198 @@
+//! Replays the outside vectors, `crates/vectors/stdin`, through the five functions of the archive and compares each line with
+//! `crates/vectors/stdout`. `tools/second/README.md` says what the commands are. Every buffer is a heap block of exactly its length, so
+//! that a memory checker sees any step outside it. Under one, `WATCH_VECTORS` may name a smaller number of lines.
+
+use std::collections::BTreeMap;
+use std::path::PathBuf;
+use watch::raw;
+
+const WORD_FILL: u32 = 2_774_138_880;
+
+struct Reader<'a> {
+    data: &'a [u8],
+}
+
+impl<'a> Reader<'a> {
+    fn take(&mut self, count: usize) -> &'a [u8] {
+        let (front, rest) = self.data.split_at(count);
+        self.data = rest;
+        front
+    }
+
+    fn u32(&mut self) -> u32 {
+        u32::from_le_bytes(self.take(4).try_into().unwrap())
+    }
+
+    fn u64(&mut self) -> u64 {
+        u64::from_le_bytes(self.take(8).try_into().unwrap())
+    }
+
+    fn block(&mut self) -> Box<[u8]> {
+        let length = self.u32() as usize;
+        self.take(length).into()
+    }
+}
+
+fn digest(bytes: impl IntoIterator<Item = u8>) -> u64 {
+    bytes.into_iter().fold(0, |h, byte| (h * 257 + u64::from(byte) + 1) % 4_294_967_291)
+}
+
+fn fed_line(name: char, fed: raw::WatchFed, words: &[u32], record: &[u8]) -> (u32, String) {
+    let line = format!(
+        "{name} {} {} {} {} {} {}",
+        fed.refusal,
+        fed.bytes,
+        fed.pairs,
+        u32::from(fed.all),
+        digest(words.iter().flat_map(|word| word.to_le_bytes())),
+        digest(record.iter().copied())
+    );
+    (fed.refusal, line)
+}
+
+/// The state that the commands work on.
+#[derive(Default)]
+struct State {
+    list: Box<[u8]>,
+    classes: Box<[u8]>,
+    parts: Box<[u8]>,
+    rows: Box<[u8]>,
+    splits: Box<[u8]>,
+    record: Box<[u8]>,
+}
+
+impl State {
+    /// Runs one command; those that answer give the refusal and the line.
+    fn run(&mut self, reader: &mut Reader) -> Option<(char, u32, String)> {
+        let name = char::from(reader.take(1)[0]);
+        let (l, n) = (self.list.as_ptr(), self.list.len());
+        let (refusal, line) = match name {
+            'L' => {
+                self.list = reader.block();
+                return None;
+            }
+            'T' => {
+                self.classes = reader.block();
+                self.parts = reader.block();
+                self.rows = reader.block();
+                self.splits = reader.block();
+                return None;
+            }
+            'R' => {
+                self.record = reader.block();
+                return None;
+            }
+            'c' => {
+                // SAFETY: here and below, every pointer and length is that of a block of its own.
+                let refusal = unsafe { raw::watch_check_list(l, n) };
+                (refusal, format!("c {refusal}"))
+            }
+            'o' => {
+                let refusal = unsafe { raw::watch_open(l, n, self.record.as_mut_ptr(), self.record.len()) };
+                (refusal, format!("o {refusal} {}", digest(self.record.iter().copied())))
+            }
+            'f' => {
+                let start = reader.u64();
+                let mut words: Box<[u32]> = (0..reader.u32()).map(|i| WORD_FILL + i).collect();
+                let piece = reader.block();
+                let fed = unsafe {
+                    raw::watch_feed(
+                        l,
+                        n,
+                        self.record.as_mut_ptr(),
+                        self.record.len(),
+                        start,
+                        piece.as_ptr(),
+                        piece.len(),
+                        words.as_mut_ptr(),
+                        words.len(),
+                    )
+                };
+                fed_line('f', fed, &words, &self.record)
+            }
+            'k' => {
+                let bound = reader.u64();
+                let refusal = unsafe {
+                    raw::watch_check_table(
+                        l,
+                        n,
+                        bound,
+                        self.classes.as_ptr(),
+                        self.classes.len(),
+                        self.parts.as_ptr(),
+                        self.parts.len(),
+                        self.rows.as_ptr(),
+                        self.rows.len(),
+                        self.splits.as_ptr(),
+                        self.splits.len(),
+                    )
+                };
+                (refusal, format!("k {refusal}"))
+            }
+            's' => {
+                let (bound, start) = (reader.u64(), reader.u64());
+                let mut words: Box<[u32]> = (0..reader.u32()).map(|i| WORD_FILL + i).collect();
+                let piece = reader.block();
+                let fed = unsafe {
+                    raw::watch_split_feed(
+                        l,
+                        n,
+                        bound,
+                        self.classes.as_ptr(),
+                        self.classes.len(),
+                        self.parts.as_ptr(),
+                        self.parts.len(),
+                        self.rows.as_ptr(),
+                        self.rows.len(),
+                        self.splits.as_ptr(),
+                        self.splits.len(),
+                        self.record.as_mut_ptr(),
+                        self.record.len(),
+                        start,
+                        piece.as_ptr(),
+                        piece.len(),
+                        words.as_mut_ptr(),
+                        words.len(),
+                    )
+                };
+                fed_line('s', fed, &words, &self.record)
+            }
+            _ => panic!("no such command: {name}"),
+        };
+        Some((name, refusal, line))
+    }
+}
+
+fn vectors(name: &str) -> Vec<u8> {
+    let path = PathBuf::from(env!("CARGO_MANIFEST_DIR")).join("../../crates/vectors").join(name);
+    std::fs::read(&path).unwrap_or_else(|error| panic!("{}: {error}", path.display()))
+}
+
+#[test]
+fn the_vectors_are_answered_line_by_line() {
+    let most = std::env::var("WATCH_VECTORS").map_or(usize::MAX, |n| n.parse().expect("WATCH_VECTORS is a number"));
+    let (stdin, stdout) = (vectors("stdin"), String::from_utf8(vectors("stdout")).unwrap());
+    let mut expected = stdout.lines();
+    let mut reader = Reader { data: &stdin };
+    let mut state = State::default();
+    let mut counts = BTreeMap::<(char, u32), usize>::new();
+    let mut lines = 0;
+    while !reader.data.is_empty() && lines < most {
+        if let Some((name, refusal, line)) = state.run(&mut reader) {
+            lines += 1;
+            assert_eq!(Some(line.as_str()), expected.next(), "line {lines}");
+            *counts.entry((name, refusal)).or_default() += 1;
+        }
+    }
+    if lines < most {
+        assert_eq!(expected.next(), None, "after line {lines}");
+    }
+    println!("vectors: {lines} lines, all equal");
+    for (entry, name) in
+        [('c', "list check"), ('o', "opening"), ('f', "plain feed"), ('k', "table check"), ('s', "split feed")]
+    {
+        let of = counts.iter().filter(|((letter, _), _)| *letter == entry);
+        let text: Vec<String> = of.clone().map(|((_, refusal), count)| format!("{refusal}:{count}")).collect();
+        println!("  {entry}  {name:11} {:6}  {}", of.map(|(_, count)| count).sum::<usize>(), text.join(" "));
+    }
+}

@@ -1,0 +1,171 @@
+/* watch.h: the C face of the signature matcher.
+ *
+ * A signature list is an automaton. A flow of bytes is fed to it in pieces, and each time that a signature ends the caller gets a
+ * pair: the number of the signature and the offset at which it ends. Link include/libwatch_c.a (tools/build-c makes it); it needs
+ * no other library. bindings/c/breakfast.c is a whole program over it.
+ *
+ * The five functions keep nothing between calls and call nothing outside the archive: no memory is allocated, no file is read. All that a
+ * flow needs is in its record, which the caller keeps, copies, writes to a disk or hands to another process as it likes.
+ *
+ *
+ * FORMATS
+ *
+ * Numbers of more than one byte have the low byte first.
+ *
+ * A set is 32 bytes: state s is bit s mod 8 (bit 0 is worth 1) of byte s div 8.
+ *
+ * The signature list is 1 to 4,096 records of 8 bytes, in any order, repeats allowed. States and signatures are 0 to 255.
+ *
+ *     byte 0      bytes 1 to 7
+ *     1, edge     1 low, 2 high, 3 zero, 4-5 from, 6-7 to: taken on byte c when low <= c <= high
+ *     2, start    1-5 zero, 6-7 state
+ *     3, accept   1-3 zero, 4-5 state, 6-7 signature
+ *
+ * At least one start record; accept records may be missing. A state may accept several signatures.
+ *
+ * The flow record is WATCH_FLOW_SIZE (48) bytes: 0-31 the frontier, a set; 32-35 the offset; 36-39 zero; 40-47 rows read. The
+ * offset is the number of bytes consumed since the opening, at most 4,294,967,295. Rows read counts the work: the plain
+ * feed adds, for each byte consumed, the number of states in the frontier before it; the split feed adds the slots that it took.
+ * A record that was saved under another list is not told from a good one; it is run as it stands.
+ *
+ * Pairs are 32-bit words in the machine's own order: signature, offset, signature, offset and so on, by offset, then by signature. Each
+ * is told once. The pair (g, k) is due when the frontier after k bytes of the flow, k from 1 on, holds a state that accepts g.
+ *
+ * A split table is four lists and a bound of 1 to 4:
+ *
+ *     classes     exactly 256 bytes, each 0 to 63: the class of each byte. K is the largest plus 1
+ *     parts       1 to 1,024 sets
+ *     rows        parts x K sets: the row of part p and class k is number p x K + k
+ *     splits      1 to 4,096 records of 40 bytes: a set, then four 2-byte part numbers, 65,535 for an unused slot
+ *
+ *
+ * REFUSALS
+ *
+ * A refusal is one of these numbers, and 0 where there is none. Where several apply, the lowest is given.
+ *
+ *      1   the list's length is 0, over 32,768, or no multiple of 8
+ *      2   a record of the list has another kind, a reserved byte that is not zero, low > high, or a state or signature over 255
+ *      3   the list has no start record
+ *      4   the flow record is not 48 bytes long; or, when it is fed, its bytes 36-39 are not zero or its rows read are
+ *          more than 256 x offset
+ *      5   the piece's stated start is not the flow's offset
+ *      6   offset + piece length is over 4,294,967,295
+ *      7   the bound is not 1 to 4
+ *      8   a list of the table has the wrong length, or a class is over 63
+ *      9   a split has a used slot that names no part, a used slot after an unused one, slots that do not strictly rise, more used
+ *          slots than the bound, or a set that is not greater, as a string of bytes, than the one before
+ *     10   a row that some byte selects is not the automaton's step of its part on that byte
+ *     11   the set of a split is not the union of its parts
+ *     12   the start set is no split
+ *     13   for some split and some byte, the automaton's step of the split's set is no split
+ *     14   at a byte of a split feed: the frontier is no split, or the slots taken name no part or are more than the bound
+ *
+ * The list check gives 1 to 3; opening 1 to 4; the plain feed 1 to 6; the table check 1 to 3 and 7 to 13; the split feed 1 to 8,
+ * and 14 per byte. A refusal 1 to 13 changes no buffer.
+ *
+ *
+ * WHAT THE CALLER OWES
+ *
+ * There is no wrong content: every byte in every buffer, and every length, start and bound, has an answer. The rest is the
+ * caller's, and a call that breaks it has no promise at all:
+ *
+ *   - Each pointer is good for its length, as C means it: x_len bytes can be read at x, and the flow_len bytes and the
+ *     pairs_len words can also be written. pairs is aligned as a uint32_t; nothing else has to be aligned.
+ *   - Through a pointer with length 0 nothing is read or written, so it may point anywhere. Give one that is not NULL, as the
+ *     address of any object: the code takes NULL with length 0 today, and that is tested, but it is no part of what is proved. NULL
+ *     with another length is an error.
+ *   - flow and pairs are written, so neither overlaps the other or any other buffer of the call. The buffers that are only
+ *     read may overlap one another, or be the same.
+ *   - Nobody else writes any buffer of a call, or reads flow or pairs, while the call runs. Calls in several threads may share lists and
+ *     tables; each has its own flow and pairs.
+ *   - The machine is x86-64, with the calling convention of the System V ABI (Linux, the BSDs; not Windows).
+ *
+ * What is proved, and what is assumed with it, is in docs/PROMISES.md.
+ */
+#ifndef WATCH_H
+#define WATCH_H
+
+#include <stdbool.h>
+#include <stddef.h>
+#include <stdint.h>
+
+#ifdef __cplusplus
+extern "C" {
+#endif
+
+/* Bytes in a flow record. */
+#define WATCH_FLOW_SIZE 48
+
+/* Words of pairs with which a feed never stands still: room for 256 pairs. */
+#define WATCH_ENOUGH_WORDS 512
+
+/* What a feed answers. */
+struct watch_fed {
+    uint64_t bytes;   /* bytes consumed, from the front of the piece */
+    uint64_t pairs;   /* pairs written: twice as many words */
+    uint32_t refusal; /* 0, or the number of the refusal */
+    bool all;         /* whether the whole piece was consumed; false with every refusal, also of an empty piece */
+};
+
+typedef struct watch_fed watch_fed;
+
+#if defined(__cplusplus) && __cplusplus >= 201103L
+static_assert(sizeof(size_t) == 8 && sizeof(watch_fed) == 24, "watch.h: the layout is that of x86-64");
+static_assert(offsetof(watch_fed, pairs) == 8 && offsetof(watch_fed, refusal) == 16 && offsetof(watch_fed, all) == 20,
+              "watch.h: the layout is that of x86-64");
+#elif defined(__STDC_VERSION__) && __STDC_VERSION__ >= 201112L
+_Static_assert(sizeof(size_t) == 8 && sizeof(watch_fed) == 24, "watch.h: the layout is that of x86-64");
+_Static_assert(offsetof(watch_fed, pairs) == 8 && offsetof(watch_fed, refusal) == 16 && offsetof(watch_fed, all) == 20,
+               "watch.h: the layout is that of x86-64");
+#endif
+
+/* The list check: 0, or a refusal 1 to 3. */
+uint32_t watch_check_list(const uint8_t *list, size_t list_len);
+
+/* Opens a flow: 0, and the record holds the start states, offset 0 and no rows read; or a refusal 1 to 4. What was in the
+ * record before does not matter. */
+uint32_t watch_open(const uint8_t *list, size_t list_len, uint8_t *flow, size_t flow_len);
+
+/* The plain feed. The piece begins at offset `start` of the flow, which has to be the record's own offset. Consumes the longest
+ * front of the piece whose pairs all fit into pairs_len div 2 pairs, writes those pairs and the record as after the last byte consumed.
+ * Where `all` is false and the refusal 0, the feed paused for want of room: take the pairs, and feed the rest from its
+ * middle, at piece + bytes, with start + bytes. Words after the pairs written stay as they are; so does an odd last word always. With
+ * WATCH_ENOUGH_WORDS words a feed of a non-empty piece that is not refused consumes at least one byte. An empty piece is taken whole.
+ * Refusals 1 to 6 answer 0 bytes and 0 pairs and change nothing. */
+watch_fed watch_feed(const uint8_t *list, size_t list_len,
+                     uint8_t *flow, size_t flow_len,
+                     uint64_t start,
+                     const uint8_t *piece, size_t piece_len,
+                     uint32_t *pairs, size_t pairs_len);
+
+/* The table check: 0 exactly when the table obeys the rules on this list at this bound; or a refusal 1 to 3 or 7 to 13. A flow that is
+ * opened on the list and fed through a table that passed gives the pairs of the plain feed, never a 14, and reads at most `bound`
+ * rows a byte. */
+uint32_t watch_check_table(const uint8_t *list, size_t list_len,
+                           uint64_t bound,
+                           const uint8_t *classes, size_t classes_len,
+                           const uint8_t *parts, size_t parts_len,
+                           const uint8_t *rows, size_t rows_len,
+                           const uint8_t *splits, size_t splits_len);
+
+/* The split feed: as the plain feed, but each byte's new frontier is read from the table: of the first split whose set equals
+ * the frontier, the slots before the first unused one, and of each the row of that part and the byte's class, joined. The table
+ * need not have passed the check. Refusals 1 to 8 answer 0 bytes and 0 pairs and change nothing. A refusal 14 is found at a byte, before
+ * its room is looked at; it answers the bytes and pairs before that byte, and they and the record stand as after it was fed those bytes
+ * alone. */
+watch_fed watch_split_feed(const uint8_t *list, size_t list_len,
+                           uint64_t bound,
+                           const uint8_t *classes, size_t classes_len,
+                           const uint8_t *parts, size_t parts_len,
+                           const uint8_t *rows, size_t rows_len,
+                           const uint8_t *splits, size_t splits_len,
+                           uint8_t *flow, size_t flow_len,
+                           uint64_t start,
+                           const uint8_t *piece, size_t piece_len,
+                           uint32_t *pairs, size_t pairs_len);
+
+#ifdef __cplusplus
+}
+#endif
+
+#endif
