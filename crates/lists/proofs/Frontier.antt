@@ -1,27 +1,41 @@
--- One turn of the step's loop over the states: the step of the states below s, of one more, and of all. Assumes nothing.
-use Prim.Native.Nat.{ℕ, _+_, _%_, _^_, _<_}
-use mathlib.Core.Path.{_≡_, sym}
-use mathlib.Core.Bool.{true, false, cond}
+-- The step of a frontier part by part: of its first words, and of what is left of a word. Assumes nothing.
+use Prim.Native.Nat.{ℕ, _+_, _*_, _/_, _%_, _^_}
+use mathlib.Core.Path.{_≡_, sym, ap, _∙_}
+use mathlib.Core.Bool.{Bool, false, cond}
 use mathlib.Core.List.{List}
-use native.Mathlib.Nat.{mod-one, mod-eq-of-lt}
-use native.Mathlib.Numerals.{add-one}
-use Rattle.sets.specs.Set.{holds, join}
-use Rattle.sets.proofs.Sets.{join-empty, join-comm, low-more}
+use native.Mathlib.Nat.{zero-mul}
+use lib.ListN.{length, getD, take}
+use lib.Dec.{eqb}
+use Rattle.sets.specs.Set.{num, join}
+use Rattle.sets.proofs.Laws.{Small}
+use Rattle.sets.proofs.Sets.{join-empty, join-comm, join-assoc}
+use Rattle.sets.proofs.Words.{front-none, front-more, front-all, half-more}
 use Rattle.lists.specs.Automaton.{step}
 use Rattle.lists.proofs.Steps.{step-join, step-empty}
 
-pub below-none : (L : List ℕ) (F c : ℕ) → step L (F % 2 ^ 0) c ≡ 0
-below-none L F c = rw (mod-one F) (step-empty L c)
+-- the states of no word, of one word more, and of all words
+pub none-read : (L ws : List ℕ) (c : ℕ) → step L (num 64 (take 0 ws)) c ≡ 0
+none-read L ws c = rw (front-none ws) (step-empty L c)
 
-pub below-more : (L : List ℕ) (F c s : ℕ) → join (step L (F % 2 ^ s) c) (step L (cond (holds F s) (2 ^ s) 0) c) ≡ step L (F % 2 ^ (s + 1)) c
-below-more L F c s = rw (add-one s, low-more F s) (sym (step-join L (F % 2 ^ s) (cond (holds F s) (2 ^ s) 0) c))
+pub word-read : (L ws : List ℕ) (c i : ℕ) → Small 64 ws
+    → join (step L (num 64 (take i ws)) c) (step L (getD ws i 0 * 2 ^ (64 * i)) c) ≡ step L (num 64 (take (i + 1) ws)) c
+word-read L ws c i h =
+    sym (step-join L (num 64 (take i ws)) (getD ws i 0 * 2 ^ (64 * i)) c) ∙ ap (λ (F : ℕ). step L F c) (front-more ws i h)
 
-pub below-all : (L : List ℕ) (F c m : ℕ) → F < 2 ^ m → step L (F % 2 ^ m) c ≡ step L F c
-below-all L F c m h = rw (mod-eq-of-lt h)
+pub all-read : (L ws : List ℕ) (c i : ℕ) → i ≡ length ws → step L (num 64 (take i ws)) c ≡ step L (num 64 ws) c
+all-read L ws c i e = rw (front-all ws i e)
 
--- what a state adds: its targets where the frontier holds it, and else nothing
-pub adds : (L : List ℕ) (F c s x : ℕ) → holds F s ≡ true → join x (step L (2 ^ s) c) ≡ join x (step L (cond (holds F s) (2 ^ s) 0) c)
-adds L F c s x e = rw e
+-- the lowest bit of what is left of a word, and the end, where nothing is left
+pub bit-read : (L : List ℕ) (c n s x : ℕ)
+    → join (join x (step L (cond (eqb (n % 2) 1) (2 ^ s) 0) c)) (step L (n / 2 * 2 ^ (s + 1)) c) ≡ join x (step L (n * 2 ^ s) c)
+bit-read L c n s x =
+    let b = cond (eqb (n % 2) 1) (2 ^ s) 0 in
+    let r = n / 2 * 2 ^ (s + 1) in
+    join-assoc x (step L b c) (step L r c) ∙ ap (join x) (sym (step-join L b r c) ∙ ap (λ (F : ℕ). step L F c) (half-more n s))
 
-pub adds-none : (L : List ℕ) (F c s x : ℕ) → holds F s ≡ false → x ≡ join x (step L (cond (holds F s) (2 ^ s) 0) c)
-adds-none L F c s x e = rw (e, step-empty L c, join-comm x 0, join-empty x)
+pub nothing-left : (L : List ℕ) (c s x : ℕ) → join x (step L (0 * 2 ^ s) c) ≡ x
+nothing-left L c s x = rw (zero-mul (2 ^ s), step-empty L c, join-comm x 0, join-empty x)
+
+-- what a state adds: its targets where the test holds, and else nothing
+pub adds-none : (L : List ℕ) (c s x : ℕ) (test : Bool) → test ≡ false → x ≡ join x (step L (cond test (2 ^ s) 0) c)
+adds-none L c s x test e = rw (e, step-empty L c, join-comm x 0, join-empty x)

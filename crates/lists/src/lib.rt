@@ -3,9 +3,9 @@ use sets::SigSet;
 use sets::StateSet;
 ghost use mathlib.Core.Path.{_≡_};
 ghost use mathlib.Core.Bool.{cond};
-ghost use Prim.Native.Nat.{_+_, _<_, _^_};
-ghost use lib.ListN.{getD};
-ghost use Rattle.sets.specs.Set.{states, signatures, setOf, sigsOf, holds, join, insert};
+ghost use Prim.Native.Nat.{_+_, _*_, _<_, _^_};
+ghost use lib.ListN.{length, getD};
+ghost use Rattle.sets.specs.Set.{states, num, setOf, sigsOf, join, insert};
 ghost use Rattle.lists.specs.List.{recordSize, records, word, byteOf, wordOf, isEdge, isStart, isAccept, from, target, zeros, goodEdge, goodStart, goodAccept, goodRecord, badLength, badRecord, noStart, listRefusal};
 ghost use Rattle.lists.specs.Automaton.{edge, leaves, start, step, accepted};
 
@@ -204,18 +204,13 @@ pub fn check_list(l: &[u8]) -> u32
     PASSED
 }
 
-// The states with s, where the test holds.
-fn gather_state(all: StateSet, test: bool, s: usize) -> StateSet
-    ensures { λ r. ⌜ setOf r ≡ cond test (insert states (setOf all) s) (setOf all) ⌝ }
+// Puts s into the words of a set, where the test holds.
+fn put_where(w: &mut [u64], test: bool, s: usize)
+    ensures { λ r. ⌜ num 64 (now (w .exit)) ≡ cond test (insert (64 * length (now (w .entry))) (num 64 (now (w .entry))) s) (num 64 (now (w .entry))) ⌝ }
 {
-    if test { all.with(s) } else { all }
-}
-
-// The signatures with g, where the test holds.
-fn gather_signature(all: SigSet, test: bool, g: usize) -> SigSet
-    ensures { λ r. ⌜ sigsOf r ≡ cond test (insert signatures (sigsOf all) g) (sigsOf all) ⌝ }
-{
-    if test { all.with(g) } else { all }
+    if test {
+        sets::put_bit(w, s);
+    }
 }
 
 // The states of the start records.
@@ -223,11 +218,11 @@ pub fn start_set(l: &[u8]) -> StateSet
     ensures { λ r. ⌜ setOf r ≡ start (now (l .entry)) ⌝ }
 {
     let n = records(l);
-    let mut all = StateSet::EMPTY;
+    let mut w = [0u64; sets::WORDS];
     for i in 0..n {
-        all = gather_state(all, is_start(l, i), target(l, i));
+        put_where(&mut w, is_start(l, i), target(l, i));
     }
-    all
+    StateSet { words: w }
 }
 
 // Says whether record i is an edge that byte c takes.
@@ -243,7 +238,7 @@ fn leaves(l: &[u8], s: usize, c: u8, i: usize) -> bool
     requires { ⌜ i < records (now l) ⌝ }
     ensures { λ r. ⌜ r ≡ leaves (now (l .entry)) (2 ^ s) (edge (now (l .entry)) c) i ⌝ }
 {
-    edge(l, c, i) & (from(l, i) == s)
+    (from(l, i) == s) & edge(l, c, i)
 }
 
 // The targets of state s on byte c.
@@ -251,31 +246,48 @@ fn targets(l: &[u8], s: usize, c: u8) -> StateSet
     ensures { λ r. ⌜ setOf r ≡ step (now (l .entry)) (2 ^ s) c ⌝ }
 {
     let n = records(l);
-    let mut all = StateSet::EMPTY;
+    let mut w = [0u64; sets::WORDS];
     for i in 0..n {
-        all = gather_state(all, leaves(l, s, c, i), target(l, i));
+        put_where(&mut w, leaves(l, s, c, i), target(l, i));
     }
-    all
+    StateSet { words: w }
 }
 
-// The states with the targets of state s on byte c, where s is in the frontier.
-fn join_targets(l: &[u8], f: StateSet, c: u8, s: usize, next: StateSet) -> StateSet
-    ensures { λ r. ⌜ setOf r ≡ join (setOf next) (step (now (l .entry)) (cond (holds (setOf f) s) (2 ^ s) 0) c) ⌝ }
+// The states with the targets of state s on byte c, where the test holds.
+fn join_targets(l: &[u8], test: bool, s: usize, c: u8, next: StateSet) -> StateSet
+    ensures { λ r. ⌜ setOf r ≡ join (setOf next) (step (now (l .entry)) (cond test (2 ^ s) 0) c) ⌝ }
 {
-    if f.has(s) {
+    if test {
         next.union(targets(l, s, c))
     } else {
         next
     }
 }
 
+// The states with the targets of a word of the frontier on byte c; the word's lowest bit is state `base`.
+fn join_word(l: &[u8], word: u64, base: usize, c: u8, next: StateSet) -> StateSet
+    requires { ⌜ word * 2 ^ base < 2 ^ states ⌝ }
+    ensures { λ r. ⌜ setOf r ≡ join (setOf next) (step (now (l .entry)) (word * 2 ^ base) c) ⌝ }
+{
+    let mut all = next;
+    let mut rest = word;
+    let mut s = base;
+    while rest != 0 {
+        all = join_targets(l, rest % 2 == 1, s, c, all);
+        rest = rest / 2;
+        s = s + 1;
+    }
+    all
+}
+
 // The frontier after byte c: the targets of all its states.
 pub fn step(l: &[u8], f: StateSet, c: u8) -> StateSet
     ensures { λ r. ⌜ setOf r ≡ step (now (l .entry)) (setOf f) c ⌝ }
 {
+    let words = f.words;
     let mut next = StateSet::EMPTY;
-    for s in 0..sets::STATES {
-        next = join_targets(l, f, c, s, next);
+    for i in 0..sets::WORDS {
+        next = join_word(l, words[i], 64 * i, c, next);
     }
     next
 }
@@ -285,7 +297,11 @@ fn accepts(l: &[u8], f: StateSet, i: usize) -> bool
     requires { ⌜ i < records (now l) ⌝ }
     ensures { λ r. ⌜ r ≡ leaves (now (l .entry)) (setOf f) (isAccept (now (l .entry))) i ⌝ }
 {
-    is_accept(l, i) & f.has(from(l, i))
+    if is_accept(l, i) {
+        f.has(from(l, i))
+    } else {
+        false
+    }
 }
 
 // The signatures that the frontier accepts.
@@ -293,9 +309,9 @@ pub fn accepted(l: &[u8], f: StateSet) -> SigSet
     ensures { λ r. ⌜ sigsOf r ≡ accepted (now (l .entry)) (setOf f) ⌝ }
 {
     let n = records(l);
-    let mut all = SigSet::EMPTY;
+    let mut w = [0u64; sets::SIG_WORDS];
     for i in 0..n {
-        all = gather_signature(all, accepts(l, f, i), target(l, i));
+        put_where(&mut w, accepts(l, f, i), target(l, i));
     }
-    all
+    SigSet { words: w }
 }

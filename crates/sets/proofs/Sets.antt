@@ -1,16 +1,16 @@
 -- Laws of sets by the names that promises use: what callers cite. The definitions behind the names are opened here alone. Assumes nothing.
 use mathlib.Core.Path.{_≡_, refl, sym, ap, _∙_}
-use mathlib.Core.List.{List, [], _∷_}
-use mathlib.Core.Bool.{Bool, true, false, _&&_, _||_, cond, true≢false}
-use Prim.Native.Nat.{ℕ, zero, suc, _+_, _-_, _*_, _/_, _%_, _^_, _≤_, _<_, max}
-use native.Mathlib.Nat.{mod-lt, pow-succ', lt-of-lt-of-le, zero-div, add-comm}
-use native.Mathlib.Decide.{ℕ-discrete, decLt}
+use mathlib.Core.List.{List}
+use mathlib.Core.Bool.{Bool, true, false, _&&_, _||_, cond}
+use Prim.Native.Nat.{ℕ, zero, suc, _+_, _*_, _/_, _%_, _^_, _≤_, _<_, max}
+use native.Mathlib.Nat.{mod-lt, pow-succ', lt-of-lt-of-le}
+use native.Mathlib.Decide.{ℕ-discrete}
 use native.Mathlib.Omega.{arith}
 use lib.Dec.{eqb, ltb, lit<}
-use lib.ListN.{replicate, length, getD, take, drop}
-use lib.Pow.{pow-mono, pow-pos, pow-lt, field, mod-mod-pow}
+use lib.ListN.{replicate, length, getD, drop}
+use lib.Pow.{pow-mono, pow-lt}
 use lib.Bits.{bitOr, or-comm, or-self, or-zero-r, or-lt}
-use borrow.Author.Tests.{eq-eqb, ne-eqb, eqb-true, lt-ltb, le-ltb, ltb-true, ltb-false}
+use borrow.Author.Tests.{eq-eqb, ne-eqb, ltb-true}
 use Rattle.sets.specs.declared.StateSet.{StateSet}
 use Rattle.sets.specs.declared.SigSet.{SigSet}
 use Rattle.sets.specs.Set.{setWords, sigWords, setSize, num, bit, digits, setOf, sigsOf, holds, join, insert, bytesAt, setAt}
@@ -136,54 +136,6 @@ join-assoc a b c =
     set-ext (join (join a b) c) (join a (join b c))
     (λ s. rw (holds-join (join a b) c s, holds-join a b s, holds-join a (join b c) s, holds-join b c s, or-assoc (holds a s) (holds b s) (holds c s)))
 
--- ---- the states below s
-
-pub holds-low : (n s t : ℕ) → holds (n % 2 ^ s) t ≡ (ltb t s && holds n t)
-unfolding holds
-holds-low n s t = go (decLt t s)
-  where
-    below : (j : ℕ) → bit (n % 2 ^ (suc j + t)) t ≡ bit n t
-    below j = rw (field n (suc j) t) (let e : suc j ≡ j + 1 = omega arith in rw e (mod-mod-pow (n / 2 ^ t) j 1))
-
-    past : s ≤ t → bit (n % 2 ^ s) t ≡ 0
-    past l = rw (native.Mathlib.Nat.div-eq-of-lt (lt-of-lt-of-le (mod-lt n (pow-pos s)) (pow-mono l)))
-
-    go : Dec (t < s) → eqb (bit (n % 2 ^ s) t) 1 ≡ (ltb t s && eqb (bit n t) 1)
-    go (yes l) =
-        let e : s ≡ suc (s - suc t) + t = omega arith in
-        rw (lt-ltb t s l, ap (λ (m : ℕ). bit (n % 2 ^ m) t) e ∙ below (s - suc t))
-    go (no g) =
-        let l : s ≤ t = omega (arith, native.Mathlib.Nat.lt-of-not-le (λ (k : suc t ≤ s). g k)) in
-        rw (le-ltb t s l, past l)
-
--- one state more
-pub low-more : (n s : ℕ) → n % 2 ^ suc s ≡ join (n % 2 ^ s) (cond (holds n s) (2 ^ s) 0)
-low-more n s =
-    set-ext (n % 2 ^ suc s) (join (n % 2 ^ s) (cond (holds n s) (2 ^ s) 0))
-    (λ t. holds-low n (suc s) t ∙ sym (holds-join (n % 2 ^ s) (cond (holds n s) (2 ^ s) 0) t ∙ rw (holds-low n s t) (both t (ℕ-discrete t s))))
-  where
-    one : (t : ℕ) (b : Bool) → holds (cond b (2 ^ s) 0) t ≡ (b && eqb t s)
-    one t true = holds-pow s t
-    one t false = holds-empty t
-
-    and-true : (b : Bool) → (b && true) ≡ b
-    and-true true = refl
-    and-true false = refl
-
-    and-false : (b : Bool) → (b && false) ≡ false
-    and-false true = refl
-    and-false false = refl
-
-    both : (t : ℕ) → Dec (t ≡ s) → (ltb t s && holds n t || holds (cond (holds n s) (2 ^ s) 0) t) ≡ (ltb t (suc s) && holds n t)
-    both t (yes e) = rw (one t (holds n s), e, le-ltb s s (omega arith), lt-ltb s (suc s) (omega arith), eq-eqb s s refl, and-true (holds n s))
-    both t (no g) = rw (one t (holds n s), ne-eqb t s g, and-false (holds n s), or-false (ltb t s && holds n t), same (decLt t s))
-      where
-        same : Dec (t < s) → ltb t s ≡ ltb t (suc s)
-        same (yes l) = rw (lt-ltb t s l, lt-ltb t (suc s) (omega arith))
-        same (no h) =
-            let l : suc s ≤ t = omega (arith, native.Mathlib.Nat.lt-of-not-le (λ (k : suc t ≤ s). h k), g) in
-            rw (le-ltb t s (omega arith), le-ltb t (suc s) l)
-
 -- ---- sets of the code: as many words as the kind has, and each fits
 
 pub record Words (m : ℕ) (ws : List ℕ) : Type 0 where
@@ -191,7 +143,7 @@ pub record Words (m : ℕ) (ws : List ℕ) : Type 0 where
   pub small : Small 64 ws
 
 -- so a promise that says `setOf r ≡ ..` determines r
-words-one : (m : ℕ) (a b : List ℕ) → Words m a → Words m b → num 64 a ≡ num 64 b → a ≡ b
+pub words-one : (m : ℕ) (a b : List ℕ) → Words m a → Words m b → num 64 a ≡ num 64 b → a ≡ b
 words-one m a b va vb e = num-inj 64 a b (va .small) (vb .small) (va .long ∙ sym (vb .long)) e
 
 pub set-one : (x y : StateSet) → Words setWords (x .words) → Words setWords (y .words) → setOf x ≡ setOf y → x ≡ y

@@ -2,12 +2,13 @@
 use mathlib.Core.Path.{_≡_, sym, _∙_}
 use mathlib.Core.List.{List}
 use mathlib.Core.Bool.{Bool}
-use Prim.Native.Nat.{ℕ}
+use Prim.Native.Nat.{ℕ, _*_}
+use lib.ListN.{length}
 use lib.Dec.{eqb}
 use Rattle.sets.specs.declared.StateSet.{StateSet}
 use Rattle.sets.specs.declared.SigSet.{SigSet}
-use Rattle.sets.specs.Set.{setWords, sigWords, states, signatures, setOf, sigsOf, holds, join, insert, size, setBytes, setAt, placed, before}
-use Rattle.sets.proofs.Sets.{Words, set-one, sigs-one}
+use Rattle.sets.specs.Set.{setWords, sigWords, states, signatures, num, setOf, sigsOf, holds, join, insert, size, setBytes, setAt, placed, before}
+use Rattle.sets.proofs.Sets.{Words, words-one, set-one, sigs-one}
 
 -- ---- answers and lists
 
@@ -33,6 +34,10 @@ module _ (r q : ℕ) where
 
 pub unique-store : (r q b : List ℕ) (x : StateSet) (at : ℕ) → r ≡ placed b at (setBytes (setOf x)) → q ≡ placed b at (setBytes (setOf x)) → r ≡ q
 unique-store r q b x at e f = e ∙ sym f
+
+pub unique-put-bit : (r q w : List ℕ) (s : ℕ) → Words (length w) r → Words (length w) q
+    → num 64 r ≡ insert (64 * length w) (num 64 w) s → num 64 q ≡ insert (64 * length w) (num 64 w) s → r ≡ q
+unique-put-bit r q w s vr vq e f = words-one (length w) r q vr vq (e ∙ sym f)
 
 -- ---- sets
 

@@ -1,19 +1,20 @@
 -- What the loops and stores of the code do to a list of words, over the list's length. Assumes nothing.
 use mathlib.Core.Path.{_≡_, refl, sym, ap, _∙_}
 use mathlib.Core.List.{List}
-use mathlib.Core.Bool.{true, false}
-use Prim.Native.Nat.{ℕ, _+_, _*_, _/_, _%_, _^_, _≤_, _<_}
-use native.Mathlib.Nat.{add-comm}
+use mathlib.Core.Bool.{true, false, cond}
+use Prim.Native.Nat.{ℕ, zero, suc, _+_, _*_, _/_, _%_, _^_, _≤_, _<_}
+use native.Mathlib.Nat.{add-comm, zero-mul, one-mul, add-mul, mul-assoc, mod-lt, pow-succ', lt-of-not-le}
 use native.Mathlib.Numerals.{add-one}
 use native.Mathlib.Omega.{arith}
 use lib.ListN.{length, getD, set, take}
 use lib.Seq.{take-length, ext-getD}
 use lib.Dec.{eqb, lit<}
-use lib.Bits.{bitOr}
+use lib.Bits.{bitOr, or-shifted-r}
+use lib.Pow.{pow-mono, pow-lt, pow-pos}
 use lib.Count.{ones, onesIn, ones-le}
 use borrow.Author.Tests.{lt-ltb, le-ltb, eq-eqb, ne-eqb}
 use Rattle.sets.specs.Set.{num, join, insert, size}
-use Rattle.sets.proofs.Laws.{Small, num-with, num-or, num-inj, num-take-lt, ones-take, ones-in}
+use Rattle.sets.proofs.Laws.{Small, num-with, num-or, num-inj, num-take, num-take-lt, ones-take, ones-in}
 use Rattle.sets.proofs.Sets.{Words}
 
 -- a store of bit s
@@ -65,3 +66,52 @@ module _ (m : ℕ) (a b : List ℕ) (va : Words m a) (vb : Words m b) where
   pub other-words : (i : ℕ) → (getD a i 0 ≡ getD b i 0 → ⊥) → eqb (num 64 a) (num 64 b) ≡ false
   other-words i ne =
       ne-eqb (num 64 a) (num 64 b) (λ e. ne (ap (λ (x : List ℕ). getD x i 0) (num-inj 64 a b (va .small) (vb .small) (va .long ∙ sym (vb .long)) e)))
+
+-- ---- the first words of a set
+
+pub front-none : (ws : List ℕ) → num 64 (take 0 ws) ≡ 0
+unfolding num
+front-none ws = refl
+
+pub front-more : (ws : List ℕ) (i : ℕ) → Small 64 ws → join (num 64 (take i ws)) (getD ws i 0 * 2 ^ (64 * i)) ≡ num 64 (take (i + 1) ws)
+unfolding join
+front-more ws i h =
+    rw (add-one i, num-take 64 ws i) (or-shifted-r (getD ws i 0) (64 * i) (num 64 (take i ws)) (num-take-lt 64 ws h i))
+
+pub front-all : (ws : List ℕ) (i : ℕ) → i ≡ length ws → num 64 (take i ws) ≡ num 64 ws
+front-all ws i e = rw (e, take-length ws)
+
+pub word-lt : (ws : List ℕ) (i m : ℕ) → Small 64 ws → i < m → getD ws i 0 * 2 ^ (64 * i) < 2 ^ (64 * m)
+word-lt ws i m h l =
+    let p : 2 ^ (64 * suc i) ≤ 2 ^ (64 * m) = pow-mono (omega arith) in
+    omega (arith, num-take 64 ws i, num-take-lt 64 ws h (suc i), p)
+
+-- ---- a word whose lowest bit is state s: that bit, and the other bits as a word at the next state
+
+low-bit : (b s : ℕ) → b < 2 → cond (eqb b 1) (2 ^ s) 0 ≡ b * 2 ^ s
+low-bit zero s h = sym (zero-mul (2 ^ s))
+low-bit (suc zero) s h = sym (one-mul (2 ^ s))
+low-bit (suc (suc b)) s h = absurd (omega arith)
+
+halves : (n s : ℕ) → n / 2 * 2 ^ (s + 1) + n % 2 * 2 ^ s ≡ n * 2 ^ s
+halves n s =
+    let e : n / 2 * 2 + n % 2 ≡ n = omega arith in
+    rw (add-one s, pow-succ' 2 s, ← mul-assoc (n / 2) 2 (2 ^ s), ← add-mul (n / 2 * 2) (n % 2) (2 ^ s), e)
+
+pub half-more : (n s : ℕ) → join (cond (eqb (n % 2) 1) (2 ^ s) 0) (n / 2 * 2 ^ (s + 1)) ≡ n * 2 ^ s
+unfolding join
+half-more n s =
+    rw (low-bit (n % 2) s (mod-lt n (lit< tt))) (or-shifted-r (n / 2) (s + 1) (n % 2 * 2 ^ s) (low-lt (n % 2) (mod-lt n (lit< tt))) ∙ halves n s)
+  where
+    low-lt : (b : ℕ) → b < 2 → b * 2 ^ s < 2 ^ (s + 1)
+    low-lt zero h = rw (zero-mul (2 ^ s)) (pow-pos (s + 1))
+    low-lt (suc zero) h = rw (one-mul (2 ^ s)) (pow-lt (omega arith))
+    low-lt (suc (suc b)) h = absurd (omega arith)
+
+pub half-lt : (n s m : ℕ) → n * 2 ^ s < 2 ^ m → n / 2 * 2 ^ (s + 1) < 2 ^ m
+half-lt n s m h = omega (arith, halves n s)
+
+-- a word that is not 0 stands at a state
+pub at-state : (n s m : ℕ) → n * 2 ^ s < 2 ^ m → (n ≡ 0 → ⊥) → s < m
+at-state zero s m h ne = absurd (ne refl)
+at-state (suc n) s m h ne = lt-of-not-le (λ (l : m ≤ s). omega (arith, h, add-mul n 1 (2 ^ s), one-mul (2 ^ s), pow-mono l))

@@ -45,7 +45,7 @@ fn bit_of(w: &[u64], s: usize) -> bool
 }
 
 // Makes bit s of the words 1; past their end it does nothing.
-fn put_bit(w: &mut [u64], s: usize)
+pub fn put_bit(w: &mut [u64], s: usize)
     ensures { λ r. ⌜ num 64 (now (w .exit)) ≡ insert (64 * length (now (w .entry))) (num 64 (now (w .entry))) s ⌝ }
 {
     let i = s / 64;

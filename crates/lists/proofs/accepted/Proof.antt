@@ -4,7 +4,8 @@ use mathlib.Core.Path.{_≡_}
 use Prim.Native.Nat.{_≤_, _-_}
 use native.Mathlib.Omega.{arith}
 use native.Mathlib.Numerals.{add-one}
-use Rattle.sets.specs.Set.{signatures, sigWords, setOf, sigsOf}
+use lib.ListN.{length}
+use Rattle.sets.specs.Set.{signatures, sigWords, num, setOf}
 use Rattle.sets.proofs.Sets.{empty-words}
 use Rattle.lists.specs.Scan.{gather}
 use Rattle.lists.specs.List.{records, isAccept, target}
@@ -13,17 +14,21 @@ use Rattle.lists.proofs.accepted.Statement.{statement}
 use Rattle.lists.proofs.accepted.Tie as tie
 
 abbrev Inv-loop : tie.InvT-loop
-Inv-loop l f n all₀ i₀ all i = (i ≤ n) × (sigsOf all ≡ gather signatures (leaves l (setOf f) (isAccept l)) (target l) i)
+Inv-loop l f n w₀ i₀ w i =
+    (i ≤ n) × (length w ≡ sigWords) × (num 64 w ≡ gather signatures (leaves l (setOf f) (isAccept l)) (target l) i)
 
 abbrev μ-loop : tie.MeasureT-loop
-μ-loop l f n all₀ i₀ all i = n - i
+μ-loop l f n w₀ i₀ w i = n - i
 
 records-requires : tie.Need-records-requires Inv-loop μ-loop
 records-requires c κs = search needs
 
 loop-holds : tie.Need-loop-holds Inv-loop μ-loop
 unfolding gather
-loop-holds c = (search needs, empty-words sigWords)
+loop-holds c = (search needs, search needs, empty-words sigWords)
+
+slice-aggregate-put-where : tie.Need-slice-aggregate-put-where Inv-loop μ-loop
+slice-aggregate-put-where c = search needs
 
 accepts-requires : tie.Need-accepts-requires Inv-loop μ-loop
 accepts-requires c κs = search needs
@@ -31,8 +36,8 @@ accepts-requires c κs = search needs
 target-requires : tie.Need-target-requires Inv-loop μ-loop
 target-requires c κs = search needs
 
-gather-signature-requires : tie.Need-gather-signature-requires Inv-loop μ-loop
-gather-signature-requires c κs = search needs
+put-where-requires : tie.Need-put-where-requires Inv-loop μ-loop
+put-where-requires c κs = search needs
 
 add-i : tie.Need-add-i Inv-loop μ-loop
 add-i c = search needs
@@ -42,7 +47,7 @@ loop-less c = search needs
 
 loop-again : tie.Need-loop-again Inv-loop μ-loop
 unfolding gather
-loop-again c = (search needs, rw add-one (cc))
+loop-again c = (search needs, search needs, rw add-one (cc))
 
 returns : tie.Need-returns Inv-loop μ-loop
 unfolding accepted
@@ -56,9 +61,10 @@ accepted-spec =
     μ-loop
     records-requires
     loop-holds
+    slice-aggregate-put-where
     accepts-requires
     target-requires
-    gather-signature-requires
+    put-where-requires
     add-i
     loop-less
     loop-again

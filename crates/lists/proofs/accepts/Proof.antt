@@ -1,5 +1,6 @@
--- `accepts` is the definition, test by test. Assumes nothing.
+-- `accepts` is the definition, test by test; a record that is no accept is not looked up. Assumes nothing.
 use borrow.Author.Needs.{needs}
+use mathlib.Core.Path.{sym, _∙_}
 use Rattle.lists.proofs.accepts.Statement.{statement}
 use Rattle.lists.proofs.accepts.Tie as tie
 
@@ -13,7 +14,10 @@ has-requires : tie.Need-has-requires
 has-requires c κs = search needs
 
 returns : tie.Need-returns
-returns c = cc
+returns c = rw (sym (c .before .before .before .is-accept .ensures) ∙ c .before .before .if1 .taken) (cc)
+
+returns-2 : tie.Need-returns-2
+returns-2 c = rw (sym (c .before .is-accept .ensures) ∙ c .if1 .left)
 
 pub accepts-spec : {M : Type 1} → statement M
-accepts-spec = tie.close (tie.spec is-accept-requires from-requires has-requires returns)
+accepts-spec = tie.close (tie.spec is-accept-requires from-requires has-requires returns returns-2)

@@ -4,7 +4,8 @@ use mathlib.Core.Path.{_≡_}
 use Prim.Native.Nat.{_≤_, _-_}
 use native.Mathlib.Omega.{arith}
 use native.Mathlib.Numerals.{add-one}
-use Rattle.sets.specs.Set.{states, setWords, setOf}
+use lib.ListN.{length}
+use Rattle.sets.specs.Set.{states, setWords, num}
 use Rattle.sets.proofs.Sets.{empty-words}
 use Rattle.lists.specs.Scan.{gather}
 use Rattle.lists.specs.List.{records, isStart, target}
@@ -13,17 +14,20 @@ use Rattle.lists.proofs.start_set.Statement.{statement}
 use Rattle.lists.proofs.start_set.Tie as tie
 
 abbrev Inv-loop : tie.InvT-loop
-Inv-loop l n all₀ i₀ all i = (i ≤ n) × (setOf all ≡ gather states (isStart l) (target l) i)
+Inv-loop l n w₀ i₀ w i = (i ≤ n) × (length w ≡ setWords) × (num 64 w ≡ gather states (isStart l) (target l) i)
 
 abbrev μ-loop : tie.MeasureT-loop
-μ-loop l n all₀ i₀ all i = n - i
+μ-loop l n w₀ i₀ w i = n - i
 
 records-requires : tie.Need-records-requires Inv-loop μ-loop
 records-requires c κs = search needs
 
 loop-holds : tie.Need-loop-holds Inv-loop μ-loop
 unfolding gather
-loop-holds c = (search needs, empty-words setWords)
+loop-holds c = (search needs, search needs, empty-words setWords)
+
+slice-aggregate-put-where : tie.Need-slice-aggregate-put-where Inv-loop μ-loop
+slice-aggregate-put-where c = search needs
 
 is-start-requires : tie.Need-is-start-requires Inv-loop μ-loop
 is-start-requires c κs = search needs
@@ -31,8 +35,8 @@ is-start-requires c κs = search needs
 target-requires : tie.Need-target-requires Inv-loop μ-loop
 target-requires c κs = search needs
 
-gather-state-requires : tie.Need-gather-state-requires Inv-loop μ-loop
-gather-state-requires c κs = search needs
+put-where-requires : tie.Need-put-where-requires Inv-loop μ-loop
+put-where-requires c κs = search needs
 
 add-i : tie.Need-add-i Inv-loop μ-loop
 add-i c = search needs
@@ -42,7 +46,7 @@ loop-less c = search needs
 
 loop-again : tie.Need-loop-again Inv-loop μ-loop
 unfolding gather
-loop-again c = (search needs, rw add-one (cc))
+loop-again c = (search needs, search needs, rw add-one (cc))
 
 returns : tie.Need-returns Inv-loop μ-loop
 unfolding start
@@ -56,9 +60,10 @@ start-set-spec =
     μ-loop
     records-requires
     loop-holds
+    slice-aggregate-put-where
     is-start-requires
     target-requires
-    gather-state-requires
+    put-where-requires
     add-i
     loop-less
     loop-again

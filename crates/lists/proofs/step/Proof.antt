@@ -1,52 +1,75 @@
--- `step` goes through the states; the invariant is the step of those passed that are in the frontier. Assumes nothing.
+-- `step` goes through the words of the frontier; the invariant is the step of the states in the words passed. Assumes nothing.
 use borrow.Author.Needs.{needs}
 use mathlib.Core.Path.{_≡_, sym, _∙_}
-use Prim.Native.Nat.{_≤_, _-_, _^_, _%_}
+use Prim.Native.Nat.{_≤_, _-_}
 use native.Mathlib.Omega.{arith}
-use Rattle.sets.specs.Set.{states, setWords, setOf}
-use Rattle.sets.proofs.Sets.{empty-words, words-lt}
+use lib.ListN.{take}
+use Rattle.sets.specs.Set.{setWords, num, setOf}
+use Rattle.sets.proofs.Sets.{empty-words}
+use Rattle.sets.proofs.Words.{word-lt}
 use Rattle.sets.proofs.Whole.{valid-of}
 use Rattle.lists.specs.Automaton.{step}
-use Rattle.lists.proofs.Frontier.{below-none, below-more, below-all}
+use Rattle.lists.proofs.Frontier.{none-read, word-read, all-read}
 use Rattle.lists.proofs.step.Statement.{statement}
 use Rattle.lists.proofs.step.Tie as tie
 
 abbrev Inv-loop : tie.InvT-loop
-Inv-loop l f c next₀ s₀ next s = (s ≤ states) × (setOf next ≡ step l (setOf f % 2 ^ s) c)
+Inv-loop l c words next₀ i₀ next i = (i ≤ setWords) × (setOf next ≡ step l (num 64 (take i words)) c)
 
 abbrev μ-loop : tie.MeasureT-loop
-μ-loop l f c next₀ s₀ next s = states - s
+μ-loop l c words next₀ i₀ next i = setWords - i
 
 loop-holds : tie.Need-loop-holds Inv-loop μ-loop
 loop-holds c =
-    let a = c .before .args in
-    (search needs, empty-words setWords ∙ sym (below-none (a .l .now) (setOf (a .f)) (a .c)))
+    let a = c .before .before .args in
+    (search needs, empty-words setWords ∙ sym (none-read (a .l .now) (a .f .words) (a .c)))
 
-join-targets-requires : tie.Need-join-targets-requires Inv-loop μ-loop
-join-targets-requires c κs = search needs
+mul-join-word : tie.Need-mul-join-word Inv-loop μ-loop
+mul-join-word c = search needs
 
-add-s : tie.Need-add-s Inv-loop μ-loop
-add-s c = search needs
+array-read-join-word : tie.Need-array-read-join-word Inv-loop μ-loop
+array-read-join-word c = search needs
+
+mul-join-word-2 : tie.Need-mul-join-word-2 Inv-loop μ-loop
+mul-join-word-2 c = search needs
+
+join-word-requires : tie.Need-join-word-requires Inv-loop μ-loop
+join-word-requires c κs =
+    let s = c .before .before .before .before in
+    word-lt (s .args .f .words) (c .before .loop .i) setWords (valid-of (s .args .f) _ (s .good .1 .0) .small) (omega arith)
+
+add-i : tie.Need-add-i Inv-loop μ-loop
+add-i c = search needs
 
 loop-less : tie.Need-loop-less Inv-loop μ-loop
 loop-less c = search needs
 
 loop-again : tie.Need-loop-again Inv-loop μ-loop
 loop-again c =
-    let a = c .before .before .before .before .args in
+    let s = c .before .before .before .before .before in
     let p = c .before .before .loop in (
       search needs,
-      cc (below-more (a .l .now) (setOf (a .f)) (a .c) (p .s)),
+      cc (word-read (s .args .l .now) (s .args .f .words) (s .args .c) (p .i) (valid-of (s .args .f) _ (s .good .1 .0) .small)),
     )
 
 returns : tie.Need-returns Inv-loop μ-loop
 returns c =
-    let a = c .before .before .before .args in
+    let s = c .before .before .before .before in
     let p = c .before .loop in
-    let e : p .s ≡ states = omega arith in
-    cc (below-all (a .l .now) (setOf (a .f)) (a .c) states (words-lt setWords (a .f .words) (valid-of (a .f) _ (c .before .before .before .good .1 .0))))
+    p .inv .1 ∙ all-read (s .args .l .now) (s .args .f .words) (s .args .c) (p .i) (omega (arith, valid-of (s .args .f) _ (s .good .1 .0) .long))
 
 pub step-spec : {M : Type 1} → statement M
 step-spec =
     tie.close
-    (tie.spec Inv-loop μ-loop loop-holds join-targets-requires add-s loop-less loop-again returns)
+    (tie.spec
+    Inv-loop
+    μ-loop
+    loop-holds
+    mul-join-word
+    array-read-join-word
+    mul-join-word-2
+    join-word-requires
+    add-i
+    loop-less
+    loop-again
+    returns)

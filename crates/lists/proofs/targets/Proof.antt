@@ -4,7 +4,8 @@ use mathlib.Core.Path.{_≡_}
 use Prim.Native.Nat.{_≤_, _-_, _^_}
 use native.Mathlib.Omega.{arith}
 use native.Mathlib.Numerals.{add-one}
-use Rattle.sets.specs.Set.{states, setWords, setOf}
+use lib.ListN.{length}
+use Rattle.sets.specs.Set.{states, setWords, num}
 use Rattle.sets.proofs.Sets.{empty-words}
 use Rattle.lists.specs.Scan.{gather}
 use Rattle.lists.specs.List.{records, target}
@@ -13,17 +14,21 @@ use Rattle.lists.proofs.targets.Statement.{statement}
 use Rattle.lists.proofs.targets.Tie as tie
 
 abbrev Inv-loop : tie.InvT-loop
-Inv-loop l s c n all₀ i₀ all i = (i ≤ n) × (setOf all ≡ gather states (leaves l (2 ^ s) (edge l c)) (target l) i)
+Inv-loop l s c n w₀ i₀ w i =
+    (i ≤ n) × (length w ≡ setWords) × (num 64 w ≡ gather states (leaves l (2 ^ s) (edge l c)) (target l) i)
 
 abbrev μ-loop : tie.MeasureT-loop
-μ-loop l s c n all₀ i₀ all i = n - i
+μ-loop l s c n w₀ i₀ w i = n - i
 
 records-requires : tie.Need-records-requires Inv-loop μ-loop
 records-requires c κs = search needs
 
 loop-holds : tie.Need-loop-holds Inv-loop μ-loop
 unfolding gather
-loop-holds c = (search needs, empty-words setWords)
+loop-holds c = (search needs, search needs, empty-words setWords)
+
+slice-aggregate-put-where : tie.Need-slice-aggregate-put-where Inv-loop μ-loop
+slice-aggregate-put-where c = search needs
 
 leaves-requires : tie.Need-leaves-requires Inv-loop μ-loop
 leaves-requires c κs = search needs
@@ -31,8 +36,8 @@ leaves-requires c κs = search needs
 target-requires : tie.Need-target-requires Inv-loop μ-loop
 target-requires c κs = search needs
 
-gather-state-requires : tie.Need-gather-state-requires Inv-loop μ-loop
-gather-state-requires c κs = search needs
+put-where-requires : tie.Need-put-where-requires Inv-loop μ-loop
+put-where-requires c κs = search needs
 
 add-i : tie.Need-add-i Inv-loop μ-loop
 add-i c = search needs
@@ -42,7 +47,7 @@ loop-less c = search needs
 
 loop-again : tie.Need-loop-again Inv-loop μ-loop
 unfolding gather
-loop-again c = (search needs, rw add-one (cc))
+loop-again c = (search needs, search needs, rw add-one (cc))
 
 returns : tie.Need-returns Inv-loop μ-loop
 unfolding step
@@ -56,9 +61,10 @@ targets-spec =
     μ-loop
     records-requires
     loop-holds
+    slice-aggregate-put-where
     leaves-requires
     target-requires
-    gather-state-requires
+    put-where-requires
     add-i
     loop-less
     loop-again
