@@ -7,7 +7,7 @@ use native.Mathlib.Omega.{arith}
 use native.Mathlib.Numerals.{add-one}
 use borrow.Author.Count.{below-more}
 use lib.ListN.{replicate, length, getD, set, take, drop, List·getD-eq-default}
-use lib.Seq.{take-take, take-nil, drop-drop, take-length, getD-set-same, getD-set-other}
+use lib.Seq.{take-take, take-nil, drop-drop, take-length, getD-drop, getD-set-same, getD-set-other}
 use lib.Dec.{lit<}
 use lib.Arith.{digits-mod, digits-lt}
 use lib.Pow.{split, shl-lt, shr-lt, pow-mono, shl-exact, pow-lt, pow-add, pow-pos, high, low, field, shr-shr}
@@ -18,6 +18,27 @@ use Rattle.sets.specs.Set.{num, bit, digits}
 -- each element has at most k bits; past the end stands 0
 abbrev pub Small : ℕ → List ℕ → Type 0
 Small k ws = (i : ℕ) → getD ws i 0 < 2 ^ k
+
+pub small-drop : (k n : ℕ) (ws : List ℕ) → Small k ws → Small k (drop n ws)
+small-drop k n ws h i = rw (getD-drop n ws i 0) (h (n + i))
+
+pub small-take : (k n : ℕ) (ws : List ℕ) → Small k ws → Small k (take n ws)
+small-take k zero ws h i = pow-pos k
+small-take k (suc n) [] h i = pow-pos k
+small-take k (suc n) (w ∷ ws) h zero = h 0
+small-take k (suc n) (w ∷ ws) h (suc i) = small-take k n ws (λ j. h (suc j)) i
+
+pub small-zeros : (k n : ℕ) → Small k (replicate n 0)
+small-zeros k zero i = pow-pos k
+small-zeros k (suc n) zero = pow-pos k
+small-zeros k (suc n) (suc i) = small-zeros k n i
+
+pub small-set : (k : ℕ) (ws : List ℕ) (i v : ℕ) → Small k ws → v < 2 ^ k → Small k (set ws i v)
+small-set k [] i v h l j = h j
+small-set k (w ∷ ws) zero v h l zero = l
+small-set k (w ∷ ws) zero v h l (suc j) = h (suc j)
+small-set k (w ∷ ws) (suc i) v h l zero = h 0
+small-set k (w ∷ ws) (suc i) v h l (suc j) = small-set k ws i v (λ n. h (suc n)) l j
 
 two-pos : zero < 2
 two-pos = lit< tt
@@ -238,7 +259,11 @@ num-split k (suc m) (x ∷ xs) =
       ← mul-suc k m,
     ) (add-assoc (num k (drop m xs) * 2 ^ (k * suc m)) (num k (take m xs) * 2 ^ k) x)
 
-drop-take : (m n : ℕ) (xs : List ℕ) → drop m (take (n + m) xs) ≡ take n (drop m xs)
+-- the m lowest digits
+pub num-low : (k m : ℕ) (xs : List ℕ) → Small k xs → num k xs % 2 ^ (k * m) ≡ num k (take m xs)
+num-low k m xs h = ap (λ (n : ℕ). n % 2 ^ (k * m)) (num-split k m xs) ∙ low (num k (drop m xs)) (k * m) (num-take-lt k xs h m)
+
+pub drop-take : (m n : ℕ) (xs : List ℕ) → drop m (take (n + m) xs) ≡ take n (drop m xs)
 drop-take zero n xs = rw (add-zero n)
 drop-take (suc m) n [] = let e : n + suc m ≡ suc (n + m) = omega arith in rw (e, take-nil n)
 drop-take (suc m) n (x ∷ xs) = let e : n + suc m ≡ suc (n + m) = omega arith in rw e (drop-take m n xs)

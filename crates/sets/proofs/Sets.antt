@@ -14,7 +14,7 @@ use borrow.Author.Tests.{eq-eqb, ne-eqb, ltb-true}
 use Rattle.sets.specs.declared.StateSet.{StateSet}
 use Rattle.sets.specs.declared.SigSet.{SigSet}
 use Rattle.sets.specs.Set.{setWords, sigWords, setSize, num, bit, digits, setOf, sigsOf, holds, join, insert, bytesAt, setAt}
-use Rattle.sets.proofs.Laws.{Small, bit-or, bit-zero, bit-pow-same, bit-pow-other, bits-ext, bit-num, num-inj, num-zeros, num-lt, num-take-lt}
+use Rattle.sets.proofs.Laws.{Small, small-drop, bit-or, bit-zero, bit-pow-same, bit-pow-other, bits-ext, bit-num, num-inj, num-zeros, num-lt, num-take-lt}
 
 two-pos : zero < 2
 two-pos = lit< tt
@@ -162,4 +162,4 @@ words-lt m ws v = rw (v .long) at (num-lt 64 ws (v .small))
 -- a set that stands in a list of bytes
 pub set-at-lt : (b : List ℕ) (at : ℕ) → Small 8 b → setAt b at < 2 ^ (8 * setSize)
 unfolding setAt
-set-at-lt b at h = num-take-lt 8 (drop at b) (λ i. rw (lib.Seq.getD-drop at b i 0) (h (at + i))) setSize
+set-at-lt b at h = num-take-lt 8 (drop at b) (small-drop 8 at b h) setSize

@@ -19,6 +19,9 @@ module _ (r q : Bool) where
   pub unique-same : (x y : StateSet) → r ≡ eqb (setOf x) (setOf y) → q ≡ eqb (setOf x) (setOf y) → r ≡ q
   unique-same x y e f = e ∙ sym f
 
+  pub unique-same-at : (x : StateSet) (b : List ℕ) (at : ℕ) → r ≡ eqb (setAt b at) (setOf x) → q ≡ eqb (setAt b at) (setOf x) → r ≡ q
+  unique-same-at x b at e f = e ∙ sym f
+
   pub unique-less : (x y : StateSet) → r ≡ before (setBytes (setOf x)) (setBytes (setOf y)) → q ≡ before (setBytes (setOf x)) (setBytes (setOf y)) → r ≡ q
   unique-less x y e f = e ∙ sym f
 

@@ -66,26 +66,14 @@ fn ones_of(w: &[u64]) -> u32
     n
 }
 
-// Byte at + j of a list; past its end that is 0. Where all eight bytes from the place on are there, the test is the same for each.
-fn byte_at(b: &[u8], at: usize, j: usize) -> u8
-    requires { ⌜ (at ≤ setSize) × (j < 8) ⌝ }
-    ensures { λ r. ⌜ r ≡ getD (now (b .entry)) (at + j) 0 ⌝ }
-{
-    if at + 8 <= b.len() {
-        b[at + j]
-    } else {
-        if at + j < b.len() { b[at + j] } else { 0 }
-    }
-}
-
-// The word whose eight bytes stand at a place, low byte first.
-fn word_at(b: &[u8], at: usize) -> u64
-    requires { ⌜ at ≤ setSize ⌝ }
+// The word whose eight bytes stand at a place, low byte first, where they are all there.
+fn whole_word(b: &[u8], at: usize) -> u64
+    requires { ⌜ at + 8 ≤ length (now b) ⌝ }
     ensures { λ r. ⌜ r ≡ num 8 (take 8 (drop at (now (b .entry)))) ⌝ }
 {
     let mut r = 0u64;
     for j in 0..8 {
-        r = r | (byte_at(b, at, j) as u64) << (8 * j);
+        r = r | (b[at + j] as u64) << (8 * j);
     }
     r
 }
@@ -155,15 +143,65 @@ impl StateSet {
         true
     }
 
-    // The set that a list of bytes begins with; bytes past the list's end are read as 0.
-    pub fn from_bytes(b: &[u8]) -> StateSet
+    // Says whether it is the set that stands at a place of a list of bytes, where its bytes are all there.
+    fn same_whole(self, b: &[u8], at: usize) -> bool
+        requires { ⌜ at + setSize ≤ length (now b) ⌝ }
+        ensures { λ r. ⌜ r ≡ eqb (setAt (now (b .entry)) at) (setOf self) ⌝ }
+    {
+        let a = self.words;
+        for i in 0..WORDS {
+            if a[i] != whole_word(b, at + 8 * i) {
+                return false;
+            }
+        }
+        true
+    }
+
+    // Says whether it is the set that stands at a place of a list of bytes; bytes past the list's end are read as 0.
+    pub fn same_at(self, b: &[u8], at: usize) -> bool
+        ensures { λ r. ⌜ r ≡ eqb (setAt (now (b .entry)) at) (setOf self) ⌝ }
+    {
+        if BYTES <= b.len() {
+            if at <= b.len() - BYTES {
+                return self.same_whole(b, at);
+            }
+        }
+        StateSet::load(b, at).same(self)
+    }
+
+    // The set that a list of bytes begins with, where its bytes are all there.
+    fn whole(b: &[u8]) -> StateSet
+        requires { ⌜ setSize ≤ length (now b) ⌝ }
         ensures { λ r. ⌜ setOf r ≡ setAt (now (b .entry)) 0 ⌝ }
     {
         let mut w = [0u64; WORDS];
         for i in 0..WORDS {
-            w[i] = word_at(b, 8 * i);
+            w[i] = whole_word(b, 8 * i);
         }
         StateSet { words: w }
+    }
+
+    // The set of a list's bytes, where they are no more than a set has.
+    fn cut(b: &[u8]) -> StateSet
+        requires { ⌜ length (now b) ≤ setSize ⌝ }
+        ensures { λ r. ⌜ setOf r ≡ setAt (now (b .entry)) 0 ⌝ }
+    {
+        let mut w = [0u64; WORDS];
+        for i in 0..b.len() {
+            w[i / 8] = w[i / 8] | (b[i] as u64) << (i % 8 * 8);
+        }
+        StateSet { words: w }
+    }
+
+    // The set that a list of bytes begins with; bytes past the list's end are read as 0.
+    pub fn from_bytes(b: &[u8]) -> StateSet
+        ensures { λ r. ⌜ setOf r ≡ setAt (now (b .entry)) 0 ⌝ }
+    {
+        if BYTES <= b.len() {
+            StateSet::whole(b)
+        } else {
+            StateSet::cut(b)
+        }
     }
 
     // The set that stands at a place of a list of bytes; bytes past the list's end are read as 0.

@@ -41,7 +41,7 @@ fn find(splits: &[u8], f: StateSet) -> usize
 {
     let n = tables::split_count(splits);
     for i in 0..n {
-        if tables::split_set(splits, i).same(f) {
+        if f.same_at(splits, tables::SPLIT_SIZE * i) {
             return i;
         }
     }

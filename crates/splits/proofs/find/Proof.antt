@@ -1,7 +1,7 @@
 -- `find` looks at the splits in order; none that it has passed has the set. Assumes nothing.
 use borrow.Author.Needs.{needs}
-use mathlib.Core.Path.{_≡_, sym, ap, _∙_}
-use Prim.Native.Nat.{ℕ, _-_, _≤_}
+use mathlib.Core.Path.{_≡_, sym, _∙_}
+use Prim.Native.Nat.{_-_, _≤_}
 use native.Mathlib.Omega.{arith}
 use lib.Dec.{eqb}
 use Rattle.sets.specs.Set.{setOf}
@@ -17,9 +17,9 @@ abbrev μ-loop : tie.MeasureT-loop
 μ-loop splits f n i₀ i = splitCount splits - i
 
 -- the test at a split is that of its set
-tested : (c : tie.After-same Inv-loop μ-loop) → eqb (splitSet (c .before .before .before .before .before .before .args .splits .now) (c .before .before .before .loop .i)) (setOf (c .before .before .before .before .before .before .args .f)) ≡ c .same .result
-tested c =
-    ap (λ (x : ℕ). eqb x (setOf (c .before .before .before .before .before .before .args .f))) (sym (c .before .split-set .ensures)) ∙ sym (c .same .ensures)
+tested : (c : tie.After-same-at Inv-loop μ-loop) → eqb (splitSet (c .before .before .before .before .before .args .splits .now) (c .before .before .loop .i)) (setOf (c .before .before .before .before .before .args .f)) ≡ c .same-at .result
+unfolding splitSet
+tested c = sym (c .same-at .ensures)
 
 split-count-requires : tie.Need-split-count-requires Inv-loop μ-loop
 split-count-requires c κs = search needs
@@ -27,16 +27,16 @@ split-count-requires c κs = search needs
 loop-holds : tie.Need-loop-holds Inv-loop μ-loop
 loop-holds c = (search needs, missed-none (c .before .before .args .splits .now) (setOf (c .before .before .args .f)))
 
-split-set-requires : tie.Need-split-set-requires Inv-loop μ-loop
-split-set-requires c κs = search needs
+mul-same-at : tie.Need-mul-same-at Inv-loop μ-loop
+mul-same-at c = search needs
 
-same-requires : tie.Need-same-requires Inv-loop μ-loop
-same-requires c κs = search needs
+same-at-requires : tie.Need-same-at-requires Inv-loop μ-loop
+same-at-requires c κs = search needs
 
 returns : tie.Need-returns Inv-loop μ-loop
 returns c =
-    let a = c .before .before .before .before .before .before .before .args in
-    let l = c .before .before .before .before .loop in
+    let a = c .before .before .before .before .before .before .args in
+    let l = c .before .before .before .loop in
     found-at (a .splits .now) (setOf (a .f)) (l .i) (l .inv .1) (omega arith) (tested (c .before) ∙ c .if1 .taken)
 
 add-i : tie.Need-add-i Inv-loop μ-loop
@@ -47,8 +47,8 @@ loop-less c = search needs
 
 loop-again : tie.Need-loop-again Inv-loop μ-loop
 loop-again c =
-    let a = c .before .before .before .before .before .before .before .args in
-    let l = c .before .before .before .before .loop in
+    let a = c .before .before .before .before .before .before .args in
+    let l = c .before .before .before .loop in
     (search needs, missed-more (a .splits .now) (setOf (a .f)) (l .i) (l .inv .1) (tested (c .before) ∙ c .if1 .left))
 
 returns-2 : tie.Need-returns-2 Inv-loop μ-loop
@@ -66,8 +66,8 @@ find-spec =
     μ-loop
     split-count-requires
     loop-holds
-    split-set-requires
-    same-requires
+    mul-same-at
+    same-at-requires
     returns
     add-i
     loop-less
