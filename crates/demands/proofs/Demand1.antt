@@ -5,6 +5,8 @@ use mathlib.Core.Bool.{Bool, true, false, _&&_, cond, true≢false, false≢true
 use mathlib.Core.List.{List, [], _∷_, _++_}
 use mathlib.Core.Logic.{_↔_}
 use native.Mathlib.Omega.{arith}
+use native.Mathlib.Nat.{lt-of-not-le}
+use native.Mathlib.Decide.{decLt}
 use lib.ListN.{length, take}
 use lib.Seq.{length-take-le, take-take}
 use lib.Dec.{ltb, eqb, lit<}
@@ -18,6 +20,7 @@ use Rattle.flows.specs.Engine.{Engine, Outcome, room, run, consumed, ended, ref
 use Rattle.flows.specs.Flow.{flowLayout, frontierOf, offsetOf, mostOffset, badFlow, otherStart, tooLong, feedRules}
 use Rattle.flows.proofs.Runs.{consumed-most, consumed-again, length-take-most}
 use Rattle.flows.proofs.Going.{unfed}
+use Rattle.flows.proofs.Moves.{no-refusal}
 use Rattle.flows.proofs.Looping.{feed-passes}
 use Rattle.plain.specs.Plain.{plain, opened, openRules, openRefusal, openSaved, plainFeed}
 use Rattle.plain.proofs.Plain.{plain-refusal}
@@ -121,6 +124,25 @@ module _ (L : List ℕ) (b : ℕ) (T : Table) (R : List ℕ) (at : ℕ) (piece o
       back : few < length piece → stuck b T (run (split L b T) (frontierOf R) (take few piece)) ≡ true → _≡_ {A = ℕ} (cond halting 14 0) 14
       back l s = rw (lt-ltb (length front) (length piece) (rw front-long l), s)
 
+  -- no refusal: no rule applies, and where bytes are left the frontier after those consumed is not stuck
+  by-none : (splitFeed L b T R at piece out .refusal ≡ 0)
+      ↔ ((verdict (splitRules L b T R at piece) ≡ 0)
+      × (splitFeed L b T R at piece out .bytes < length piece → stuck b T (run (split L b T) (frontierOf R) (take (splitFeed L b T R at piece out .bytes) piece)) ≡ false))
+  unfolding front halting
+  by-none = (
+    λ e. let v = no-refusal (split L b T) flowLayout R (splitRules L b T R at piece) piece out e in
+        rw (bytes-few v) (v, λ l. there (stuck b T (run (split L b T) (frontierOf R) (take few piece))) (rw (lt-ltb (length front) (length piece) (rw front-long l)) at (sym (ended-refusal v) ∙ e))),
+    λ w. ended-refusal (w .0) ∙ back (decLt few (length piece)) (rw (bytes-few (w .0)) at (w .1)),
+  )
+    where
+      there : (s : Bool) → _≡_ {A = ℕ} (cond s 14 0) 0 → s ≡ false
+      there true e = absurd (omega arith)
+      there false e = refl
+
+      back : Dec (few < length piece) → (few < length piece → stuck b T (run (split L b T) (frontierOf R) (take few piece)) ≡ false) → _≡_ {A = ℕ} (cond halting 14 0) 0
+      back (yes l) s = rw (lt-ltb (length front) (length piece) (rw front-long l), s l)
+      back (no n) s = rw (le-ltb (length front) (length piece) (rw front-long (omega (arith, lt-of-not-le (λ (l : suc few ≤ length piece). n l)))))
+
   not-all : splitFeed L b T R at piece out .refusal ≡ 14 → splitFeed L b T R at piece out .all ≡ false
   unfolding ended
   not-all e = rw (goes (passed-14 e)) (ne-eqb (length front) (length piece) (λ q. omega (arith, halts-14 e .0, front-long, q)))
@@ -158,6 +180,7 @@ demand-1 =
       splits-not =
           λ L b T R at piece out v w.
           refused-unchanged (split L b T) flowLayout R piece out (splitRules L b T R at piece) (λ z. neither-of L b T R at piece out v w z);
+      splits-passes = by-none;
       halts = by-halt;
       halts-not-all = not-all;
       halts-kept = kept;

@@ -52,6 +52,10 @@ pub record Demand1 : Type 0 where
       → (splitFeed L b T R at piece out .refusal ≡ number (splitRules L b T R at piece) i) ↔ Given (splitRules L b T R at piece) i
   pub splits-not : (L : List ℕ) (b : ℕ) (T : Table) (R : List ℕ) (at : ℕ) (piece out : List ℕ)
       → (splitFeed L b T R at piece out .refusal ≡ 0 → ⊥) → (splitFeed L b T R at piece out .refusal ≡ 14 → ⊥) → Unchanged R out (splitFeed L b T R at piece out)
+  pub splits-passes : (L : List ℕ) (b : ℕ) (T : Table) (R : List ℕ) (at : ℕ) (piece out : List ℕ)
+      → (splitFeed L b T R at piece out .refusal ≡ 0)
+      ↔ ((verdict (splitRules L b T R at piece) ≡ 0)
+      × (splitFeed L b T R at piece out .bytes < length piece → stuck b T (run (split L b T) (frontierOf R) (take (splitFeed L b T R at piece out .bytes) piece)) ≡ false))
   -- and 14: no other rule applies, bytes are left, and the frontier after those consumed is stuck; it never says that all was consumed
   pub halts : (L : List ℕ) (b : ℕ) (T : Table) (R : List ℕ) (at : ℕ) (piece out : List ℕ)
       → (splitFeed L b T R at piece out .refusal ≡ 14)

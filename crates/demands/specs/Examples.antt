@@ -4,12 +4,12 @@ use mathlib.Core.Bool.{cond}
 use mathlib.Core.List.{List, [], _∷_, _++_}
 use mathlib.Core.Path.{_≡_}
 use lib.ListN.{length, replicate}
-use Rattle.sets.specs.Set.{setSize, digits, setBytes}
-use Rattle.lists.specs.List.{listRefusal}
+use Rattle.sets.specs.Set.{states, signatures, setSize, digits, setBytes}
+use Rattle.lists.specs.List.{mostRecords, listRefusal}
 use Rattle.flows.specs.Engine.{Outcome}
-use Rattle.flows.specs.Flow.{flow, rowsOf}
+use Rattle.flows.specs.Flow.{mostOffset, flow, rowsOf}
 use Rattle.plain.specs.Plain.{opened}
-use Rattle.tables.specs.Table.{Table, tableRefusal}
+use Rattle.tables.specs.Table.{Table, mostClass, mostParts, mostSplits, mostBound, tableRefusal}
 use Rattle.demands.specs.Calls.{Via, byList, byTable, Call, outcome}
 
 -- a row: what a definition gives, and what the paper expects
@@ -108,8 +108,12 @@ afterBAB = fed byList afterA 1 (b ∷ a ∷ b ∷ []) 2 .saved
 
 abbrev pub feedRows : List Row
 feedRows =
+    -- the limits that the paper names: records, states, signatures; offset; class, parts, splits, bound
+    (mostRecords ∷ states ∷ signatures ∷ [], 4096 ∷ 256 ∷ 256 ∷ [])
+    ∷ (mostOffset ∷ [], 4294967295 ∷ [])
+    ∷ (mostClass ∷ mostParts ∷ mostSplits ∷ mostBound ∷ [], 63 ∷ 1024 ∷ 4096 ∷ 4 ∷ [])
     -- "abab": words 7, 2, 7, 4; 7 rows read
-    (plainABAB 2 .words, 7 ∷ 2 ∷ 7 ∷ 4 ∷ [])
+    ∷ (plainABAB 2 .words, 7 ∷ 2 ∷ 7 ∷ 4 ∷ [])
     ∷ (rowsOf (plainABAB 2 .saved) ∷ [], 7 ∷ [])
     -- split with T at 2: the same words, 7 rows, and 8 is the ceiling
     ∷ (answered (splitABAB 2 (s0 ++ (s01 ++ s02)) 2), 0 ∷ 4 ∷ 2 ∷ 1 ∷ [])

@@ -218,11 +218,12 @@ pub fn start_set(l: &[u8]) -> StateSet
     ensures { λ r. ⌜ setOf r ≡ start (now (l .entry)) ⌝ }
 {
     let n = records(l);
-    let mut w = [0u64; sets::WORDS];
+    let none = StateSet::EMPTY;
+    let mut w = none.words;
     for i in 0..n {
         put_where(&mut w, is_start(l, i), target(l, i));
     }
-    StateSet { words: w }
+    StateSet::of_words(w)
 }
 
 // Says whether record i is an edge that byte c takes.
@@ -246,11 +247,12 @@ fn targets(l: &[u8], s: usize, c: u8) -> StateSet
     ensures { λ r. ⌜ setOf r ≡ step (now (l .entry)) (2 ^ s) c ⌝ }
 {
     let n = records(l);
-    let mut w = [0u64; sets::WORDS];
+    let none = StateSet::EMPTY;
+    let mut w = none.words;
     for i in 0..n {
         put_where(&mut w, leaves(l, s, c, i), target(l, i));
     }
-    StateSet { words: w }
+    StateSet::of_words(w)
 }
 
 // The states with the targets of state s on byte c, where the test holds.
@@ -309,9 +311,10 @@ pub fn accepted(l: &[u8], f: StateSet) -> SigSet
     ensures { λ r. ⌜ sigsOf r ≡ accepted (now (l .entry)) (setOf f) ⌝ }
 {
     let n = records(l);
-    let mut w = [0u64; sets::SIG_WORDS];
+    let none = SigSet::EMPTY;
+    let mut w = none.words;
     for i in 0..n {
         put_where(&mut w, accepts(l, f, i), target(l, i));
     }
-    SigSet { words: w }
+    SigSet::of_words(w)
 }

@@ -51,6 +51,9 @@ module _ (r q : StateSet) (vr : Words setWords (r .words)) (vq : Words setWords 
   pub unique-union : (x y : StateSet) → setOf r ≡ join (setOf x) (setOf y) → setOf q ≡ join (setOf x) (setOf y) → r ≡ q
   unique-union x y e f = set-one r q vr vq (e ∙ sym f)
 
+  pub unique-of-words : (ws : List ℕ) → setOf r ≡ num 64 ws → setOf q ≡ num 64 ws → r ≡ q
+  unique-of-words ws e f = set-one r q vr vq (e ∙ sym f)
+
   pub unique-from-bytes : (b : List ℕ) → setOf r ≡ setAt b 0 → setOf q ≡ setAt b 0 → r ≡ q
   unique-from-bytes b e f = set-one r q vr vq (e ∙ sym f)
 
@@ -58,5 +61,8 @@ module _ (r q : StateSet) (vr : Words setWords (r .words)) (vq : Words setWords 
   unique-load b at e f = set-one r q vr vq (e ∙ sym f)
 
 module _ (r q : SigSet) (vr : Words sigWords (r .words)) (vq : Words sigWords (q .words)) where
+  pub unique-sig-of-words : (ws : List ℕ) → sigsOf r ≡ num 64 ws → sigsOf q ≡ num 64 ws → r ≡ q
+  unique-sig-of-words ws e f = sigs-one r q vr vq (e ∙ sym f)
+
   pub unique-sig-with : (x : SigSet) (g : ℕ) → sigsOf r ≡ insert signatures (sigsOf x) g → sigsOf q ≡ insert signatures (sigsOf x) g → r ≡ q
   unique-sig-with x g e f = sigs-one r q vr vq (e ∙ sym f)

@@ -91,6 +91,13 @@ impl StateSet {
         words: [0u64; WORDS],
     };
 
+    // The set that these words hold.
+    pub fn of_words(words: [u64; WORDS]) -> StateSet
+        ensures { λ r. ⌜ setOf r ≡ num 64 words ⌝ }
+    {
+        StateSet { words: words }
+    }
+
     // Says whether s is in the set.
     pub fn has(self, s: usize) -> bool
         ensures { λ r. ⌜ r ≡ holds (setOf self) s ⌝ }
@@ -258,6 +265,13 @@ impl SigSet {
     pub const EMPTY: SigSet = SigSet {
         words: [0u64; SIG_WORDS],
     };
+
+    // The set that these words hold.
+    pub fn of_words(words: [u64; SIG_WORDS]) -> SigSet
+        ensures { λ r. ⌜ sigsOf r ≡ num 64 words ⌝ }
+    {
+        SigSet { words: words }
+    }
 
     // Says whether g is in the set.
     pub fn has(self, g: usize) -> bool

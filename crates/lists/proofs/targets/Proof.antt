@@ -49,9 +49,12 @@ loop-again : tie.Need-loop-again Inv-loop μ-loop
 unfolding gather
 loop-again c = (search needs, search needs, rw add-one (cc))
 
+of-words-requires : tie.Need-of-words-requires Inv-loop μ-loop
+of-words-requires c κs = search needs
+
 returns : tie.Need-returns Inv-loop μ-loop
 unfolding step
-returns c = let e : c .before .loop .i ≡ records (c .before .before .before .before .args .l .now) = omega arith in cc
+returns c = let e : c .before .before .loop .i ≡ records (c .before .before .before .before .before .before .args .l .now) = omega arith in cc
 
 pub targets-spec : {M : Type 1} → statement M
 targets-spec =
@@ -68,4 +71,5 @@ targets-spec =
     add-i
     loop-less
     loop-again
+    of-words-requires
     returns)
