@@ -1,5 +1,5 @@
 -- The table check in a reader's words: each refusal is given exactly when its row says and no earlier row does, and what each row says. Assumes nothing.
-use Prim.Native.Nat.{ℕ, suc, _*_, _%_, _≤_, _<_}
+use Prim.Native.Nat.{ℕ, zero, suc, _*_, _%_, _≤_, _<_}
 use mathlib.Core.Path.{_≡_, refl, sym, ap}
 use mathlib.Core.Bool.{Bool, true, false, _&&_, _||_, not, true≢false}
 use mathlib.Core.List.{List, [], _∷_}
@@ -9,7 +9,7 @@ use native.Mathlib.Nat.{lt-of-not-le}
 use native.Mathlib.Decide.{decLt}
 use lib.ListN.{length, getD}
 use lib.Dec.{eqb, ltb}
-use borrow.Author.Tests.{eqb-true, eqb-false, eq-eqb, ne-eqb, ltb-true, lt-ltb, le-leb, not-true}
+use borrow.Author.Tests.{eqb-true, eqb-false, eq-eqb, ne-eqb, ltb-true, lt-ltb, le-ltb, le-leb, not-true}
 use Rattle.sets.specs.Set.{setSize}
 use Rattle.lists.specs.Scan.{every, Refuses}
 use Rattle.lists.specs.Automaton.{start, step}
@@ -17,7 +17,7 @@ use Rattle.lists.proofs.Scanning.{choose, or-true, or-cases, some-none, none-so
 use Rattle.lists.proofs.Rules.{refuses}
 use Rattle.tables.specs.Table.{Table, byteValues, mostClass, mostParts, mostSplits, mostBound, splitSize, largest, classCount, partCount, splitCount, part, row, splitSet, slots, usedSlots, takenSlots, joined, isSplit, badBound, badClasses, badCount, badRowsLength, badLengths, goodSlots, inOrder, badSplits, badRows, badUnion, noStartSplit, notClosed, tableRules, tableRefusal}
 use Rattle.tables.proofs.Entries.{largest-at}
-use Rattle.tables.proofs.Accepted.{Slots-good, slots-said}
+use Rattle.tables.proofs.Accepted.{Slots-good, slots-said, accepted, accepts}
 
 -- 0 is given exactly when no row applies, and each number exactly when its row is the first that applies
 pub table-exactly : (L : List ℕ) (b : ℕ) (T : Table) → Refuses (tableRules L b T) (tableRefusal L b T)
@@ -178,3 +178,28 @@ module _ (L : List ℕ) (T : Table) where
       (λ i. fails-words byteValues (λ c. isSplit (T .splits) (step L (splitSet (T .splits) i) c))
       (λ c. (j : ℕ) → j < splitCount (T .splits) → splitSet (T .splits) j ≡ step L (splitSet (T .splits) i) c → ⊥)
       (λ c. no-split (T .splits) (step L (splitSet (T .splits) i) c)))
+
+-- ---- the bound
+
+-- a table that is accepted at b is accepted at each larger bound
+pub larger-bound : (L : List ℕ) (b c : ℕ) (T : Table) → tableRefusal L b T ≡ 0 → b ≤ c → c ≤ mostBound → tableRefusal L c T ≡ 0
+larger-bound L b c T e h l =
+    let a = accepted L b T e in
+    accepts L c T
+    (record {
+      list = a .list;
+      bound = rw (ne-eqb c 0 (λ z. omega (arith, h, z, bound-some b (a .bound))), le-ltb mostBound c l);
+      lengths = a .lengths;
+      slots-good =
+          λ i m. let g = slots-said (partCount (T .parts)) b (slots (T .splits) i) (a .slots-good i m) in
+          slots-exactly (partCount (T .parts)) c (slots (T .splits) i) .1 (record { named = g .named; taken = g .taken; rise = g .rise; few = omega (arith, g .few) });
+      ordered = a .ordered;
+      rows-good = a .rows-good;
+      unions = a .unions;
+      begins = a .begins;
+      closed = a .closed;
+    })
+  where
+    bound-some : (b : ℕ) → badBound b ≡ false → 1 ≤ b
+    bound-some zero q = absurd (true≢false q)
+    bound-some (suc b) q = omega arith

@@ -1,0 +1,371 @@
+//! The lists, tables, flow records and pieces that the rows of the table run on. All are made by rule, so every run has the same.
+use std::collections::BTreeSet;
+
+/// A split table that owns its four lists.
+pub struct Table {
+    pub classes: Vec<u8>,
+    pub parts: Vec<u8>,
+    pub rows: Vec<u8>,
+    pub splits: Vec<u8>,
+}
+
+/// A set as its 32 bytes.
+pub type Bytes = [u8; 32];
+
+/// A small generator of numbers (splitmix64).
+pub struct Dice(pub u64);
+
+impl Dice {
+    pub fn below(&mut self, n: u64) -> u64 {
+        self.0 = self.0.wrapping_add(0x9e37_79b9_7f4a_7c15);
+        let mut z = self.0;
+        z = (z ^ (z >> 30)).wrapping_mul(0xbf58_476d_1ce4_e5b9);
+        z = (z ^ (z >> 27)).wrapping_mul(0x94d0_49bb_1331_11eb);
+        (z ^ (z >> 31)) % n
+    }
+
+    fn byte(&mut self) -> u8 {
+        self.below(256) as u8
+    }
+}
+
+pub fn set_of(states: impl IntoIterator<Item = u8>) -> Bytes {
+    let mut set = [0; 32];
+    for s in states {
+        set[usize::from(s / 8)] |= 1 << (s % 8);
+    }
+    set
+}
+
+fn join(sets: impl IntoIterator<Item = Bytes>) -> Bytes {
+    let mut all = [0; 32];
+    for set in sets {
+        all.iter_mut().zip(set).for_each(|(a, b)| *a |= b);
+    }
+    all
+}
+
+fn holds(set: &Bytes, s: u8) -> bool {
+    set[usize::from(s / 8)] >> (s % 8) & 1 == 1
+}
+
+fn edge(low: u8, high: u8, from: u8, to: u8) -> [u8; 8] {
+    [1, low, high, 0, from, 0, to, 0]
+}
+
+fn start(state: u8) -> [u8; 8] {
+    [2, 0, 0, 0, 0, 0, state, 0]
+}
+
+fn accept(state: u8, signature: u8) -> [u8; 8] {
+    [3, 0, 0, 0, state, 0, signature, 0]
+}
+
+/// The step of a set on a byte, for building tables.
+fn step(list: &[[u8; 8]], set: &Bytes, byte: u8) -> Bytes {
+    set_of(
+        list.iter()
+            .filter(|r| r[0] == 1 && r[1] <= byte && byte <= r[2] && holds(set, r[4]))
+            .map(|r| r[6]),
+    )
+}
+
+/// A flow record: a frontier at offset 0.
+pub fn flow_at(frontier: Bytes) -> [u8; 48] {
+    let mut record = [0; 48];
+    record[..32].copy_from_slice(&frontier);
+    record
+}
+
+/// Printable bytes without 'a', so that the barn list keeps its one state.
+pub fn line(n: usize) -> Vec<u8> {
+    let mut dice = Dice(7);
+    (0..n)
+        .map(|_| match 32 + dice.below(95) as u8 {
+            b'a' => b'.',
+            c => c,
+        })
+        .collect()
+}
+
+/// The barn list: signature 7 after any "ab". 5 records.
+pub fn barn_list() -> Vec<u8> {
+    [
+        edge(0, 255, 0, 0),
+        edge(b'a', b'a', 0, 1),
+        edge(b'b', b'b', 1, 2),
+        start(0),
+        accept(2, 7),
+    ]
+    .concat()
+}
+
+/// A list of n records whose frontier is the first `frontier` states at every byte: each has an edge to itself on all bytes. The other
+/// edges have narrow ranges, leave any state, and lead back into the frontier where they leave it. One record in sixteen accepts.
+pub fn steady_list(n: usize, frontier: usize) -> Vec<u8> {
+    let mut dice = Dice((n * 1000 + frontier) as u64);
+    let inside = frontier as u64;
+    let mut list = vec![start(0)];
+    list.extend((0..frontier).map(|s| edge(0, 255, s as u8, s as u8)));
+    list.truncate(n);
+    while list.len() < n {
+        let from = dice.byte();
+        // A frontier of all states would tell every signature at every byte: its list has edges alone.
+        if list.len() % 16 == 15 && frontier < 256 {
+            let state = inside + u64::from(from) % (256 - inside);
+            list.push(accept(state as u8, dice.byte()));
+            continue;
+        }
+        let to = if u64::from(from) < inside {
+            dice.below(inside) as u8
+        } else {
+            dice.byte()
+        };
+        let low = dice.below(250) as u8;
+        list.push(edge(low, low + dice.below(6) as u8, from, to));
+    }
+    // The order of the records is mixed.
+    for i in (1..list.len()).rev() {
+        list.swap(i, dice.below(i as u64 + 1) as usize);
+    }
+    list.concat()
+}
+
+/// A list of 5 records: after the first byte the frontier is the states 0 to width - 1, for ever.
+pub fn wide_list(width: u8) -> Vec<u8> {
+    let mut list = vec![start(0)];
+    list.extend((0..width).map(|s| edge(0, 255, 0, s)));
+    while list.len() < 5 {
+        list.push(accept(255, 1));
+    }
+    list.concat()
+}
+
+/// The list with accept records at the states 8 to 255, up to 4,096 records.
+pub fn filled(mut list: Vec<u8>) -> Vec<u8> {
+    let mut dice = Dice(4096);
+    while list.len() < 8 * 4096 {
+        list.extend(accept(8 + dice.below(248) as u8, dice.byte()));
+    }
+    list
+}
+
+fn split(set: Bytes, slots: &[u16]) -> Vec<u8> {
+    let mut bytes = set.to_vec();
+    for j in 0..4 {
+        bytes.extend(slots.get(j).unwrap_or(&u16::MAX).to_le_bytes());
+    }
+    bytes
+}
+
+/// Parts, and splits as unions of at most `bound` of them. `needed` splits are there; others are added up to `count`.
+struct Builder {
+    dice: Dice,
+    parts: Vec<Bytes>,
+    splits: BTreeSet<(Bytes, Vec<u16>)>,
+    sets: BTreeSet<Bytes>,
+}
+
+impl Builder {
+    fn new(seed: u64) -> Builder {
+        Builder {
+            dice: Dice(seed),
+            parts: Vec::new(),
+            splits: BTreeSet::new(),
+            sets: BTreeSet::new(),
+        }
+    }
+
+    /// The number of a part, added where it is new.
+    fn part(&mut self, set: Bytes) -> u16 {
+        let found = self.parts.iter().position(|part| *part == set);
+        found.unwrap_or_else(|| {
+            self.parts.push(set);
+            self.parts.len() - 1
+        }) as u16
+    }
+
+    /// Adds the split of some parts, where its set is new.
+    fn split(&mut self, mut slots: Vec<u16>) {
+        slots.sort();
+        slots.dedup();
+        let set = join(slots.iter().map(|&p| self.parts[usize::from(p)]));
+        if self.sets.insert(set) {
+            self.splits.insert((set, slots));
+        }
+    }
+
+    /// Adds parts of 1 to 3 states from `from` on, up to n parts.
+    fn fill_parts(&mut self, n: usize, from: u8) {
+        while self.parts.len() < n {
+            let size = 1 + self.dice.below(3);
+            let states: Vec<u8> = (0..size)
+                .map(|_| from + self.dice.below(256 - u64::from(from)) as u8)
+                .collect();
+            self.part(set_of(states));
+        }
+    }
+
+    /// Adds splits of `size` of the parts from `from` on, up to n splits.
+    fn fill_splits(&mut self, n: usize, from: usize, size: u64) {
+        let others = (self.parts.len() - from) as u64;
+        while self.splits.len() < n {
+            let slots = (0..size)
+                .map(|_| from as u16 + self.dice.below(others) as u16)
+                .collect();
+            self.split(slots);
+        }
+    }
+
+    /// The table over a list, where each class steps as its first byte does.
+    fn table(&self, list: &[u8], classes: Vec<u8>) -> Table {
+        let list = list.as_chunks::<8>().0;
+        let count = 1 + *classes.iter().max().expect("256 classes");
+        let first: Vec<u8> = (0..count)
+            .map(|k| {
+                classes
+                    .iter()
+                    .position(|&class| class == k)
+                    .expect("a byte of each class") as u8
+            })
+            .collect();
+        let rows = self
+            .parts
+            .iter()
+            .flat_map(|part| first.iter().map(|&c| step(list, part, c)));
+        Table {
+            rows: rows.collect::<Vec<_>>().concat(),
+            parts: self.parts.concat(),
+            splits: self
+                .splits
+                .iter()
+                .flat_map(|(set, slots)| split(*set, slots))
+                .collect(),
+            classes,
+        }
+    }
+}
+
+/// The table of the barn list, at bound 2.
+pub fn barn_table() -> Table {
+    let mut b = Builder::new(1);
+    for s in 0..3 {
+        b.part(set_of([s]));
+    }
+    b.split(vec![0]);
+    b.split(vec![0, 1]);
+    b.split(vec![0, 2]);
+    let classes = (0..=255u8).map(|c| match c {
+        b'a' => 1,
+        b'b' => 2,
+        _ => 0,
+    });
+    b.table(&barn_list(), classes.collect())
+}
+
+/// A table of n splits for `wide_list(width)`. The split of the steady frontier has `width` slots and stands last but for {0}: the
+/// sets before it have none of the states 0 to 7. With one slot in a split and 1,024 parts, no more than 1,025 sets can be splits;
+/// past that the set of an idle split is not the union of its parts, which the table check refuses and the feed does not look at.
+pub fn wide_table(n: usize, width: u8) -> Table {
+    let mut b = Builder::new(n as u64 * 10 + u64::from(width));
+    for s in 0..width {
+        b.part(set_of([s]));
+    }
+    b.split(vec![]);
+    b.split(vec![0]);
+    b.split((0..u16::from(width)).collect());
+    let parts = match (n, width) {
+        (16, _) => 40,
+        (256, _) => 300,
+        _ => 1024,
+    };
+    b.fill_parts(parts, 8);
+    if width == 1 && n > 1024 {
+        while b.splits.len() < n {
+            let states: Vec<u8> = (0..4).map(|_| 8 + b.dice.below(248) as u8).collect();
+            let set = set_of(states);
+            if b.sets.insert(set) {
+                b.splits.insert((set, vec![0]));
+            }
+        }
+    } else {
+        b.fill_splits(n, usize::from(width), u64::from(width));
+    }
+    b.table(&wide_list(width), vec![0; 256])
+}
+
+/// The largest list and table that the check accepts: 4,096 records, 1,024 parts of 1 to 3 states, 64 classes of 4 bytes, 4,096 splits,
+/// bound 4. On class k a state leads to the states of one set A of k, of another set B of k, or nowhere; so each step of a split is
+/// one of A, B, their union, and the empty set, and these are splits.
+pub fn largest() -> (Vec<u8>, Table) {
+    let mut b = Builder::new(4096);
+    let mut list = vec![start(0)];
+    let home = b.part(set_of([0]));
+    b.split(vec![]);
+    b.split(vec![home]);
+    for class in 0..64u8 {
+        let pair = |b: &mut Builder| loop {
+            let (x, y) = (b.dice.byte(), b.dice.byte());
+            if x != y {
+                break [x, y];
+            }
+        };
+        let groups = [pair(&mut b), pair(&mut b)];
+        let numbers = groups.map(|group| b.part(set_of(group)));
+        b.split(vec![numbers[0]]);
+        b.split(vec![numbers[1]]);
+        b.split(numbers.to_vec());
+        if class < 62 {
+            let mut leaving = BTreeSet::new();
+            while leaving.len() < 32 {
+                let from = b.dice.byte();
+                if leaving.insert(from) {
+                    let group = groups[leaving.len() % 2];
+                    list.extend(group.map(|to| edge(4 * class, 4 * class + 3, from, to)));
+                }
+            }
+        }
+    }
+    while list.len() < 4096 {
+        let (state, signature) = (b.dice.byte(), b.dice.byte());
+        list.push(accept(state, signature));
+    }
+    for i in (1..list.len()).rev() {
+        let j = b.dice.below(i as u64 + 1) as usize;
+        list.swap(i, j);
+    }
+    let list = list.concat();
+    b.fill_parts(1024, 0);
+    b.fill_splits(4096, 0, 4);
+    let table = b.table(&list, (0..=255u8).map(|c| c / 4).collect());
+    (list, table)
+}
+
+/// The largest table over the barn list: the look-ups of rule 13 are most of its check.
+pub fn largest_small_list() -> (Vec<u8>, Table) {
+    let list = barn_list();
+    let mut b = Builder::new(5);
+    let numbers = [0, 1, 2].map(|s| b.part(set_of([s])));
+    b.split(vec![]);
+    for i in 1..8u8 {
+        b.split(
+            numbers
+                .iter()
+                .copied()
+                .filter(|&p| i >> p & 1 == 1)
+                .collect(),
+        );
+    }
+    b.fill_parts(1024, 0);
+    b.fill_splits(4096, 0, 4);
+    let classes = (0..=255u8).map(|c| match c {
+        b'a' => 1,
+        b'b' => 2,
+        _ => 3 + c % 61,
+    });
+    // Class 0 needs a byte.
+    let mut classes: Vec<u8> = classes.collect();
+    classes[0] = 0;
+    let table = b.table(&list, classes);
+    (list, table)
+}

@@ -1,0 +1,145 @@
+//! The proved library behind its C face, under the types of the ordinary versions.
+use crate::ordinary::{Fed, Table};
+
+#[repr(C)]
+struct WatchFed {
+    bytes: u64,
+    pairs: u64,
+    refusal: u32,
+    all: bool,
+}
+
+unsafe extern "C" {
+    fn watch_check_list(list: *const u8, list_len: usize) -> u32;
+    fn watch_open(list: *const u8, list_len: usize, flow: *mut u8, flow_len: usize) -> u32;
+    fn watch_feed(
+        list: *const u8,
+        list_len: usize,
+        flow: *mut u8,
+        flow_len: usize,
+        start: u64,
+        piece: *const u8,
+        piece_len: usize,
+        pairs: *mut u32,
+        pairs_len: usize,
+    ) -> WatchFed;
+    fn watch_check_table(
+        list: *const u8,
+        list_len: usize,
+        bound: u64,
+        classes: *const u8,
+        classes_len: usize,
+        parts: *const u8,
+        parts_len: usize,
+        rows: *const u8,
+        rows_len: usize,
+        splits: *const u8,
+        splits_len: usize,
+    ) -> u32;
+    fn watch_split_feed(
+        list: *const u8,
+        list_len: usize,
+        bound: u64,
+        classes: *const u8,
+        classes_len: usize,
+        parts: *const u8,
+        parts_len: usize,
+        rows: *const u8,
+        rows_len: usize,
+        splits: *const u8,
+        splits_len: usize,
+        flow: *mut u8,
+        flow_len: usize,
+        start: u64,
+        piece: *const u8,
+        piece_len: usize,
+        pairs: *mut u32,
+        pairs_len: usize,
+    ) -> WatchFed;
+}
+
+fn fed(answer: WatchFed) -> Fed {
+    Fed {
+        refusal: answer.refusal,
+        bytes: answer.bytes as usize,
+        pairs: answer.pairs as usize,
+        all: answer.all,
+    }
+}
+
+// SAFETY of each call below: every pointer and length are those of one slice, and the borrow rules keep the lent buffers apart.
+
+pub fn check_list(list: &[u8]) -> u32 {
+    unsafe { watch_check_list(list.as_ptr(), list.len()) }
+}
+
+pub fn open(list: &[u8], flow: &mut [u8]) -> u32 {
+    unsafe { watch_open(list.as_ptr(), list.len(), flow.as_mut_ptr(), flow.len()) }
+}
+
+pub fn feed(list: &[u8], flow: &mut [u8], start: u64, piece: &[u8], pairs: &mut [u32]) -> Fed {
+    fed(unsafe {
+        watch_feed(
+            list.as_ptr(),
+            list.len(),
+            flow.as_mut_ptr(),
+            flow.len(),
+            start,
+            piece.as_ptr(),
+            piece.len(),
+            pairs.as_mut_ptr(),
+            pairs.len(),
+        )
+    })
+}
+
+pub fn check_table(list: &[u8], bound: u64, table: &Table) -> u32 {
+    unsafe {
+        watch_check_table(
+            list.as_ptr(),
+            list.len(),
+            bound,
+            table.classes.as_ptr(),
+            table.classes.len(),
+            table.parts.as_ptr(),
+            table.parts.len(),
+            table.rows.as_ptr(),
+            table.rows.len(),
+            table.splits.as_ptr(),
+            table.splits.len(),
+        )
+    }
+}
+
+pub fn split_feed(
+    list: &[u8],
+    bound: u64,
+    table: &Table,
+    flow: &mut [u8],
+    start: u64,
+    piece: &[u8],
+    pairs: &mut [u32],
+) -> Fed {
+    fed(unsafe {
+        watch_split_feed(
+            list.as_ptr(),
+            list.len(),
+            bound,
+            table.classes.as_ptr(),
+            table.classes.len(),
+            table.parts.as_ptr(),
+            table.parts.len(),
+            table.rows.as_ptr(),
+            table.rows.len(),
+            table.splits.as_ptr(),
+            table.splits.len(),
+            flow.as_mut_ptr(),
+            flow.len(),
+            start,
+            piece.as_ptr(),
+            piece.len(),
+            pairs.as_mut_ptr(),
+            pairs.len(),
+        )
+    })
+}
