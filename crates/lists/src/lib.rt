@@ -154,7 +154,13 @@ fn good_record(l: &[u8], i: usize) -> bool
     requires { ⌜ i < records (now l) ⌝ }
     ensures { λ r. ⌜ r ≡ goodRecord (now (l .entry)) i ⌝ }
 {
-    good_edge(l, i) | good_start(l, i) | good_accept(l, i)
+    if is_edge(l, i) {
+        return good_edge(l, i);
+    }
+    if is_start(l, i) {
+        return good_start(l, i);
+    }
+    good_accept(l, i)
 }
 
 // Says whether rule 1 refuses the list.
@@ -169,11 +175,12 @@ fn bad_record(l: &[u8]) -> bool
     ensures { λ r. ⌜ r ≡ badRecord (now (l .entry)) ⌝ }
 {
     let n = records(l);
-    let mut good = true;
     for i in 0..n {
-        good = good & good_record(l, i);
+        if !good_record(l, i) {
+            return true;
+        }
     }
-    !good
+    false
 }
 
 // Says whether rule 3 refuses the list.
@@ -181,11 +188,12 @@ fn no_start(l: &[u8]) -> bool
     ensures { λ r. ⌜ r ≡ noStart (now (l .entry)) ⌝ }
 {
     let n = records(l);
-    let mut found = false;
     for i in 0..n {
-        found = found | is_start(l, i);
+        if is_start(l, i) {
+            return false;
+        }
     }
-    !found
+    true
 }
 
 // The list check: the number of the first rule that refuses the list, 0 where none does.

@@ -1,19 +1,22 @@
--- `bad_record` goes through the records; the invariant is the definition for the records passed. Assumes nothing.
+-- `bad_record` goes through the records; those passed are good, and it ends at the first that is not. Assumes nothing.
 use borrow.Author.Needs.{needs}
-use mathlib.Core.Path.{_≡_, refl}
+use mathlib.Core.Path.{_≡_, refl, sym, ap, _∙_}
+use mathlib.Core.Bool.{true, false, not}
 use Prim.Native.Nat.{_≤_, _-_}
 use native.Mathlib.Omega.{arith}
 use native.Mathlib.Numerals.{add-one}
+use borrow.Author.Tests.{not-true, not-false}
 use Rattle.lists.specs.Scan.{every}
 use Rattle.lists.specs.List.{goodRecord, badRecord, records}
+use Rattle.lists.proofs.Scanning.{every-fails}
 use Rattle.lists.proofs.bad_record.Statement.{statement}
 use Rattle.lists.proofs.bad_record.Tie as tie
 
 abbrev Inv-loop : tie.InvT-loop
-Inv-loop l n good₀ i₀ good i = (i ≤ n) × (good ≡ every i (goodRecord l))
+Inv-loop l n i₀ i = (i ≤ n) × (every i (goodRecord l) ≡ true)
 
 abbrev μ-loop : tie.MeasureT-loop
-μ-loop l n good₀ i₀ good i = n - i
+μ-loop l n i₀ i = n - i
 
 records-requires : tie.Need-records-requires Inv-loop μ-loop
 records-requires c κs = search needs
@@ -25,6 +28,13 @@ loop-holds c = (search needs, refl)
 good-record-requires : tie.Need-good-record-requires Inv-loop μ-loop
 good-record-requires c κs = search needs
 
+returns : tie.Need-returns Inv-loop μ-loop
+unfolding badRecord
+returns c =
+    let p = c .before .before .before .loop in
+    let a = c .before .before .before .before .before .before .args in
+    sym (ap not (every-fails (records (a .l .now)) (goodRecord (a .l .now)) (p .i) (omega arith) (sym (c .before .good-record .ensures) ∙ not-true _ (c .if1 .taken))))
+
 add-i : tie.Need-add-i Inv-loop μ-loop
 add-i c = search needs
 
@@ -33,11 +43,11 @@ loop-less c = search needs
 
 loop-again : tie.Need-loop-again Inv-loop μ-loop
 unfolding every
-loop-again c = (search needs, rw add-one (cc))
+loop-again c = (search needs, rw (add-one, c .before .before .before .loop .inv .1) (sym (c .before .good-record .ensures) ∙ not-false _ (c .if1 .left)))
 
-returns : tie.Need-returns Inv-loop μ-loop
+returns-2 : tie.Need-returns-2 Inv-loop μ-loop
 unfolding badRecord
-returns c = let e : c .before .loop .i ≡ records (c .before .before .before .before .args .l .now) = omega arith in cc
+returns-2 c = let e : c .before .loop .i ≡ records (c .before .before .before .before .args .l .now) = omega arith in rw (sym e, c .before .loop .inv .1)
 
 pub bad-record-spec : {M : Type 1} → statement M
 bad-record-spec =
@@ -48,7 +58,8 @@ bad-record-spec =
     records-requires
     loop-holds
     good-record-requires
+    returns
     add-i
     loop-less
     loop-again
-    returns)
+    returns-2)

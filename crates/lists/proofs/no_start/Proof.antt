@@ -1,19 +1,21 @@
--- `no_start` goes through the records; the invariant is the definition for the records passed. Assumes nothing.
+-- `no_start` goes through the records; none passed is a start, and it ends at the first that is one. Assumes nothing.
 use borrow.Author.Needs.{needs}
-use mathlib.Core.Path.{_≡_, refl}
+use mathlib.Core.Path.{_≡_, refl, sym, ap, _∙_}
+use mathlib.Core.Bool.{true, false, not}
 use Prim.Native.Nat.{_≤_, _-_}
 use native.Mathlib.Omega.{arith}
 use native.Mathlib.Numerals.{add-one}
 use Rattle.lists.specs.Scan.{some}
 use Rattle.lists.specs.List.{isStart, noStart, records}
+use Rattle.lists.proofs.Scanning.{some-intro}
 use Rattle.lists.proofs.no_start.Statement.{statement}
 use Rattle.lists.proofs.no_start.Tie as tie
 
 abbrev Inv-loop : tie.InvT-loop
-Inv-loop l n found₀ i₀ found i = (i ≤ n) × (found ≡ some i (isStart l))
+Inv-loop l n i₀ i = (i ≤ n) × (some i (isStart l) ≡ false)
 
 abbrev μ-loop : tie.MeasureT-loop
-μ-loop l n found₀ i₀ found i = n - i
+μ-loop l n i₀ i = n - i
 
 records-requires : tie.Need-records-requires Inv-loop μ-loop
 records-requires c κs = search needs
@@ -25,6 +27,13 @@ loop-holds c = (search needs, refl)
 is-start-requires : tie.Need-is-start-requires Inv-loop μ-loop
 is-start-requires c κs = search needs
 
+returns : tie.Need-returns Inv-loop μ-loop
+unfolding noStart
+returns c =
+    let p = c .before .before .before .loop in
+    let a = c .before .before .before .before .before .before .args in
+    sym (ap not (some-intro (records (a .l .now)) (isStart (a .l .now)) (p .i) (omega arith) (sym (c .before .is-start .ensures) ∙ c .if1 .taken)))
+
 add-i : tie.Need-add-i Inv-loop μ-loop
 add-i c = search needs
 
@@ -35,9 +44,9 @@ loop-again : tie.Need-loop-again Inv-loop μ-loop
 unfolding some
 loop-again c = (search needs, rw add-one (cc))
 
-returns : tie.Need-returns Inv-loop μ-loop
+returns-2 : tie.Need-returns-2 Inv-loop μ-loop
 unfolding noStart
-returns c = let e : c .before .loop .i ≡ records (c .before .before .before .before .args .l .now) = omega arith in cc
+returns-2 c = let e : c .before .loop .i ≡ records (c .before .before .before .before .args .l .now) = omega arith in rw (sym e, c .before .loop .inv .1)
 
 pub no-start-spec : {M : Type 1} → statement M
 no-start-spec =
@@ -48,7 +57,8 @@ no-start-spec =
     records-requires
     loop-holds
     is-start-requires
+    returns
     add-i
     loop-less
     loop-again
-    returns)
+    returns-2)
