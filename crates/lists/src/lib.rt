@@ -212,12 +212,13 @@ pub fn check_list(l: &[u8]) -> u32
     PASSED
 }
 
-// Puts s into the words of a set, where the test holds.
-fn put_where(w: &mut [u64], test: bool, s: usize)
-    ensures { λ r. ⌜ num 64 (now (w .exit)) ≡ cond test (insert (64 * length (now (w .entry))) (num 64 (now (w .entry))) s) (num 64 (now (w .entry))) ⌝ }
+// Puts the target of record i into the words of a set, where the test holds.
+fn put_target(l: &[u8], i: usize, test: bool, w: &mut [u64])
+    requires { ⌜ i < records (now l) ⌝ }
+    ensures { λ r. ⌜ num 64 (now (w .exit)) ≡ cond test (insert (64 * length (now (w .entry))) (num 64 (now (w .entry))) (target (now (l .entry)) i)) (num 64 (now (w .entry))) ⌝ }
 {
     if test {
-        sets::put_bit(w, s);
+        sets::put_bit(w, target(l, i));
     }
 }
 
@@ -229,7 +230,7 @@ pub fn start_set(l: &[u8]) -> StateSet
     let none = StateSet::EMPTY;
     let mut w = none.words;
     for i in 0..n {
-        put_where(&mut w, is_start(l, i), target(l, i));
+        put_target(l, i, is_start(l, i), &mut w);
     }
     StateSet::of_words(w)
 }
@@ -258,7 +259,7 @@ fn targets(l: &[u8], s: usize, c: u8) -> StateSet
     let none = StateSet::EMPTY;
     let mut w = none.words;
     for i in 0..n {
-        put_where(&mut w, leaves(l, s, c, i), target(l, i));
+        put_target(l, i, leaves(l, s, c, i), &mut w);
     }
     StateSet::of_words(w)
 }
@@ -322,7 +323,7 @@ pub fn accepted(l: &[u8], f: StateSet) -> SigSet
     let none = SigSet::EMPTY;
     let mut w = none.words;
     for i in 0..n {
-        put_where(&mut w, accepts(l, f, i), target(l, i));
+        put_target(l, i, accepts(l, f, i), &mut w);
     }
     SigSet::of_words(w)
 }

@@ -27,17 +27,14 @@ loop-holds : tie.Need-loop-holds Inv-loop μ-loop
 unfolding gather
 loop-holds c = (search needs, search needs, empty-words setWords)
 
-slice-aggregate-put-where : tie.Need-slice-aggregate-put-where Inv-loop μ-loop
-slice-aggregate-put-where c = search needs
-
 leaves-requires : tie.Need-leaves-requires Inv-loop μ-loop
 leaves-requires c κs = search needs
 
-target-requires : tie.Need-target-requires Inv-loop μ-loop
-target-requires c κs = search needs
+slice-aggregate-put-target : tie.Need-slice-aggregate-put-target Inv-loop μ-loop
+slice-aggregate-put-target c = search needs
 
-put-where-requires : tie.Need-put-where-requires Inv-loop μ-loop
-put-where-requires c κs = search needs
+put-target-requires : tie.Need-put-target-requires Inv-loop μ-loop
+put-target-requires c κs = search needs
 
 add-i : tie.Need-add-i Inv-loop μ-loop
 add-i c = search needs
@@ -64,10 +61,9 @@ targets-spec =
     μ-loop
     records-requires
     loop-holds
-    slice-aggregate-put-where
     leaves-requires
-    target-requires
-    put-where-requires
+    slice-aggregate-put-target
+    put-target-requires
     add-i
     loop-less
     loop-again
