@@ -1,6 +1,6 @@
 pub mod Scanning
 pub mod Rules
-pub mod Steps
 pub mod Listed
+pub mod Steps
 pub mod Frontier
 pub mod Unique

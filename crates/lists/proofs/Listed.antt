@@ -1,15 +1,14 @@
 -- The list check in a reader's words: each refusal is given exactly when its row says and no earlier row does, and what each row says. Assumes nothing.
 use Prim.Native.Nat.{ℕ, _*_, _%_, _<_}
 use mathlib.Core.Path.{_≡_, refl, ap, _∙_}
-use mathlib.Core.Bool.{true, false, _||_, not}
+use mathlib.Core.Bool.{true, false, not}
 use mathlib.Core.List.{List}
-use mathlib.Core.Logic.{_⊎_, inl, inr, _↔_}
+use mathlib.Core.Logic.{_⊎_, _↔_}
 use lib.ListN.{length}
-use lib.Dec.{eqb, ltb}
-use borrow.Author.Tests.{eqb-true, eqb-false, ne-eqb, ltb-true, lt-ltb, not-true}
+use borrow.Author.Tests.{eqb-true, not-true}
 use Rattle.lists.specs.Scan.{Refuses}
 use Rattle.lists.specs.List.{recordSize, mostRecords, records, byteOf, isEdge, isStart, isAccept, goodEdge, goodStart, goodAccept, goodRecord, badLength, badRecord, noStart, listRules, listRefusal}
-use Rattle.lists.proofs.Scanning.{or-cases, or-true, or-false, choose, some-none, none-some, refuses-exactly}
+use Rattle.lists.proofs.Scanning.{or-false, length-words, some-none, none-some, refuses-exactly}
 use Rattle.lists.proofs.Rules.{refuses}
 
 -- a row's number exactly when that row is the first that applies, 0 exactly when none applies
@@ -17,26 +16,9 @@ pub list-refuses : (L : List ℕ) → Refuses (listRules L) (listRefusal L)
 list-refuses L = refuses (listRules L) refl
 
 -- row 1: the length is 0, over that of the most records, or no multiple of a record's
-pub bad-length : (L : List ℕ) → badLength L ≡ true ↔ ((length L ≡ 0) ⊎ (recordSize * mostRecords < length L) ⊎ (length L % recordSize ≡ 0 → ⊥))
+pub bad-length : (L : List ℕ) → badLength L ≡ true ↔ (((length L ≡ 0) ⊎ (recordSize * mostRecords < length L)) ⊎ (length L % recordSize ≡ 0 → ⊥))
 unfolding badLength
-bad-length L = (there, back)
-  where
-    there : badLength L ≡ true → (length L ≡ 0) ⊎ (recordSize * mostRecords < length L) ⊎ (length L % recordSize ≡ 0 → ⊥)
-    there e =
-        choose (or-cases (eqb (length L) 0 || ltb (recordSize * mostRecords) (length L)) (not (eqb (length L % recordSize) 0)) e)
-        (λ ab. choose (or-cases (eqb (length L) 0) (ltb (recordSize * mostRecords) (length L)) ab)
-        (λ a. inl (eqb-true (length L) 0 a))
-        (λ b. inr (inl (ltb-true (recordSize * mostRecords) (length L) b))))
-        (λ c. inr (inr (eqb-false (length L % recordSize) 0 (not-true _ c))))
-
-    over : recordSize * mostRecords < length L → badLength L ≡ true
-    over h = rw (lt-ltb (recordSize * mostRecords) (length L) h, or-true (eqb (length L) 0))
-
-    odd : (length L % recordSize ≡ 0 → ⊥) → badLength L ≡ true
-    odd n = rw (ne-eqb (length L % recordSize) 0 n) (or-true (eqb (length L) 0 || ltb (recordSize * mostRecords) (length L)))
-
-    back : (length L ≡ 0) ⊎ (recordSize * mostRecords < length L) ⊎ (length L % recordSize ≡ 0 → ⊥) → badLength L ≡ true
-    back s = choose s (λ e. rw e) (λ t. choose t over odd)
+bad-length L = length-words recordSize mostRecords (length L)
 
 -- row 2: some record is not good
 pub bad-record : (L : List ℕ) → badRecord L ≡ true ↔ ((i : ℕ) × (i < records L) × (goodRecord L i ≡ false))
@@ -46,8 +28,7 @@ bad-record L = refuses-exactly (records L) (goodRecord L)
 -- a record is good as its kind says: an edge, a start, an accept
 pub good-edge : (L : List ℕ) (i : ℕ) → isEdge L i ≡ true → goodRecord L i ≡ goodEdge L i
 unfolding goodRecord
-good-edge L i k =
-    let x = eqb-true (byteOf L i 0) 1 k in rw x (or-false _ ∙ or-false _)
+good-edge L i k = rw (eqb-true (byteOf L i 0) 1 k) (or-false _ ∙ or-false _)
 
 pub good-start : (L : List ℕ) (i : ℕ) → isStart L i ≡ true → goodRecord L i ≡ goodStart L i
 unfolding goodRecord

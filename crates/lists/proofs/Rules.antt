@@ -1,13 +1,13 @@
 -- A table of rules gives each number exactly when its row applies and no row before it does. Assumes nothing.
-use Prim.Native.Nat.{ℕ, zero, suc, _+_, _≤_, _<_}
-use mathlib.Core.Path.{_≡_, refl, sym, ap, _∙_}
-use mathlib.Core.Bool.{Bool, true, false, _&&_, cond, not, true≢false, false≢true}
+use Prim.Native.Nat.{ℕ, zero, suc, _<_}
+use mathlib.Core.Path.{_≡_, refl, sym}
+use mathlib.Core.Bool.{Bool, true, false, _&&_, cond, not}
 use mathlib.Core.List.{List, [], _∷_, _++_}
 use mathlib.Core.Logic.{_↔_}
 use native.Mathlib.Omega.{arith}
 use lib.ListN.{length}
 use lib.Dec.{eqb, ltb}
-use borrow.Author.Tests.{eqb-true, eqb-false, ltb-true, not-true}
+use borrow.Author.Tests.{eqb-false, ltb-true, not-true}
 use Rattle.lists.specs.Scan.{Rule, verdict, number, applies, Given, Refuses}
 use Rattle.lists.proofs.Scanning.{both}
 
@@ -21,27 +21,35 @@ abbrev pub distinct : List Rule → Bool
 distinct [] = true
 distinct (r ∷ rs) = not (eqb (r .0) 0) && unnumbered (r .0) rs && distinct rs
 
+-- what these say of the first row, and of the rest
+other : (n : ℕ) (r : Rule) (rs : List Rule) → unnumbered n (r ∷ rs) ≡ true → (n ≡ r .0 → ⊥) × (unnumbered n rs ≡ true)
+other n r rs u =
+    let w = both (not (eqb n (r .0))) (unnumbered n rs) u in (eqb-false n (r .0) (not-true _ (w .0)), w .1)
+
+apart : (r : Rule) (rs : List Rule) → distinct (r ∷ rs) ≡ true → (r .0 ≡ 0 → ⊥) × (unnumbered (r .0) rs ≡ true) × (distinct rs ≡ true)
+apart r rs d =
+    let w = both (not (eqb (r .0) 0) && unnumbered (r .0) rs) (distinct rs) d in
+    let v = both (not (eqb (r .0) 0)) (unnumbered (r .0) rs) (w .0) in
+    (eqb-false (r .0) 0 (not-true _ (v .0)), v .1, w .1)
+
 no-such : (n : ℕ) (rs : List Rule) → unnumbered n rs ≡ true → (verdict rs ≡ n) → (n ≡ 0 → ⊥) → ⊥
 unfolding verdict
 no-such n [] u e z = z (sym e)
-no-such n (r ∷ rs) u e z =
-    let w = both (not (eqb n (r .0))) (unnumbered n rs) u in
-    go (r .1) e (not-true (eqb n (r .0)) (w .0)) (λ q. no-such n rs (w .1) q z)
+no-such n (r ∷ rs) u e z = let w = other n r rs u in go (r .1) e (w .0) (λ q. no-such n rs (w .1) q z)
   where
-    go : (b : Bool) → cond b (r .0) (verdict rs) ≡ n → eqb n (r .0) ≡ false → (verdict rs ≡ n → ⊥) → ⊥
-    go true q w ih = eqb-false n (r .0) w (sym q)
+    go : (b : Bool) → cond b (r .0) (verdict rs) ≡ n → (n ≡ r .0 → ⊥) → (verdict rs ≡ n → ⊥) → ⊥
+    go true q w ih = w (sym q)
     go false q w ih = ih q
 
 unnumbered-at : (n : ℕ) (rs : List Rule) → unnumbered n rs ≡ true → (i : ℕ) → i < length rs → number rs i ≡ n → ⊥
 unnumbered-at n [] u i h e = absurd (omega arith)
-unnumbered-at n (r ∷ rs) u zero h e = eqb-false n (r .0) (not-true _ (both (not (eqb n (r .0))) (unnumbered n rs) u .0)) (sym e)
-unnumbered-at n (r ∷ rs) u (suc i) h e = unnumbered-at n rs (both (not (eqb n (r .0))) (unnumbered n rs) u .1) i (omega arith) e
+unnumbered-at n (r ∷ rs) u zero h e = other n r rs u .0 (sym e)
+unnumbered-at n (r ∷ rs) u (suc i) h e = unnumbered-at n rs (other n r rs u .1) i (omega arith) e
 
 pub numbered : (rs : List Rule) → distinct rs ≡ true → (i : ℕ) → i < length rs → number rs i ≡ 0 → ⊥
 numbered [] d i h e = absurd (omega arith)
-numbered (r ∷ rs) d zero h e =
-    eqb-false (r .0) 0 (not-true _ (both (not (eqb (r .0) 0)) (unnumbered (r .0) rs) (both (not (eqb (r .0) 0) && unnumbered (r .0) rs) (distinct rs) d .0) .0)) e
-numbered (r ∷ rs) d (suc i) h e = numbered rs (both (not (eqb (r .0) 0) && unnumbered (r .0) rs) (distinct rs) d .1) i (omega arith) e
+numbered (r ∷ rs) d zero h e = apart r rs d .0 e
+numbered (r ∷ rs) d (suc i) h e = numbered rs (apart r rs d .2) i (omega arith) e
 
 -- the number of row i is given exactly when row i applies and no row before it does
 pub exactly : (rs : List Rule) → distinct rs ≡ true → (i : ℕ) → i < length rs → (verdict rs ≡ number rs i) ↔ Given rs i
@@ -49,24 +57,16 @@ unfolding verdict
 exactly [] d i h = absurd (omega arith)
 exactly (r ∷ rs) d zero h = (λ e. (first (r .1) refl e, λ j l. absurd (omega arith)), λ g. rw (g .0))
   where
-    un : unnumbered (r .0) rs ≡ true
-    un = both (not (eqb (r .0) 0)) (unnumbered (r .0) rs) (both (not (eqb (r .0) 0) && unnumbered (r .0) rs) (distinct rs) d .0) .1
-
     first : (b : Bool) → r .1 ≡ b → cond (r .1) (r .0) (verdict rs) ≡ r .0 → r .1 ≡ true
     first true q e = q
-    first false q e = absurd (no-such (r .0) rs un (rw q at e) (numbered (r ∷ rs) d zero h))
-exactly (r ∷ rs) d (suc i) h = (λ e. there (r .1) refl e (exactly rs rest i (omega arith)), λ g. back g (exactly rs rest i (omega arith)))
+    first false q e = let a = apart r rs d in absurd (no-such (r .0) rs (a .1) (rw q at e) (a .0))
+exactly (r ∷ rs) d (suc i) h =
+    let ih = exactly rs (apart r rs d .2) i (omega arith) in (λ e. there (r .1) refl e ih, λ g. back g ih)
   where
-    rest : distinct rs ≡ true
-    rest = both (not (eqb (r .0) 0) && unnumbered (r .0) rs) (distinct rs) d .1
-
-    un : unnumbered (r .0) rs ≡ true
-    un = both (not (eqb (r .0) 0)) (unnumbered (r .0) rs) (both (not (eqb (r .0) 0) && unnumbered (r .0) rs) (distinct rs) d .0) .1
-
     there : (b : Bool) → r .1 ≡ b → cond (r .1) (r .0) (verdict rs) ≡ number rs i
         → ((verdict rs ≡ number rs i) ↔ ((applies rs i ≡ true) × ((j : ℕ) → j < i → applies rs j ≡ false)))
         → (applies rs i ≡ true) × ((j : ℕ) → j < suc i → applies (r ∷ rs) j ≡ false)
-    there true q e ih = absurd (unnumbered-at (r .0) rs un i (omega arith) (sym (rw q at e)))
+    there true q e ih = absurd (unnumbered-at (r .0) rs (apart r rs d .1) i (omega arith) (sym (rw q at e)))
     there false q e ih =
         let g = ih .0 (rw q at e) in
         (g .0, elim [ zero ↦ (λ l. q) | suc j ↦ (λ l. g .1 j (omega arith)) ])
@@ -80,15 +80,13 @@ exactly (r ∷ rs) d (suc i) h = (λ e. there (r .1) refl e (exactly rs rest i (
 pub passes-exactly : (rs : List Rule) → distinct rs ≡ true → (verdict rs ≡ 0) ↔ ((i : ℕ) → i < length rs → applies rs i ≡ false)
 unfolding verdict
 passes-exactly [] d = (λ e i h. absurd (omega arith), λ g. refl)
-passes-exactly (r ∷ rs) d = (λ e. there (r .1) refl e (passes-exactly rs rest), λ g. back g (passes-exactly rs rest))
+passes-exactly (r ∷ rs) d =
+    let ih = passes-exactly rs (apart r rs d .2) in (λ e. there (r .1) refl e ih, λ g. back g ih)
   where
-    rest : distinct rs ≡ true
-    rest = both (not (eqb (r .0) 0) && unnumbered (r .0) rs) (distinct rs) d .1
-
     there : (b : Bool) → r .1 ≡ b → cond (r .1) (r .0) (verdict rs) ≡ 0
         → ((verdict rs ≡ 0) ↔ ((i : ℕ) → i < length rs → applies rs i ≡ false))
         → (i : ℕ) → i < suc (length rs) → applies (r ∷ rs) i ≡ false
-    there true q e ih = absurd (numbered (r ∷ rs) d zero (omega arith) (rw q at e))
+    there true q e ih = absurd (apart r rs d .0 (rw q at e))
     there false q e ih = elim [ zero ↦ (λ l. q) | suc j ↦ (λ l. ih .0 (rw q at e) j (omega arith)) ]
 
     back : ((i : ℕ) → i < suc (length rs) → applies (r ∷ rs) i ≡ false)
@@ -135,7 +133,7 @@ verdict-first (x ∷ xs) ys k e = go (x .1) e (verdict-first xs ys k)
 pub verdict-then : (xs ys : List Rule) → distinct xs ≡ true → verdict xs ≡ 0 → verdict (xs ++ ys) ≡ verdict ys
 unfolding verdict
 verdict-then [] ys d e = refl
-verdict-then (x ∷ xs) ys d e = go (x .1) e (numbered (x ∷ xs) d zero (omega arith)) (verdict-then xs ys (both (not (eqb (x .0) 0) && unnumbered (x .0) xs) (distinct xs) d .1))
+verdict-then (x ∷ xs) ys d e = let a = apart x xs d in go (x .1) e (a .0) (verdict-then xs ys (a .2))
   where
     go : (b : Bool) → cond b (x .0) (verdict xs) ≡ 0 → (x .0 ≡ 0 → ⊥) → (verdict xs ≡ 0 → verdict (xs ++ ys) ≡ verdict ys) → cond b (x .0) (verdict (xs ++ ys)) ≡ verdict ys
     go true q z ih = absurd (z q)

@@ -1,5 +1,5 @@
 -- Laws of `some`, `every`, `first` and `gather`: each says of numbers below n what its name says. Assumes nothing.
-use Prim.Native.Nat.{ℕ, zero, suc, _+_, _*_, _-_, _^_, _≤_, _<_}
+use Prim.Native.Nat.{ℕ, zero, suc, _*_, _%_, _^_, _<_}
 use mathlib.Core.Path.{_≡_, refl, sym, ap, _∙_}
 use mathlib.Core.Bool.{Bool, true, false, _&&_, _||_, cond, not, true≢false, false≢true}
 use mathlib.Core.Logic.{⊎-elim, _⊎_, inl, inr, _↔_}
@@ -7,7 +7,7 @@ use native.Mathlib.Omega.{arith}
 use native.Mathlib.Decide.{decLt}
 use lib.Dec.{ltb, eqb}
 use lib.Pow.{pow-pos}
-use borrow.Author.Tests.{eqb-true, eq-eqb, ltb-true, lt-ltb}
+use borrow.Author.Tests.{eqb-true, eqb-false, eq-eqb, ne-eqb, ltb-true, lt-ltb, not-true}
 use Rattle.sets.specs.Set.{holds, insert, join}
 use Rattle.sets.proofs.Sets.{holds-empty, holds-insert, holds-join, insert-lt, set-ext}
 use Rattle.lists.specs.Scan.{some, every, first, gather}
@@ -52,6 +52,34 @@ pub neither : (a b : Bool) → (a || b) ≡ false → (a ≡ false) × (b ≡ fa
 neither true b e = absurd (true≢false e)
 neither false b e = (refl, e)
 
+-- ---- tests in words
+
+pub either-words : (A B : Type 0) (a b : Bool) → a ≡ true ↔ A → b ≡ true ↔ B → (a || b) ≡ true ↔ (A ⊎ B)
+either-words A B a b f g = (there, back)
+  where
+    there : (a || b) ≡ true → A ⊎ B
+    there e = choose (or-cases a b e) (λ p. inl (f .0 p)) (λ q. inr (g .0 q))
+
+    back : A ⊎ B → (a || b) ≡ true
+    back s = choose s (λ x. rw (f .1 x)) (λ y. rw (g .1 y) (or-true a))
+
+pub equal-words : (x y : ℕ) → eqb x y ≡ true ↔ (x ≡ y)
+equal-words x y = (eqb-true x y, eq-eqb x y)
+
+pub differ-words : (x y : ℕ) → not (eqb x y) ≡ true ↔ (x ≡ y → ⊥)
+differ-words x y = (λ e. eqb-false x y (not-true (eqb x y) e), λ n. ap not (ne-eqb x y n))
+
+pub over-words : (x y : ℕ) → ltb x y ≡ true ↔ (x < y)
+over-words x y = (ltb-true x y, lt-ltb x y)
+
+-- a length is 0, over that of the most entries, or no multiple of an entry's
+pub length-words : (entry most n : ℕ)
+    → (eqb n 0 || ltb (entry * most) n || not (eqb (n % entry) 0)) ≡ true ↔ (((n ≡ 0) ⊎ (entry * most < n)) ⊎ (n % entry ≡ 0 → ⊥))
+length-words entry most n =
+    either-words ((n ≡ 0) ⊎ (entry * most < n)) (n % entry ≡ 0 → ⊥) (eqb n 0 || ltb (entry * most) n) (not (eqb (n % entry) 0))
+    (either-words (n ≡ 0) (entry * most < n) (eqb n 0) (ltb (entry * most) n) (equal-words n 0) (over-words (entry * most) n))
+    (differ-words (n % entry) 0)
+
 -- ---- some
 
 pub some-intro : (n : ℕ) (p : ℕ → Bool) (i : ℕ) → i < n → p i ≡ true → some n p ≡ true
@@ -68,10 +96,6 @@ some-elim (suc n) p h = go (some n p) refl (some-elim n p)
     go : (b : Bool) → some n p ≡ b → (some n p ≡ true → (i : ℕ) × (i < n) × (p i ≡ true)) → (i : ℕ) × (i < suc n) × (p i ≡ true)
     go true e ih = let r = ih e in (r .0, omega (arith, r .1), r .2)
     go false e ih = (n, omega arith, rw e at h)
-
--- p holds of some number below n exactly when there is one
-pub some-exactly : (n : ℕ) (p : ℕ → Bool) → some n p ≡ true ↔ ((i : ℕ) × (i < n) × (p i ≡ true))
-some-exactly n p = (some-elim n p, λ w. some-intro n p (w .0) (w .1) (w .2))
 
 pub some-none : (n : ℕ) (p : ℕ → Bool) → ((i : ℕ) → i < n → p i ≡ false) → some n p ≡ false
 unfolding some
@@ -109,10 +133,6 @@ unfolding every
 every-all zero p h = refl
 every-all (suc n) p h = rw (every-all n p (λ i l. h i (omega arith)), h n (omega arith))
 
--- p holds of every number below n exactly when it holds of each
-pub every-exactly : (n : ℕ) (p : ℕ → Bool) → every n p ≡ true ↔ ((i : ℕ) → i < n → p i ≡ true)
-every-exactly n p = (every-at n p, every-all n p)
-
 -- one that fails
 pub every-fails : (n : ℕ) (p : ℕ → Bool) (i : ℕ) → i < n → p i ≡ false → every n p ≡ false
 unfolding every
@@ -133,11 +153,7 @@ every-failed (suc n) p e = go (every n p) refl (p n) refl (every-failed n p)
 -- a rule that refuses where not every one passes refuses exactly when there is one that fails
 pub refuses-exactly : (n : ℕ) (p : ℕ → Bool) → not (every n p) ≡ true ↔ ((i : ℕ) × (i < n) × (p i ≡ false))
 refuses-exactly n p =
-    (λ e. every-failed n p (go (every n p) e), λ w. ap not (every-fails n p (w .0) (w .1) (w .2)))
-  where
-    go : (b : Bool) → not b ≡ true → b ≡ false
-    go true e = absurd (false≢true e)
-    go false e = refl
+    (λ e. every-failed n p (not-true (every n p) e), λ w. ap not (every-fails n p (w .0) (w .1) (w .2)))
 
 pub every-same : (n : ℕ) (p q : ℕ → Bool) → ((i : ℕ) → i < n → p i ≡ q i) → every n p ≡ every n q
 unfolding every

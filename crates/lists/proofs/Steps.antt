@@ -1,19 +1,19 @@
 -- The automaton in a reader's words: what is in the start set, in a step and among the accepted signatures; the step of a union. Assumes nothing.
-use Prim.Native.Nat.{ℕ, zero, suc, _+_, _*_, _^_, _≤_, _<_}
-use mathlib.Core.Path.{_≡_, refl, sym, ap, _∙_}
-use mathlib.Core.Bool.{Bool, true, false, _&&_, _||_, not}
+use Prim.Native.Nat.{ℕ, _^_, _≤_, _<_}
+use mathlib.Core.Path.{_≡_, refl, sym, _∙_}
+use mathlib.Core.Bool.{Bool, true, false, _&&_, _||_}
 use mathlib.Core.List.{List}
 use mathlib.Core.Logic.{_↔_}
-use native.Mathlib.Omega.{arith}
 use lib.Dec.{leb, ltb, eqb}
-use borrow.Author.Tests.{ltb-true, leb-true, le-leb, eqb-true, eq-eqb, not-false}
+use borrow.Author.Tests.{ltb-true, leb-true, le-leb, not-false}
 use Rattle.sets.specs.Set.{states, signatures, holds, join}
 use Rattle.sets.proofs.Sets.{holds-empty, holds-join}
-use Rattle.lists.specs.Scan.{every, verdict}
-use Rattle.lists.specs.List.{records, byteOf, isEdge, isStart, isAccept, low, high, from, target, zeros, goodEdge, goodStart, goodAccept, goodRecord, badRecord, listRules, listRefusal}
+use Rattle.lists.specs.Scan.{every}
+use Rattle.lists.specs.List.{records, byteOf, isEdge, isStart, isAccept, low, high, from, target, zeros, goodRecord, badRecord, listRefusal}
 use Rattle.lists.specs.Automaton.{edge, leaves, start, step, accepted}
-use Rattle.lists.proofs.Scanning.{and-false, both, or-cases, choose, every-at, gather-exactly, gather-lt, gather-none, gather-join}
+use Rattle.lists.proofs.Scanning.{and-false, both, every-at, gather-exactly, gather-lt, gather-none, gather-join}
 use Rattle.lists.proofs.Rules.{passes}
+use Rattle.lists.proofs.Listed.{good-edge, good-accept}
 
 -- byte c takes edge record i
 pub record Takes (L : List ℕ) (c i : ℕ) : Type 0 where
@@ -101,10 +101,6 @@ pub step-lt : (L : List ℕ) (F c : ℕ) → step L F c < 2 ^ states
 unfolding step
 step-lt L F c = gather-lt states (leaves L F (edge L c)) (target L) (records L)
 
-pub accepted-lt : (L : List ℕ) (F : ℕ) → accepted L F < 2 ^ signatures
-unfolding accepted
-accepted-lt L F = gather-lt signatures (leaves L F (isAccept L)) (target L) (records L)
-
 -- ---- in a list that the check passes every record's numbers are in range, so the limit above says nothing more
 
 good-at : (L : List ℕ) → listRefusal L ≡ 0 → (i : ℕ) → i < records L → goodRecord L i ≡ true
@@ -114,38 +110,6 @@ good-at L e i h =
     let r2 = passes 1 _ _ (r1 .1) in
     every-at (records L) (goodRecord L) (not-false (every (records L) (goodRecord L)) (r2 .0)) i h
 
-one-kind : (x a b : ℕ) → eqb x a ≡ true → eqb x b ≡ true → a ≡ b
-one-kind x a b p q = sym (eqb-true x a p) ∙ eqb-true x b q
-
--- a good record is good as what its kind says
-pub good-edge : (L : List ℕ) (i : ℕ) → goodRecord L i ≡ true → isEdge L i ≡ true → goodEdge L i ≡ true
-unfolding goodRecord
-good-edge L i g k =
-    choose (or-cases (goodEdge L i || goodStart L i) (goodAccept L i) g)
-    (λ ab. choose (or-cases (goodEdge L i) (goodStart L i) ab) (λ a. a)
-    (λ b. absurd (omega (arith, one-kind (byteOf L i 0) 1 2 k (both (isStart L i) (zeros L i 5) (both (isStart L i && zeros L i 5) (ltb (target L i) states) b .0) .0)))))
-    (λ c. absurd (omega (
-      arith,
-      one-kind (byteOf L i 0) 1 3 k
-          (both (isAccept L i) (zeros L i 3) (both (isAccept L i && zeros L i 3) (ltb (from L i) states) (both (isAccept L i && zeros L i 3 && ltb (from L i) states) (ltb (target L i) signatures) c .0) .0) .0),
-    )))
-
-pub good-accept : (L : List ℕ) (i : ℕ) → goodRecord L i ≡ true → isAccept L i ≡ true → goodAccept L i ≡ true
-unfolding goodRecord
-good-accept L i g k =
-    choose (or-cases (goodEdge L i || goodStart L i) (goodAccept L i) g)
-    (λ ab. choose (or-cases (goodEdge L i) (goodStart L i) ab)
-    (λ a. absurd (omega (arith, one-kind (byteOf L i 0) 3 1 k (edge-kind a))))
-    (λ b. absurd (omega (arith, one-kind (byteOf L i 0) 3 2 k (both (isStart L i) (zeros L i 5) (both (isStart L i && zeros L i 5) (ltb (target L i) states) b .0) .0)))))
-    (λ c. c)
-  where
-    edge-kind : goodEdge L i ≡ true → isEdge L i ≡ true
-    edge-kind a =
-        let r = both (isEdge L i && leb (low L i) (high L i) && eqb (byteOf L i 3) 0 && ltb (from L i) states) (ltb (target L i) states) a in
-        let q = both (isEdge L i && leb (low L i) (high L i) && eqb (byteOf L i 3) 0) (ltb (from L i) states) (r .0) in
-        let s = both (isEdge L i && leb (low L i) (high L i)) (eqb (byteOf L i 3) 0) (q .0) in
-        both (isEdge L i) (leb (low L i) (high L i)) (s .0) .0
-
 -- so of a checked list: t is in the step exactly when some edge leads there
 pub step-checked : (L : List ℕ) → listRefusal L ≡ 0 → (F c t : ℕ) → holds (step L F c) t ≡ true ↔ Leads L F (Takes L c) t
 step-checked L e F c t =
@@ -154,7 +118,7 @@ step-checked L e F c t =
     below : (i : ℕ) → i < records L → isEdge L i ≡ true → target L i < states
     below i h k =
         ltb-true (target L i) states
-        (both (isEdge L i && leb (low L i) (high L i) && eqb (byteOf L i 3) 0 && ltb (from L i) states) (ltb (target L i) states) (good-edge L i (good-at L e i h) k) .1)
+        (both (isEdge L i && leb (low L i) (high L i) && eqb (byteOf L i 3) 0 && ltb (from L i) states) (ltb (target L i) states) (sym (good-edge L i k) ∙ good-at L e i h) .1)
 
 -- and g is accepted exactly when some accept record gives it
 pub accepted-checked : (L : List ℕ) → listRefusal L ≡ 0 → (F g : ℕ) → holds (accepted L F) g ≡ true ↔ Leads L F (λ i. isAccept L i ≡ true) g
@@ -164,4 +128,4 @@ accepted-checked L e F g =
     below : (i : ℕ) → i < records L → isAccept L i ≡ true → target L i < signatures
     below i h k =
         ltb-true (target L i) signatures
-        (both (isAccept L i && zeros L i 3 && ltb (from L i) states) (ltb (target L i) signatures) (good-accept L i (good-at L e i h) k) .1)
+        (both (isAccept L i && zeros L i 3 && ltb (from L i) states) (ltb (target L i) signatures) (sym (good-accept L i k) ∙ good-at L e i h) .1)

@@ -1,6 +1,6 @@
 -- The automaton that a list writes down: start set, frontier step, and the signatures that a frontier accepts. Sets are numbers.
-use Prim.Native.Nat.{ℕ, zero, suc, _+_, _*_}
-use mathlib.Core.Bool.{Bool, true, false, _&&_}
+use Prim.Native.Nat.{ℕ}
+use mathlib.Core.Bool.{Bool, _&&_}
 use mathlib.Core.List.{List}
 use lib.Dec.{leb}
 use Rattle.sets.specs.Set.{states, signatures, holds}
