@@ -9,11 +9,11 @@ use native.Mathlib.Nat.{lt-of-not-le}
 use native.Mathlib.Decide.{decLt}
 use lib.ListN.{length, getD}
 use lib.Dec.{eqb, ltb}
-use borrow.Author.Tests.{eqb-true, eqb-false, eq-eqb, ne-eqb, ltb-true, lt-ltb, le-ltb, le-leb, not-true}
+use borrow.Author.Tests.{eqb-false, eq-eqb, ne-eqb, ltb-true, lt-ltb, le-ltb, le-leb, not-true}
 use Rattle.sets.specs.Set.{setSize}
 use Rattle.lists.specs.Scan.{every, Refuses}
 use Rattle.lists.specs.Automaton.{start, step}
-use Rattle.lists.proofs.Scanning.{choose, or-true, or-cases, some-none, none-some, refuses-exactly}
+use Rattle.lists.proofs.Scanning.{choose, either-words, equal-words, differ-words, over-words, length-words, some-none, none-some, refuses-exactly}
 use Rattle.lists.proofs.Rules.{refuses}
 use Rattle.tables.specs.Table.{Table, byteValues, mostClass, mostParts, mostSplits, mostBound, splitSize, largest, classCount, partCount, splitCount, part, row, splitSet, slots, usedSlots, takenSlots, joined, isSplit, badBound, badClasses, badCount, badRowsLength, badLengths, goodSlots, inOrder, badSplits, badRows, badUnion, noStartSplit, notClosed, tableRules, tableRefusal}
 use Rattle.tables.proofs.Entries.{largest-at}
@@ -26,23 +26,8 @@ table-exactly L b T = refuses (tableRules L b T) refl
 
 -- ---- tests in words
 
-either-words : (A B : Type 0) (a b : Bool) → a ≡ true ↔ A → b ≡ true ↔ B → (a || b) ≡ true ↔ (A ⊎ B)
-either-words A B a b f g = (there, back)
-  where
-    there : (a || b) ≡ true → A ⊎ B
-    there e = choose (or-cases a b e) (λ p. inl (f .0 p)) (λ q. inr (g .0 q))
-
-    back : A ⊎ B → (a || b) ≡ true
-    back s = choose s (λ x. rw (f .1 x)) (λ y. rw (g .1 y) (or-true a))
-
-differ-words : (x y : ℕ) → not (eqb x y) ≡ true ↔ (x ≡ y → ⊥)
-differ-words x y = (λ e. eqb-false x y (not-true (eqb x y) e), λ n. ap not (ne-eqb x y n))
-
 unequal-words : (x y : ℕ) → eqb x y ≡ false ↔ (x ≡ y → ⊥)
 unequal-words x y = (eqb-false x y, ne-eqb x y)
-
-over-words : (x y : ℕ) → ltb x y ≡ true ↔ (x < y)
-over-words x y = (ltb-true x y, lt-ltb x y)
 
 -- a scan that refuses names one that fails
 scan-words : (n : ℕ) (p : ℕ → Bool) (A : ℕ → Type 0) → ((i : ℕ) → p i ≡ false ↔ A i) → not (every n p) ≡ true ↔ ((i : ℕ) × (i < n) × A i)
@@ -67,7 +52,7 @@ no-split S F = (
 -- ---- 7 and 8
 
 pub bad-bound : (b : ℕ) → badBound b ≡ true ↔ ((b ≡ 0) ⊎ (mostBound < b))
-bad-bound b = either-words (b ≡ 0) (mostBound < b) (eqb b 0) (ltb mostBound b) (eqb-true b 0, eq-eqb b 0) (over-words mostBound b)
+bad-bound b = either-words (b ≡ 0) (mostBound < b) (eqb b 0) (ltb mostBound b) (equal-words b 0) (over-words mostBound b)
 
 over-largest : (m : ℕ) (xs : List ℕ) → m < largest xs → (i : ℕ) × (i < length xs) × (m < getD xs i 0)
 unfolding largest
@@ -92,10 +77,7 @@ Miscounted entry most xs = ((length xs ≡ 0) ⊎ (entry * most < length xs)) �
 
 pub bad-count : (entry most : ℕ) (xs : List ℕ) → badCount entry most xs ≡ true ↔ Miscounted entry most xs
 unfolding badCount
-bad-count entry most xs =
-    either-words ((length xs ≡ 0) ⊎ (entry * most < length xs)) (length xs % entry ≡ 0 → ⊥) (eqb (length xs) 0 || ltb (entry * most) (length xs)) (not (eqb (length xs % entry) 0))
-    (either-words (length xs ≡ 0) (entry * most < length xs) (eqb (length xs) 0) (ltb (entry * most) (length xs)) (eqb-true (length xs) 0, eq-eqb (length xs) 0) (over-words (entry * most) (length xs)))
-    (differ-words (length xs % entry) 0)
+bad-count entry most xs = length-words entry most (length xs)
 
 module _ (T : Table) where
   -- there is not one row for each part and class
