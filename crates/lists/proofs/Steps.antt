@@ -8,7 +8,7 @@ use lib.Dec.{leb, ltb, eqb}
 use borrow.Author.Tests.{ltb-true, leb-true, le-leb, not-false}
 use Rattle.sets.specs.Set.{states, signatures, holds, join}
 use Rattle.sets.proofs.Sets.{holds-empty, holds-join}
-use Rattle.lists.specs.Scan.{every}
+use Rattle.lists.specs.Scan.{every, gather}
 use Rattle.lists.specs.List.{records, byteOf, isEdge, isStart, isAccept, low, high, from, target, zeros, goodRecord, badRecord, listRefusal}
 use Rattle.lists.specs.Automaton.{edge, leaves, start, step, accepted}
 use Rattle.lists.proofs.Scanning.{and-false, both, every-at, gather-exactly, gather-lt, gather-none, gather-join}
@@ -39,39 +39,32 @@ start-exactly L s = gather-exactly states (isStart L) (target L) (records L) s
 abbrev pub Leads : List ℕ → ℕ → (ℕ → Type 0) → ℕ → Type 0
 Leads L F q t = (i : ℕ) × (i < records L) × q i × (holds F (from L i) ≡ true) × (target L i ≡ t)
 
+-- what is gathered of the records that q passes and that leave a member of F, where Q says in words what q tests
+leads-exactly : (m : ℕ) (L : List ℕ) (F : ℕ) (q : ℕ → Bool) (Q : ℕ → Type 0) → ((i : ℕ) → q i ≡ true ↔ Q i) → (t : ℕ)
+    → holds (gather m (leaves L F q) (target L) (records L)) t ≡ true ↔ ((t < m) × Leads L F Q t)
+leads-exactly m L F q Q f t = (there, back)
+  where
+    g : holds (gather m (leaves L F q) (target L) (records L)) t ≡ true ↔ ((t < m) × ((i : ℕ) × (i < records L) × (leaves L F q i ≡ true) × (target L i ≡ t)))
+    g = gather-exactly m (leaves L F q) (target L) (records L) t
+
+    there : holds (gather m (leaves L F q) (target L) (records L)) t ≡ true → (t < m) × Leads L F Q t
+    there h =
+        let w = g .0 h in
+        let r = both (q (w .1 .0)) (holds F (from L (w .1 .0))) (w .1 .2) in
+        (w .0, (w .1 .0, w .1 .1, f (w .1 .0) .0 (r .0), r .1, w .1 .3))
+
+    back : (t < m) × Leads L F Q t → holds (gather m (leaves L F q) (target L) (records L)) t ≡ true
+    back w = g .1 (w .0, (w .1 .0, w .1 .1, rw (f (w .1 .0) .1 (w .1 .2), w .1 .3), w .1 .4))
+
 -- t is in the step of F on c exactly when some edge record that c takes leads there from a member of F
 pub step-exactly : (L : List ℕ) (F c t : ℕ) → holds (step L F c) t ≡ true ↔ ((t < states) × Leads L F (Takes L c) t)
 unfolding step
-step-exactly L F c t = (there, back)
-  where
-    g : holds (step L F c) t ≡ true ↔ ((t < states) × ((i : ℕ) × (i < records L) × (leaves L F (edge L c) i ≡ true) × (target L i ≡ t)))
-    g = gather-exactly states (leaves L F (edge L c)) (target L) (records L) t
-
-    there : holds (step L F c) t ≡ true → (t < states) × ((i : ℕ) × (i < records L) × Takes L c i × (holds F (from L i) ≡ true) × (target L i ≡ t))
-    there h =
-        let w = g .0 h in
-        let r = both (edge L c (w .1 .0)) (holds F (from L (w .1 .0))) (w .1 .2) in
-        (w .0, (w .1 .0, w .1 .1, edge-exactly L c (w .1 .0) .0 (r .0), r .1, w .1 .3))
-
-    back : (t < states) × ((i : ℕ) × (i < records L) × Takes L c i × (holds F (from L i) ≡ true) × (target L i ≡ t)) → holds (step L F c) t ≡ true
-    back w = g .1 (w .0, (w .1 .0, w .1 .1, rw (edge-exactly L c (w .1 .0) .1 (w .1 .2), w .1 .3), w .1 .4))
+step-exactly L F c t = leads-exactly states L F (edge L c) (Takes L c) (edge-exactly L c) t
 
 -- g is accepted at F exactly when some accept record gives it at a member of F
 pub accepted-exactly : (L : List ℕ) (F g : ℕ) → holds (accepted L F) g ≡ true ↔ ((g < signatures) × Leads L F (λ i. isAccept L i ≡ true) g)
 unfolding accepted
-accepted-exactly L F g = (there, back)
-  where
-    e : holds (accepted L F) g ≡ true ↔ ((g < signatures) × ((i : ℕ) × (i < records L) × (leaves L F (isAccept L) i ≡ true) × (target L i ≡ g)))
-    e = gather-exactly signatures (leaves L F (isAccept L)) (target L) (records L) g
-
-    there : holds (accepted L F) g ≡ true → (g < signatures) × ((i : ℕ) × (i < records L) × (isAccept L i ≡ true) × (holds F (from L i) ≡ true) × (target L i ≡ g))
-    there h =
-        let w = e .0 h in
-        let r = both (isAccept L (w .1 .0)) (holds F (from L (w .1 .0))) (w .1 .2) in
-        (w .0, (w .1 .0, w .1 .1, r .0, r .1, w .1 .3))
-
-    back : (g < signatures) × ((i : ℕ) × (i < records L) × (isAccept L i ≡ true) × (holds F (from L i) ≡ true) × (target L i ≡ g)) → holds (accepted L F) g ≡ true
-    back w = e .1 (w .0, (w .1 .0, w .1 .1, rw (w .1 .2, w .1 .3), w .1 .4))
+accepted-exactly L F g = leads-exactly signatures L F (isAccept L) (λ i. isAccept L i ≡ true) (λ i. (λ e. e, λ e. e)) g
 
 -- ---- the step of a union is the union of the steps
 
@@ -110,20 +103,23 @@ good-at L e i h =
     let r2 = passes 1 _ _ (r1 .1) in
     every-at (records L) (goodRecord L) (not-false (every (records L) (goodRecord L)) (r2 .0)) i h
 
--- so of a checked list: t is in the step exactly when some edge leads there
+-- so where the targets are below the limit, it says nothing
+unlimited : (m X t : ℕ) (L : List ℕ) (F : ℕ) (Q : ℕ → Type 0) → holds X t ≡ true ↔ ((t < m) × Leads L F Q t)
+    → ((i : ℕ) → i < records L → Q i → target L i < m) → holds X t ≡ true ↔ Leads L F Q t
+unlimited m X t L F Q g below = (λ h. g .0 h .1, λ w. g .1 (rw (w .4) at (below (w .0) (w .1) (w .2)), w))
+
+-- of a checked list: t is in the step exactly when some edge leads there
 pub step-checked : (L : List ℕ) → listRefusal L ≡ 0 → (F c t : ℕ) → holds (step L F c) t ≡ true ↔ Leads L F (Takes L c) t
-step-checked L e F c t =
-    (λ h. step-exactly L F c t .0 h .1, λ w. step-exactly L F c t .1 (rw (w .4) at (below (w .0) (w .1) (w .2 .kind)), w))
+step-checked L e F c t = unlimited states (step L F c) t L F (Takes L c) (step-exactly L F c t) below
   where
-    below : (i : ℕ) → i < records L → isEdge L i ≡ true → target L i < states
+    below : (i : ℕ) → i < records L → Takes L c i → target L i < states
     below i h k =
         ltb-true (target L i) states
-        (both (isEdge L i && leb (low L i) (high L i) && eqb (byteOf L i 3) 0 && ltb (from L i) states) (ltb (target L i) states) (sym (good-edge L i k) ∙ good-at L e i h) .1)
+        (both (isEdge L i && leb (low L i) (high L i) && eqb (byteOf L i 3) 0 && ltb (from L i) states) (ltb (target L i) states) (sym (good-edge L i (k .kind)) ∙ good-at L e i h) .1)
 
 -- and g is accepted exactly when some accept record gives it
 pub accepted-checked : (L : List ℕ) → listRefusal L ≡ 0 → (F g : ℕ) → holds (accepted L F) g ≡ true ↔ Leads L F (λ i. isAccept L i ≡ true) g
-accepted-checked L e F g =
-    (λ h. accepted-exactly L F g .0 h .1, λ w. accepted-exactly L F g .1 (rw (w .4) at (below (w .0) (w .1) (w .2)), w))
+accepted-checked L e F g = unlimited signatures (accepted L F) g L F (λ i. isAccept L i ≡ true) (accepted-exactly L F g) below
   where
     below : (i : ℕ) → i < records L → isAccept L i ≡ true → target L i < signatures
     below i h k =
