@@ -14,7 +14,8 @@ has-requires : tie.Need-has-requires
 has-requires c κs = search needs
 
 returns : tie.Need-returns
-returns c = rw (sym (c .before .before .before .is-accept .ensures) ∙ c .before .before .if1 .taken) (cc)
+returns c =
+    rw (sym (c .before .before .before .is-accept .ensures) ∙ c .before .before .if1 .taken, c .has .ensures, c .before .from .ensures)
 
 returns-2 : tie.Need-returns-2
 returns-2 c = rw (sym (c .before .is-accept .ensures) ∙ c .if1 .left)

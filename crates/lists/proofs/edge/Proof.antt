@@ -13,7 +13,7 @@ byte-of-requires-2 : tie.Need-byte-of-requires-2
 byte-of-requires-2 c κs = search needs
 
 returns : tie.Need-returns
-returns c = cc
+returns c = rw (c .before .before .is-edge .ensures, c .before .byte-of .ensures, c .byte-of2 .ensures)
 
 pub edge-spec : {M : Type 1} → statement M
 edge-spec = tie.close (tie.spec is-edge-requires byte-of-requires byte-of-requires-2 returns)

@@ -16,7 +16,7 @@ target-requires : tie.Need-target-requires
 target-requires c κs = search needs
 
 returns : tie.Need-returns
-returns c = cc
+returns c = rw (c .before .before .before .is-accept .ensures, c .before .before .zeros .ensures, c .before .from .ensures, c .target .ensures)
 
 pub good-accept-spec : {M : Type 1} → statement M
 good-accept-spec =

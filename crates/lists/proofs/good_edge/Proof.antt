@@ -22,7 +22,9 @@ target-requires : tie.Need-target-requires
 target-requires c κs = search needs
 
 returns : tie.Need-returns
-returns c = cc
+returns c =
+    let s = c .before .before in
+    rw (s .before .before .before .is-edge .ensures, s .before .before .byte-of .ensures, s .before .byte-of2 .ensures, s .byte-of3 .ensures, c .before .from .ensures, c .target .ensures)
 
 pub good-edge-spec : {M : Type 1} → statement M
 good-edge-spec =

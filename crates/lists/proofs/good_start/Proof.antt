@@ -13,7 +13,7 @@ target-requires : tie.Need-target-requires
 target-requires c κs = search needs
 
 returns : tie.Need-returns
-returns c = cc
+returns c = rw (c .before .before .is-start .ensures, c .before .zeros .ensures, c .target .ensures)
 
 pub good-start-spec : {M : Type 1} → statement M
 good-start-spec = tie.close (tie.spec is-start-requires zeros-requires target-requires returns)
