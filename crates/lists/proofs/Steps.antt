@@ -100,7 +100,7 @@ good-at : (L : List ℕ) → listRefusal L ≡ 0 → (i : ℕ) → i < records L
 unfolding badRecord
 good-at L e i h =
     let r1 = passes 0 _ _ e in
-    let r2 = passes 1 _ _ (r1 .1) in
+    let r2 = passes 1 (badRecord L) _ (r1 .1) in
     every-at (records L) (goodRecord L) (not-false (every (records L) (goodRecord L)) (r2 .0)) i h
 
 -- so where the targets are below the limit, it says nothing

@@ -1,6 +1,6 @@
 -- `accepts` is the definition, test by test; a record that is no accept is not looked up. Assumes nothing.
 use borrow.Author.Needs.{needs}
-use mathlib.Core.Path.{sym, _∙_}
+use mathlib.Core.Path.{refl, sym, _∙_}
 use Rattle.lists.proofs.accepts.Statement.{statement}
 use Rattle.lists.proofs.accepts.Tie as tie
 
@@ -15,7 +15,7 @@ has-requires c κs = search needs
 
 returns : tie.Need-returns
 returns c =
-    rw (sym (c .before .before .before .is-accept .ensures) ∙ c .before .before .if1 .taken, c .has .ensures, c .before .from .ensures)
+    rw (sym (c .before .before .before .is-accept .ensures) ∙ c .before .before .if1 .taken, c .has .ensures, c .before .from .ensures) refl
 
 returns-2 : tie.Need-returns-2
 returns-2 c = rw (sym (c .before .is-accept .ensures) ∙ c .if1 .left)

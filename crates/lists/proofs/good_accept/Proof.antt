@@ -1,5 +1,6 @@
 -- `good_accept` is the definition, test by test. Assumes nothing.
 use borrow.Author.Needs.{needs}
+use mathlib.Core.Path.{refl}
 use Rattle.lists.proofs.good_accept.Statement.{statement}
 use Rattle.lists.proofs.good_accept.Tie as tie
 
@@ -16,7 +17,7 @@ target-requires : tie.Need-target-requires
 target-requires c κs = search needs
 
 returns : tie.Need-returns
-returns c = rw (c .before .before .before .is-accept .ensures, c .before .before .zeros .ensures, c .before .from .ensures, c .target .ensures)
+returns c = rw (c .before .before .before .is-accept .ensures, c .before .before .zeros .ensures, c .before .from .ensures, c .target .ensures) refl
 
 pub good-accept-spec : {M : Type 1} → statement M
 good-accept-spec =

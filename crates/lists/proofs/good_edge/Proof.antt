@@ -1,5 +1,6 @@
 -- `good_edge` is the definition, test by test. Assumes nothing.
 use borrow.Author.Needs.{needs}
+use mathlib.Core.Path.{refl}
 use Rattle.lists.proofs.good_edge.Statement.{statement}
 use Rattle.lists.proofs.good_edge.Tie as tie
 
@@ -24,7 +25,7 @@ target-requires c κs = search needs
 returns : tie.Need-returns
 returns c =
     let s = c .before .before in
-    rw (s .before .before .before .is-edge .ensures, s .before .before .byte-of .ensures, s .before .byte-of2 .ensures, s .byte-of3 .ensures, c .before .from .ensures, c .target .ensures)
+    rw (s .before .before .before .is-edge .ensures, s .before .before .byte-of .ensures, s .before .byte-of2 .ensures, s .byte-of3 .ensures, c .before .from .ensures, c .target .ensures) refl
 
 pub good-edge-spec : {M : Type 1} → statement M
 good-edge-spec =

@@ -1,6 +1,6 @@
 -- `targets` goes through the records; the invariant is the definition for the records passed. Assumes nothing.
 use borrow.Author.Needs.{needs}
-use mathlib.Core.Path.{_≡_}
+use mathlib.Core.Path.{_≡_, refl}
 use Prim.Native.Nat.{_≤_, _-_, _^_}
 use native.Mathlib.Omega.{arith}
 use native.Mathlib.Numerals.{add-one}
@@ -44,7 +44,9 @@ loop-less c = search needs
 
 loop-again : tie.Need-loop-again Inv-loop μ-loop
 unfolding gather
-loop-again c = (search needs, search needs, rw add-one (cc))
+loop-again c =
+    let p = c .before .before .before .before .before .loop in
+    (search needs, search needs, rw (add-one, c .before .put-target .ensures, c .before .before .before .leaves .ensures, p .inv .1, p .inv .2) refl)
 
 of-words-requires : tie.Need-of-words-requires Inv-loop μ-loop
 of-words-requires c κs = search needs
