@@ -7,5 +7,6 @@ pub mod Moves
 pub mod Whole
 pub mod Cuts
 pub mod Placing
+pub mod Telling
 pub mod Looping
 pub mod Unique

@@ -2,15 +2,15 @@
 use sets::SigSet;
 use sets::StateSet;
 ghost use mathlib.Core.Path.{_≡_};
-ghost use mathlib.Core.Bool.{true, cond};
-ghost use Prim.Native.Nat.{_+_, _*_, _≤_, _<_};
+ghost use mathlib.Core.Bool.{cond};
+ghost use Prim.Native.Nat.{_+_, _*_, _^_, _≤_, _<_};
 ghost use lib.ListN.{length, take, drop};
 ghost use lib.Dec.{eqb};
-ghost use Rattle.sets.specs.Set.{signatures, num, digits, holds, size, members, setOf, sigsOf, placed};
+ghost use Rattle.sets.specs.Set.{signatures, num, digits, size, members, setOf, sigsOf, placed};
 ghost use Rattle.lists.specs.Scan.{verdict};
 ghost use Rattle.flows.specs.Engine.{pairsAt};
 ghost use Rattle.flows.specs.Flow.{flowSize, offsetOf, reservedOf, rowsOf, flow, badFlow, flowRules};
-ghost use Rattle.flows.specs.Fed.{ToldOne};
+ghost use Rattle.flows.specs.Fed.{Tells};
 
 // Bytes in a flow record.
 pub const FLOW_SIZE: usize = sets::BYTES + 16;
@@ -115,16 +115,32 @@ pub fn save(r: &mut [u8], f: StateSet, offset: u64, rows: u64)
     }
 }
 
-// Writes signature s and the offset at word w, where the set holds s; answers the word after.
-fn tell_one(out: &mut [u32], w: usize, g: SigSet, s: usize, offset: u32) -> usize
-    requires { ⌜ (s < signatures) × (holds (sigsOf g) s ≡ true → w + 2 ≤ length (now out)) ⌝ }
-    ensures { λ res. ⌜ ToldOne (holds (sigsOf g) s) (now (out .entry)) w s offset res (now (out .exit)) ⌝ }
+// Writes signature s and the offset at word w, where the bit is 1; answers the word after.
+fn tell_one(out: &mut [u32], w: usize, bit: u64, s: usize, offset: u32) -> usize
+    requires { ⌜ (bit < 2) × (bit * 2 ^ s < 2 ^ signatures) × (w + 2 * size signatures (bit * 2 ^ s) ≤ length (now out)) ⌝ }
+    ensures { λ res. ⌜ Tells (bit * 2 ^ s) (now (out .entry)) w offset res (now (out .exit)) ⌝ }
 {
-    if g.has(s) {
+    if bit == 1 {
         let signature = s as u32;
         out[w] = signature;
         out[w + 1] = offset;
         return w + 2;
+    }
+    w
+}
+
+// Writes signature and offset for each bit that is 1, from word `at` on; the lowest bit is signature `base`. Answers the word after.
+fn tell_bits(out: &mut [u32], at: usize, bits: u64, base: usize, offset: u32) -> usize
+    requires { ⌜ (bits * 2 ^ base < 2 ^ signatures) × (at + 2 * size signatures (bits * 2 ^ base) ≤ length (now out)) ⌝ }
+    ensures { λ res. ⌜ Tells (bits * 2 ^ base) (now (out .entry)) at offset res (now (out .exit)) ⌝ }
+{
+    let mut w = at;
+    let mut rest = bits;
+    let mut s = base;
+    while rest != 0 {
+        w = tell_one(out, w, rest % 2, s, offset);
+        rest = rest / 2;
+        s = s + 1;
     }
     w
 }
@@ -134,9 +150,10 @@ fn tell_all(out: &mut [u32], at: usize, g: SigSet, offset: u32)
     requires { ⌜ at + 2 * size signatures (sigsOf g) ≤ length (now out) ⌝ }
     ensures { λ res. ⌜ now (out .exit) ≡ placed (now (out .entry)) at (pairsAt offset (members signatures (sigsOf g))) ⌝ }
 {
+    let words = g.words;
     let mut w = at;
-    for s in 0..sets::SIGNATURES {
-        w = tell_one(out, w, g, s, offset);
+    for i in 0..sets::SIG_WORDS {
+        w = tell_bits(out, w, words[i], 64 * i, offset);
     }
 }
 

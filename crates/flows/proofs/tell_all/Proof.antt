@@ -1,72 +1,85 @@
--- `tell_all` meets its promise. Assumes nothing.
+-- `tell_all` goes through the words of the set; the invariant is that what it told and what is left are all. Assumes nothing.
 use borrow.Author.Needs.{needs}
-use mathlib.Core.Path.{_≡_, ap, _∙_}
-use mathlib.Core.Bool.{cond}
-use mathlib.Core.List.{List}
-use Prim.Native.Nat.{ℕ, _≤_, _+_, _-_, _*_}
+use mathlib.Core.Path.{_≡_}
+use Prim.Native.Nat.{_≤_, _-_, _*_, _/_, _^_}
 use native.Mathlib.Omega.{arith}
-use native.Mathlib.Numerals.{add-one}
-use lib.ListN.{length, set}
-use Rattle.sets.specs.Set.{signatures, sigsOf, holds, members, placed}
-use Rattle.sets.proofs.Members.{members-size}
-use Rattle.flows.specs.Engine.{pairsAt}
-use Rattle.flows.proofs.Placing.{length-placed, tell-none, tell-room, tell-more}
+use Rattle.sets.specs.Set.{sigWords, num}
+use Rattle.sets.proofs.Sets.{Words}
+use Rattle.sets.proofs.Whole.{sigs-valid-of}
+use Rattle.flows.proofs.Telling.{Left, words-all, words-low, words-more, words-none}
 use Rattle.flows.proofs.tell_all.Statement.{statement}
 use Rattle.flows.proofs.tell_all.Tie as tie
 
 abbrev Inv-loop : tie.InvT-loop
-Inv-loop out₀ at g offset w₀ s₀ out w s =
-    (s ≤ signatures) × (w ≡ at + 2 * length (members s (sigsOf g))) × (out ≡ placed out₀ at (pairsAt offset (members s (sigsOf g))))
+Inv-loop out₀ at offset words w₀ i₀ out w i = (i ≤ sigWords) × Left out₀ at offset (num 64 words) out w (num 64 words / 2 ^ (64 * i)) (64 * i)
 
 abbrev μ-loop : tie.MeasureT-loop
-μ-loop out₀ at g offset w₀ s₀ out w s = signatures - s
+μ-loop out₀ at offset words w₀ i₀ out w i = sigWords - i
 
--- there is room for the words of all members
-fits : (c : tie.Start Inv-loop μ-loop) → c .args .at + 2 * length (members signatures (sigsOf (c .args .g))) ≤ length (c .args .out .now)
-fits c = rw (members-size signatures (sigsOf (c .args .g))) (c .pre)
-
--- the list keeps its length
-kept : (c : tie.At-loop Inv-loop μ-loop) → length (c .loop .out) ≡ length (c .before .before .args .out .now)
-kept c =
-    let a = c .before .before .args in
-    ap length (c .loop .inv .2) ∙ length-placed (a .out .now) (a .at) (pairsAt (a .offset) (members (c .loop .s) (sigsOf (a .g))))
+-- the set has its words, and each fits
+valid : (c : tie.Start Inv-loop μ-loop) → Words sigWords (c .args .g .words)
+valid c = sigs-valid-of (c .args .g) _ (c .good .1 .1 .0)
 
 loop-holds : tie.Need-loop-holds Inv-loop μ-loop
-unfolding members
 loop-holds c =
-    let a = c .before .args in
-    (search needs, omega arith, tell-none (a .out .now) (a .at) (a .offset) (sigsOf (a .g)) (fits (c .before)))
+    let s = c .before .before in
+    let a = s .args in
+    (search needs, words-all (a .g .words) (valid s) (a .out .now) (a .at) (a .offset) (s .pre))
 
-tell-one-requires : tie.Need-tell-one-requires Inv-loop μ-loop
-tell-one-requires c κs =
-    let a = c .before .before .before .before .args in
+mul-tell-bits : tie.Need-mul-tell-bits Inv-loop μ-loop
+mul-tell-bits c = search needs
+
+array-read-tell-bits : tie.Need-array-read-tell-bits Inv-loop μ-loop
+array-read-tell-bits c = search needs
+
+mul-tell-bits-2 : tie.Need-mul-tell-bits-2 Inv-loop μ-loop
+mul-tell-bits-2 c = search needs
+
+tell-bits-requires : tie.Need-tell-bits-requires Inv-loop μ-loop
+tell-bits-requires c κs =
+    let s = c .before .before .before .before .before in
+    let a = s .args in
     let l = c .before .before .loop in
-    (omega arith, λ e. omega (arith, kept (c .before .before), tell-room (a .out .now) (a .at) (a .offset) (sigsOf (a .g)) (fits (c .before .before .before .before)) (l .s) (omega arith) e))
+    words-low (a .g .words) (valid s) (a .out .now) (a .at) (a .offset) (s .pre) (l .out) (l .w) (l .i) (l .inv .1) (omega arith)
 
-add-s : tie.Need-add-s Inv-loop μ-loop
-add-s c = search needs
+add-i : tie.Need-add-i Inv-loop μ-loop
+add-i c = search needs
 
 loop-less : tie.Need-loop-less Inv-loop μ-loop
 loop-less c = search needs
 
 loop-again : tie.Need-loop-again Inv-loop μ-loop
 loop-again c =
-    let a = c .before .before .before .before .before .before .before .args in
-    let l = c .before .before .before .before .before .loop in
-    let t = c .before .before .tell-one .ensures in
-    let m = tell-more (a .out .now) (a .at) (a .offset) (sigsOf (a .g)) (fits (c .before .before .before .before .before .before .before)) (l .s) (l .w) (omega arith) (l .inv .1) in
-    let o = ap (λ (ws : List ℕ). cond (holds (sigsOf (a .g)) (l .s)) (set (set ws (l .w) (l .s)) (l .w + 1) (a .offset)) ws) (l .inv .2) in
-    (omega arith, rw (add-one (l .s)) (t .next ∙ m .0), rw (add-one (l .s)) (t .wrote ∙ o ∙ m .1))
+    let s = c .before .before .before .before .before .before .before .before in
+    let a = s .args in
+    let l = c .before .before .before .before .before .loop in (
+      omega arith,
+      words-more (a .g .words) (valid s) (a .out .now) (a .at) (a .offset) (s .pre) (l .out) (l .w) (l .i) (l .inv .1) (omega arith) _ _ (c .before .before .tell-bits .ensures),
+    )
 
 same-length : tie.Need-same-length Inv-loop μ-loop
-same-length c = kept (c .before)
+same-length c = c .before .loop .inv .1 .kept
 
 returns : tie.Need-returns Inv-loop μ-loop
 returns c =
-    let a = c .before .before .before .args in
+    let s = c .before .before .before .before in
+    let a = s .args in
     let l = c .before .loop in
-    let e : l .s ≡ signatures = omega arith in
-    l .inv .2 ∙ ap (λ (n : ℕ). placed (a .out .now) (a .at) (pairsAt (a .offset) (members n (sigsOf (a .g))))) e
+    words-none (a .g .words) (valid s) (a .out .now) (a .at) (a .offset) (s .pre) (l .out) (l .w) (l .i) (l .inv .1) (omega arith)
 
 pub tell-all-spec : {M : Type 1} → statement M
-tell-all-spec = tie.close (tie.spec Inv-loop μ-loop loop-holds tell-one-requires add-s loop-less loop-again same-length returns)
+tell-all-spec =
+    tie.close
+    (tie.spec
+    Inv-loop
+    μ-loop
+    loop-holds
+    mul-tell-bits
+    array-read-tell-bits
+    mul-tell-bits-2
+    tell-bits-requires
+    add-i
+    loop-less
+    loop-again
+    same-length
+    returns)

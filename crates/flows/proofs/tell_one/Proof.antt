@@ -1,21 +1,29 @@
 -- `tell_one` meets its promise. Assumes nothing.
 use borrow.Author.Needs.{needs}
-use mathlib.Core.Path.{sym, _∙_}
-use Prim.Native.Nat.{_≤_, _+_}
+use mathlib.Core.Path.{_≡_, sym, ap, _∙_}
+use Prim.Native.Nat.{ℕ, _≤_, _<_, _+_, _*_, _^_}
 use native.Mathlib.Omega.{arith}
+use native.Mathlib.Nat.{one-mul, zero-mul}
 use lib.ListN.{length, length-set}
+use Rattle.sets.specs.Set.{signatures, size}
+use Rattle.sets.proofs.Words.{at-state}
+use Rattle.flows.proofs.Telling.{tells-none, tells-one, one-size}
 use Rattle.flows.proofs.tell_one.Statement.{statement}
 use Rattle.flows.proofs.tell_one.Tie as tie
 
--- where the set holds the signature, its two words are there
-room : (c : tie.Then1) → c .before .before .before .args .w + 2 ≤ length (c .before .before .before .args .out .now)
-room c = c .before .before .before .pre .1 (sym (c .before .has .ensures) ∙ c .if1 .taken)
+-- where the bit is 1, it is the signature's
+one : (c : tie.Then1) → c .before .args .bit * 2 ^ c .before .args .s ≡ 2 ^ c .before .args .s
+one c = ap (λ (n : ℕ). n * 2 ^ c .before .args .s) (c .if1 .taken) ∙ one-mul (2 ^ c .before .args .s)
 
-has-requires : tie.Need-has-requires
-has-requires c κs = search needs
+signature : (c : tie.Then1) → c .before .args .s < signatures
+signature c = at-state (c .before .args .bit) (c .before .args .s) signatures (c .before .pre .1) (λ e. omega (arith, c .if1 .taken))
+
+-- and its two words are there
+room : (c : tie.Then1) → c .before .args .w + 2 ≤ length (c .before .args .out .now)
+room c = omega (arith, c .before .pre .2, ap (size signatures) (one c), one-size (c .before .args .s) (signature c))
 
 cast-signature : tie.Need-cast-signature
-cast-signature c = search needs
+cast-signature c = omega (arith, signature c)
 
 mul-out : tie.Need-mul-out
 mul-out c = omega (arith, room c)
@@ -39,12 +47,15 @@ same-length : tie.Need-same-length
 same-length c = search needs
 
 returns : tie.Need-returns
-returns c = rw (sym (c .before .has .ensures) ∙ c .if1 .taken) (record { next = search needs; wrote = search needs })
+returns c = let a = c .before .args in rw (one c) (tells-one (a .out .now) (a .w) (a .offset) (a .s) (signature c) (room c))
 
 returns-2 : tie.Need-returns-2
-returns-2 c = rw (sym (c .before .has .ensures) ∙ c .if1 .left) (record { next = search needs; wrote = search needs })
+returns-2 c =
+    let a = c .before .args in
+    let z : a .bit ≡ 0 = omega (arith, c .if1 .left, c .before .pre .0) in
+    tells-none (a .out .now) (a .w) (a .offset) (a .bit * 2 ^ a .s) (ap (λ (n : ℕ). n * 2 ^ a .s) z ∙ zero-mul (2 ^ a .s))
 
 pub tell-one-spec : {M : Type 1} → statement M
 tell-one-spec =
     tie.close
-    (tie.spec has-requires cast-signature mul-out slice-write-out add-out mul-out-2 slice-write-out-2 add-result same-length returns returns-2)
+    (tie.spec cast-signature mul-out slice-write-out add-out mul-out-2 slice-write-out-2 add-result same-length returns returns-2)
