@@ -1,5 +1,5 @@
 -- Words or bytes written over a list: none, one more, more after them, and all of it. Assumes nothing.
-use Prim.Native.Nat.{ℕ, zero, suc, _+_, _*_, _-_, _≤_, _<_}
+use Prim.Native.Nat.{ℕ, suc, _+_, _-_, _≤_, _<_}
 use mathlib.Core.Path.{_≡_, refl, sym, ap, _∙_}
 use mathlib.Core.List.{List, [], _∷_, _++_, append-assoc, append-nil}
 use mathlib.Core.Bool.{Bool, true, false, cond}
@@ -10,13 +10,10 @@ use lib.ListN.{length, getD, set, take, drop, length-append, length-drop, take-a
 use lib.Seq.{drop-cons, drop-drop, take-at, drop-at, set-at, drop-length, length-take-le}
 use lib.Dec.{leb}
 use borrow.Author.Tests.{le-leb, leb-true}
-use Rattle.sets.specs.Set.{signatures, setSize, digits, setBytes, holds, members, placed}
+use Rattle.sets.specs.Set.{setSize, digits, setBytes, placed}
 use Rattle.sets.proofs.Laws.{length-digits}
-use Rattle.sets.proofs.Members.{members-in, members-out}
 use Rattle.sets.proofs.Bytes.{placed-out}
-use Rattle.flows.specs.Engine.{pairsAt}
 use Rattle.flows.specs.Flow.{flowSize, flow}
-use Rattle.flows.proofs.Runs.{pairsAt-length}
 
 -- where it fits
 pub placed-fits : (b : List ℕ) (at : ℕ) (xs : List ℕ) → at + length xs ≤ length b → placed b at xs ≡ (take at b ++ xs) ++ drop (at + length xs) b

@@ -5,7 +5,7 @@ use mathlib.Core.Bool.{Bool, true, false, _||_, cond}
 use mathlib.Core.List.{List, [], _∷_, _++_, append-assoc, append-nil}
 use native.Mathlib.Omega.{arith}
 use native.Mathlib.Decide.{decLt}
-use native.Mathlib.Nat.{lt-of-not-le, mul-assoc, mul-comm, add-mul, one-mul, zero-mul, mul-mod-left, zero-div, mod-lt, mul-one, div-one, div-eq-of-lt}
+use native.Mathlib.Nat.{lt-of-not-le, mul-assoc, mul-comm, add-mul, zero-mul, mul-mod-left, zero-div, mod-lt, mul-one, div-one, div-eq-of-lt}
 use lib.ListN.{length, getD, set, length-append}
 use lib.Pow.{pow-add, pow-pos, split, field, shl-lt, shr-shr}
 use lib.Bits.{or-shifted-r}
@@ -14,6 +14,7 @@ use borrow.Author.Tests.{eq-eqb, ne-eqb}
 use Rattle.sets.specs.Set.{sigWords, signatures, num, bit, holds, join, size, members, placed}
 use Rattle.sets.proofs.Laws.{digits-at, digits-num}
 use Rattle.sets.proofs.Sets.{Words, words-lt, holds-join, holds-pow, holds-empty, holds-past}
+use Rattle.sets.proofs.Words.{at-state}
 use Rattle.sets.proofs.Members.{members-in, members-out, members-size}
 use Rattle.flows.specs.Engine.{pairsAt}
 use Rattle.flows.specs.Fed.{Tells}
@@ -130,7 +131,11 @@ pub record Left (out₀ : List ℕ) (w₀ k G : ℕ) (out : List ℕ) (w n s : �
 pub left-all : (out : List ℕ) (w k n s : ℕ) → n * 2 ^ s < 2 ^ signatures → Left out w k (n * 2 ^ s) out w n s
 left-all out w k n s l = record { small = l; next = refl; kept = refl; wrote = refl }
 
-module _ (out₀ : List ℕ) (w₀ k G : ℕ) (room : w₀ + 2 * size signatures G ≤ length out₀) (out : List ℕ) (w n s : ℕ) (h : Left out₀ w₀ k G out w n s) where
+-- where something is left, it stands at a signature
+pub left-at : {out₀ : List ℕ} {w₀ k G : ℕ} {out : List ℕ} {w n s : ℕ} → Left out₀ w₀ k G out w n s → (n ≡ 0 → ⊥) → s < signatures
+left-at {n = n} {s = s} h ne = at-state n s signatures (h .small) ne
+
+module _ {out₀ : List ℕ} {w₀ k G : ℕ} {out : List ℕ} {w n s : ℕ} (h : Left out₀ w₀ k G out w n s) (room : w₀ + 2 * size signatures G ≤ length out₀) where
   -- the j lowest bits of what is left, and the others
   left-size : (j : ℕ) → size signatures (n * 2 ^ s) ≡ size signatures (n % 2 ^ j * 2 ^ s) + size signatures (n / 2 ^ j * 2 ^ (s + j))
   left-size j =
@@ -181,15 +186,14 @@ module _ (ws : List ℕ) (v : Words sigWords ws) (out₀ : List ℕ) (w₀ k : �
 
   module _ (out : List ℕ) (w i : ℕ) (h : LeftWords out w i) where
     pub words-low : i < sigWords → (getD ws i 0 * 2 ^ (64 * i) < 2 ^ signatures) × (w + 2 * size signatures (getD ws i 0 * 2 ^ (64 * i)) ≤ length out)
-    words-low l = rw (word-of i l) at (left-low out₀ w₀ k (num 64 ws) room out w (num 64 ws / 2 ^ (64 * i)) (64 * i) h 64)
+    words-low l = rw (word-of i l) at (left-low h room 64)
 
     pub words-more : i < sigWords → (n : ℕ) (left : List ℕ) → Tells (getD ws i 0 * 2 ^ (64 * i)) out w k n left → LeftWords left n (i + 1)
     words-more l n left t =
         let e : 64 * i + 64 ≡ 64 * (i + 1) = omega arith in
         rw (shr-shr (num 64 ws) (64 * i) 64, e)
-        at (left-more out₀ w₀ k (num 64 ws) room out w (num 64 ws / 2 ^ (64 * i)) (64 * i) h 64 n left (rw (word-of i l) t))
+        at (left-more h room 64 n left (rw (word-of i l) t))
 
     pub words-none : i ≡ sigWords → out ≡ placed out₀ w₀ (pairsAt k (members signatures (num 64 ws)))
     words-none e =
-        left-none out₀ w₀ k (num 64 ws) room out w (num 64 ws / 2 ^ (64 * i)) (64 * i) h
-        (rw e (div-eq-of-lt (words-lt sigWords ws v))) .wrote
+        left-none h room (rw e (div-eq-of-lt (words-lt sigWords ws v))) .wrote

@@ -129,18 +129,34 @@ fn tell_one(out: &mut [u32], w: usize, bit: u64, s: usize, offset: u32) -> usize
     w
 }
 
-// Writes signature and offset for each bit that is 1, from word `at` on; the lowest bit is signature `base`. Answers the word after.
-fn tell_bits(out: &mut [u32], at: usize, bits: u64, base: usize, offset: u32) -> usize
-    requires { ⌜ (bits * 2 ^ base < 2 ^ signatures) × (at + 2 * size signatures (bits * 2 ^ base) ≤ length (now out)) ⌝ }
-    ensures { λ res. ⌜ Tells (bits * 2 ^ base) (now (out .entry)) at offset res (now (out .exit)) ⌝ }
+// Writes signature and offset for each bit of a byte that is 1, from word `at` on; its lowest bit is signature `base`. Answers the word after.
+fn tell_byte(out: &mut [u32], at: usize, byte: u64, base: usize, offset: u32) -> usize
+    requires { ⌜ (byte * 2 ^ base < 2 ^ signatures) × (at + 2 * size signatures (byte * 2 ^ base) ≤ length (now out)) ⌝ }
+    ensures { λ res. ⌜ Tells (byte * 2 ^ base) (now (out .entry)) at offset res (now (out .exit)) ⌝ }
 {
     let mut w = at;
-    let mut rest = bits;
+    let mut rest = byte;
     let mut s = base;
     while rest != 0 {
         w = tell_one(out, w, rest % 2, s, offset);
         rest = rest / 2;
         s = s + 1;
+    }
+    w
+}
+
+// Writes signature and offset for each bit of a word that is 1, from word `at` on; its lowest bit is signature `base`. Answers the word after.
+fn tell_word(out: &mut [u32], at: usize, word: u64, base: usize, offset: u32) -> usize
+    requires { ⌜ (word * 2 ^ base < 2 ^ signatures) × (at + 2 * size signatures (word * 2 ^ base) ≤ length (now out)) ⌝ }
+    ensures { λ res. ⌜ Tells (word * 2 ^ base) (now (out .entry)) at offset res (now (out .exit)) ⌝ }
+{
+    let mut w = at;
+    let mut rest = word;
+    let mut s = base;
+    while rest != 0 {
+        w = tell_byte(out, w, rest % 256, s, offset);
+        rest = rest / 256;
+        s = s + 8;
     }
     w
 }
@@ -153,7 +169,7 @@ fn tell_all(out: &mut [u32], at: usize, g: SigSet, offset: u32)
     let words = g.words;
     let mut w = at;
     for i in 0..sets::SIG_WORDS {
-        w = tell_bits(out, w, words[i], 64 * i, offset);
+        w = tell_word(out, w, words[i], 64 * i, offset);
     }
 }
 

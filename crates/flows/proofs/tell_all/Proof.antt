@@ -1,6 +1,5 @@
 -- `tell_all` goes through the words of the set; the invariant is that what it told and what is left are all. Assumes nothing.
 use borrow.Author.Needs.{needs}
-use mathlib.Core.Path.{_≡_}
 use Prim.Native.Nat.{_≤_, _-_, _*_, _/_, _^_}
 use native.Mathlib.Omega.{arith}
 use Rattle.sets.specs.Set.{sigWords, num}
@@ -26,17 +25,17 @@ loop-holds c =
     let a = s .args in
     (search needs, words-all (a .g .words) (valid s) (a .out .now) (a .at) (a .offset) (s .pre))
 
-mul-tell-bits : tie.Need-mul-tell-bits Inv-loop μ-loop
-mul-tell-bits c = search needs
+mul-tell-word : tie.Need-mul-tell-word Inv-loop μ-loop
+mul-tell-word c = search needs
 
-array-read-tell-bits : tie.Need-array-read-tell-bits Inv-loop μ-loop
-array-read-tell-bits c = search needs
+array-read-tell-word : tie.Need-array-read-tell-word Inv-loop μ-loop
+array-read-tell-word c = search needs
 
-mul-tell-bits-2 : tie.Need-mul-tell-bits-2 Inv-loop μ-loop
-mul-tell-bits-2 c = search needs
+mul-tell-word-2 : tie.Need-mul-tell-word-2 Inv-loop μ-loop
+mul-tell-word-2 c = search needs
 
-tell-bits-requires : tie.Need-tell-bits-requires Inv-loop μ-loop
-tell-bits-requires c κs =
+tell-word-requires : tie.Need-tell-word-requires Inv-loop μ-loop
+tell-word-requires c κs =
     let s = c .before .before .before .before .before in
     let a = s .args in
     let l = c .before .before .loop in
@@ -54,7 +53,7 @@ loop-again c =
     let a = s .args in
     let l = c .before .before .before .before .before .loop in (
       omega arith,
-      words-more (a .g .words) (valid s) (a .out .now) (a .at) (a .offset) (s .pre) (l .out) (l .w) (l .i) (l .inv .1) (omega arith) _ _ (c .before .before .tell-bits .ensures),
+      words-more (a .g .words) (valid s) (a .out .now) (a .at) (a .offset) (s .pre) (l .out) (l .w) (l .i) (l .inv .1) (omega arith) _ _ (c .before .before .tell-word .ensures),
     )
 
 same-length : tie.Need-same-length Inv-loop μ-loop
@@ -74,10 +73,10 @@ tell-all-spec =
     Inv-loop
     μ-loop
     loop-holds
-    mul-tell-bits
-    array-read-tell-bits
-    mul-tell-bits-2
-    tell-bits-requires
+    mul-tell-word
+    array-read-tell-word
+    mul-tell-word-2
+    tell-word-requires
     add-i
     loop-less
     loop-again
