@@ -36,16 +36,30 @@ pub struct Fed {
     pub all: bool,
 }
 
-// The number that n bytes at a place write, low byte first; past the end they are 0.
-fn number_at(r: &[u8], at: usize, n: usize) -> u64
-    requires { ⌜ (at ≤ flowSize) × (n ≤ 8) ⌝ }
+// The number that n bytes at a place write, low byte first, where they are all there.
+fn whole_number(r: &[u8], at: usize, n: usize) -> u64
+    requires { ⌜ (at + n ≤ length (now r)) × (n ≤ 8) ⌝ }
     ensures { λ res. ⌜ res ≡ num 8 (take n (drop at (now (r .entry)))) ⌝ }
 {
     let mut v = 0u64;
     for j in 0..n {
-        v = v | (lists::byte_at(r, at + j) as u64) << (8 * j);
+        v = v | (r[at + j] as u64) << (8 * j);
     }
     v
+}
+
+// The number that n bytes at a place write, low byte first; past the end they are 0.
+fn number_at(r: &[u8], at: usize, n: usize) -> u64
+    requires { ⌜ n ≤ 8 ⌝ }
+    ensures { λ res. ⌜ res ≡ num 8 (take n (drop at (now (r .entry)))) ⌝ }
+{
+    if r.len() < at {
+        return 0;
+    }
+    if r.len() - at < n {
+        return whole_number(r, at, r.len() - at);
+    }
+    whole_number(r, at, n)
 }
 
 // The offset of a record.
@@ -73,7 +87,10 @@ pub fn rows_of(r: &[u8]) -> u64
 fn bad_flow(r: &[u8]) -> bool
     ensures { λ res. ⌜ res ≡ badFlow (now (r .entry)) ⌝ }
 {
-    (r.len() != FLOW_SIZE) | (reserved_of(r) != 0) | (MOST_ROWS * offset_of(r) < rows_of(r))
+    if r.len() != FLOW_SIZE {
+        return true;
+    }
+    (reserved_of(r) != 0) | (MOST_ROWS * offset_of(r) < rows_of(r))
 }
 
 // The flow check: the number of the first of the rules 4 to 6 that refuses the piece, 0 where none does.

@@ -1,58 +1,44 @@
--- `number_at` meets its promise. Assumes nothing.
+-- `number_at` reads the bytes that are there; those past the end are 0, which adds nothing. Assumes nothing.
 use borrow.Author.Needs.{needs}
-use mathlib.Core.Path.{_≡_, _∙_, ap}
-use Prim.Native.Nat.{ℕ, _≤_, _-_}
+use mathlib.Core.Path.{_≡_, sym, ap, _∙_}
+use Prim.Native.Nat.{ℕ, _-_, _≤_}
 use native.Mathlib.Omega.{arith}
-use lib.ListN.{take, drop}
+use lib.ListN.{length, drop, drop-of-length-le, length-drop}
+use lib.Seq.{take-all, take-nil}
 use Rattle.sets.specs.Set.{num}
-use Rattle.sets.proofs.Bytes.{byte-more}
 use Rattle.flows.proofs.number_at.Statement.{statement}
 use Rattle.flows.proofs.number_at.Tie as tie
 
-abbrev Inv-loop : tie.InvT-loop
-Inv-loop r at n v₀ j₀ v j = (j ≤ n) × (v ≡ num 8 (take j (drop at r)))
-
-abbrev μ-loop : tie.MeasureT-loop
-μ-loop r at n v₀ j₀ v j = n - j
-
-loop-holds : tie.Need-loop-holds Inv-loop μ-loop
+returns : tie.Need-returns
 unfolding num
-loop-holds c = search needs
-
-add-byte-at : tie.Need-add-byte-at Inv-loop μ-loop
-add-byte-at c = search needs
-
-byte-at-requires : tie.Need-byte-at-requires Inv-loop μ-loop
-byte-at-requires c κs = search needs
-
-cast-v : tie.Need-cast-v Inv-loop μ-loop
-cast-v c = search needs
-
-mul-v : tie.Need-mul-v Inv-loop μ-loop
-mul-v c = search needs
-
-shl-v : tie.Need-shl-v Inv-loop μ-loop
-shl-v c = search needs
-
-add-j : tie.Need-add-j Inv-loop μ-loop
-add-j c = search needs
-
-loop-less : tie.Need-loop-less Inv-loop μ-loop
-loop-less c = search needs
-
-loop-again : tie.Need-loop-again Inv-loop μ-loop
-loop-again c =
-    let a = c .before .before .before .before .args in
-    let l = c .before .before .loop in
-    (omega arith, rw (c .byte-at .ensures, l .inv .1) (byte-more (a .r .now) (a .at) (l .j) (λ i. c .before .before .before .shared-slice-known .given i .fits) (omega arith)))
-
-returns : tie.Need-returns Inv-loop μ-loop
 returns c =
-    let a = c .before .before .before .args in
-    let l = c .before .loop in
-    let e : l .j ≡ a .n = omega arith in
-    l .inv .1 ∙ ap (λ (n : ℕ). num 8 (take n (drop (a .at) (a .r .now)))) e
+    let a = c .before .before .args in
+    let l : length (a .r .now) ≤ a .at = omega arith in
+    rw (drop-of-length-le (a .r .now) l, take-nil {A = ℕ} (a .n))
+
+sub-if2 : tie.Need-sub-if2
+sub-if2 c = search needs
+
+sub-whole-number : tie.Need-sub-whole-number
+sub-whole-number c = search needs
+
+whole-number-requires : tie.Need-whole-number-requires
+whole-number-requires c κs = search needs
+
+returns-2 : tie.Need-returns-2
+returns-2 c =
+    let a = c .before .before .before .before .args in
+    let rest = drop (a .at) (a .r .now) in
+    let e : length (drop (a .at) (a .r .now)) ≡ length (a .r .now) - a .at = length-drop (a .at) (a .r .now) in
+    c .whole-number .ensures ∙ ap (num 8) (take-all (length (a .r .now) - a .at) rest (omega arith) ∙ sym (take-all (a .n) rest (omega arith)))
+
+whole-number-requires-2 : tie.Need-whole-number-requires-2
+whole-number-requires-2 c κs = search needs
+
+returns-3 : tie.Need-returns-3
+returns-3 c = search needs
 
 pub number-at-spec : {M : Type 1} → statement M
 number-at-spec =
-    tie.close (tie.spec Inv-loop μ-loop loop-holds add-byte-at byte-at-requires cast-v mul-v shl-v add-j loop-less loop-again returns)
+    tie.close
+    (tie.spec returns sub-if2 sub-whole-number whole-number-requires returns-2 whole-number-requires-2 returns-3)
