@@ -1,19 +1,18 @@
 -- The plain engine: it keeps to sets of states, costs at most all of them for a byte, and its feed refuses by its rules alone. Assumes nothing.
 use Prim.Native.Nat.{ℕ, _^_, _≤_, _<_}
-use mathlib.Core.Path.{_≡_, refl, sym, ap, _∙_}
-use mathlib.Core.Bool.{Bool, true, false, _&&_, cond}
+use mathlib.Core.Path.{_≡_}
 use mathlib.Core.List.{List}
+use native.Mathlib.Decide.{ℕ-discrete}
 use lib.ListN.{length, take}
-use lib.Dec.{ltb, eqb}
-use borrow.Author.Tests.{eqb-true}
-use Rattle.sets.specs.Set.{states, size, members}
+use lib.Dec.{ltb}
+use Rattle.sets.specs.Set.{states}
 use Rattle.sets.proofs.Members.{members-size, members-most}
-use Rattle.lists.specs.Scan.{verdict}
-use Rattle.lists.specs.Automaton.{step}
+use Rattle.lists.specs.Scan.{Rule, verdict}
 use Rattle.lists.proofs.Steps.{step-lt}
 use Rattle.lists.proofs.Scanning.{and-false}
-use Rattle.flows.specs.Engine.{room, consumed, ended, refused, feed}
-use Rattle.flows.specs.Flow.{flowLayout, frontierOf, feedRules}
+use Rattle.flows.specs.Engine.{Layout, room, consumed, ended, feed}
+use Rattle.flows.specs.Flow.{feedRules}
+use Rattle.flows.proofs.Moves.{feed-ends, feed-refused}
 use Rattle.plain.specs.Plain.{plain, plainFeed}
 
 -- at most all states for a byte
@@ -24,19 +23,17 @@ plain-cheap L F = rw (← members-size states F) (members-most states F)
 pub plain-kept : (L : List ℕ) (F c : ℕ) → c < 256 → F < 2 ^ states → plain L .next F c < 2 ^ states
 plain-kept L F c l h = step-lt L F c
 
--- the feed's refusal is its rules' verdict
-pub plain-refusal : (L R : List ℕ) (at : ℕ) (piece out : List ℕ) → plainFeed L R at piece out .refusal ≡ verdict (feedRules L R at piece)
-unfolding feed ended
-plain-refusal L R at piece out = go (eqb (verdict (feedRules L R at piece)) 0) refl
+-- nothing halts, so a feed refuses by its rules alone, however a flow is saved
+rules-alone : (K : Layout ℕ) (rules : List Rule) (L R piece out : List ℕ) → feed rules (plain L) K R piece out .refusal ≡ verdict rules
+unfolding ended
+rules-alone K rules L R piece out = elim (ℕ-discrete (verdict rules) 0) [ yes v ↦ free v | no n ↦ feed-refused (plain L) K R rules piece out n ]
   where
     front : List ℕ
-    front = take (consumed (plain L) (frontierOf R) (room out) piece) piece
+    front = take (consumed (plain L) (K .config R) (room out) piece) piece
 
-    none : (t : Bool) → _≡_ {A = ℕ} (cond (t && false) 14 0) 0
-    none true = refl
-    none false = refl
+    free : verdict rules ≡ 0 → feed rules (plain L) K R piece out .refusal ≡ verdict rules
+    free v = rw (feed-ends (plain L) K R rules piece out v, and-false (ltb (length front) (length piece)), v)
 
-    go : (t : Bool) → eqb (verdict (feedRules L R at piece)) 0 ≡ t
-        → cond t (ended (plain L) flowLayout R front (length piece) out) (refused (verdict (feedRules L R at piece)) R out) .refusal ≡ verdict (feedRules L R at piece)
-    go true e = none (ltb (length front) (length piece)) ∙ sym (eqb-true (verdict (feedRules L R at piece)) 0 e)
-    go false e = refl
+-- the plain feed's refusal is its rules' verdict
+pub plain-refusal : (L R : List ℕ) (at : ℕ) (piece out : List ℕ) → plainFeed L R at piece out .refusal ≡ verdict (feedRules L R at piece)
+plain-refusal L R at piece out = rules-alone _ (feedRules L R at piece) L R piece out

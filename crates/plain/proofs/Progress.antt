@@ -1,12 +1,12 @@
 -- What a caller of the plain feed counts on: the bytes are a front of the piece, the offset stays in range, and with room for all signatures the flow moves. Assumes nothing.
 use Prim.Native.Nat.{ℕ, zero, _+_, _≤_, _<_}
-use mathlib.Core.Path.{_≡_, refl, sym, ap, _∙_}
+use mathlib.Core.Path.{_≡_}
 use mathlib.Core.List.{List}
 use native.Mathlib.Omega.{arith}
 use lib.ListN.{length}
 use Rattle.sets.specs.Set.{signatures}
 use Rattle.flows.specs.Engine.{room}
-use Rattle.flows.specs.Flow.{flowLayout, frontierOf, offsetOf, mostOffset, feedRules}
+use Rattle.flows.specs.Flow.{offsetOf, mostOffset, feedRules}
 use Rattle.flows.proofs.Runs.{consumed-most}
 use Rattle.flows.proofs.Looping.{feed-passes}
 use Rattle.flows.proofs.Moves.{feed-bytes, no-refusal, feed-moves}
@@ -20,11 +20,11 @@ pub record Progress (L R : List ℕ) (at : ℕ) (piece out : List ℕ) : Type 0 
 
 pub progress : (L R : List ℕ) (at : ℕ) (piece out : List ℕ) → plainFeed L R at piece out .refusal ≡ 0 → Progress L R at piece out
 progress L R at piece out z =
-    let v = no-refusal (plain L) flowLayout R (feedRules L R at piece) piece out z in
+    let v = no-refusal (plain L) _ R (feedRules L R at piece) piece out z in
     let p = feed-passes L R at piece v in
     record {
       begins = p .1;
-      front = rw (feed-bytes (plain L) flowLayout R (feedRules L R at piece) piece out v) (consumed-most (plain L) (frontierOf R) (room out) piece);
+      front = rw (feed-bytes (plain L) _ R (feedRules L R at piece) piece out v) (consumed-most (plain L) _ (room out) piece);
       short = omega (arith, p .1, p .2);
-      moves = λ l r. feed-moves (plain L) flowLayout R (feedRules L R at piece) piece out z l r;
+      moves = λ l r. feed-moves (plain L) _ R (feedRules L R at piece) piece out z l r;
     }
