@@ -23,6 +23,7 @@ use Rattle.tables.specs.Table.{Table, unusedSlot, slots, takenSlots, isSplit, b
 use Rattle.tables.proofs.Accepted.{Accepted, accepted as accepted-table}
 use Rattle.splits.specs.Split.{splitOf, taken, splitStep, split, splitRules}
 use Rattle.splits.proofs.Exact.{few, free, same, stays}
+use Rattle.splits.proofs.Stepping.{split-cheap}
 use Rattle.demands.specs.Calls.{Via, byList, byTable, Call, engineOf, rulesOf, asked}
 
 -- ---- a call that no rule refuses
@@ -42,25 +43,10 @@ rows-few R e = good-flow R e .2
 
 -- ---- what a byte costs
 
-taken-most : (xs : List ℕ) → length (takenSlots xs) ≤ length xs
-unfolding takenSlots
-taken-most [] = omega arith
-taken-most (x ∷ xs) = go (unusedSlot x) (taken-most xs)
-  where
-    go : (b : Bool) → length (takenSlots xs) ≤ length xs → length (cond {A = List ℕ} b [] (x ∷ takenSlots xs)) ≤ suc (length xs)
-    go true h = omega arith
-    go false h = omega arith
-
-four-slots : (S : List ℕ) (i : ℕ) → length (slots S i) ≡ 4
-unfolding slots
-four-slots S i = refl
-
 -- by any list or table at most as many rows as there are states
 pub cost-most : (v : Via) (L : List ℕ) (F : ℕ) → engineOf v L .cost F ≤ states
-unfolding taken
 cost-most byList L F = plain-cheap L F
-cost-most (byTable b T) L F =
-    omega (arith, taken-most (slots (T .splits) (splitOf (T .splits) F)), four-slots (T .splits) (splitOf (T .splits) F))
+cost-most (byTable b T) L F = omega (arith, split-cheap T F)
 
 -- ---- an accepted table follows the list
 

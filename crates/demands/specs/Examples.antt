@@ -1,4 +1,4 @@
--- The barn examples marked P: the list L, the table T, and one table of rows, each what a definition gives beside what the paper expects.
+-- The barn examples marked P: the list L, the table T, and one table of rows, each what a definition gives beside what the example says.
 use Prim.Native.Nat.{ℕ, _-_, _*_}
 use mathlib.Core.Bool.{cond}
 use mathlib.Core.List.{List, [], _∷_, _++_}
@@ -12,7 +12,7 @@ use Rattle.plain.specs.Plain.{opened}
 use Rattle.tables.specs.Table.{Table, mostClass, mostParts, mostSplits, mostBound, tableRefusal}
 use Rattle.demands.specs.Calls.{Via, byList, byTable, Call, outcome}
 
--- a row: what a definition gives, and what the paper expects
+-- a row: what a definition gives, and what the example says
 abbrev pub Row : Type 0
 Row = List ℕ × List ℕ
 
@@ -108,7 +108,7 @@ afterBAB = fed byList afterA 1 (b ∷ a ∷ b ∷ []) 2 .saved
 
 abbrev pub feedRows : List Row
 feedRows =
-    -- the limits that the paper names: records, states, signatures; offset; class, parts, splits, bound
+    -- the limits that the rules name: records, states, signatures; offset; class, parts, splits, bound
     (mostRecords ∷ states ∷ signatures ∷ [], 4096 ∷ 256 ∷ 256 ∷ [])
     ∷ (mostOffset ∷ [], 4294967295 ∷ [])
     ∷ (mostClass ∷ mostParts ∷ mostSplits ∷ mostBound ∷ [], 63 ∷ 1024 ∷ 4096 ∷ 4 ∷ [])

@@ -2,6 +2,7 @@ pub mod Runs
 pub mod Told
 pub mod Follows
 pub mod Records
+pub mod Refused
 pub mod Going
 pub mod Moves
 pub mod Whole

@@ -6,9 +6,10 @@ use mathlib.Core.List.{List}
 use mathlib.Core.Logic.{_⊎_, _↔_}
 use lib.ListN.{length}
 use borrow.Author.Tests.{eqb-true, not-true}
+use Rattle.sets.proofs.Sets.{or-false}
 use Rattle.lists.specs.Scan.{Refuses}
 use Rattle.lists.specs.List.{recordSize, mostRecords, records, byteOf, isEdge, isStart, isAccept, goodEdge, goodStart, goodAccept, goodRecord, badLength, badRecord, noStart, listRules, listRefusal}
-use Rattle.lists.proofs.Scanning.{or-false, length-words, some-none, none-some, refuses-exactly}
+use Rattle.lists.proofs.Scanning.{length-words, some-none, none-some, refuses-exactly}
 use Rattle.lists.proofs.Rules.{refuses}
 
 -- a row's number exactly when that row is the first that applies, 0 exactly when none applies

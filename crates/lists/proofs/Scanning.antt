@@ -9,7 +9,7 @@ use lib.Dec.{ltb, eqb}
 use lib.Pow.{pow-pos}
 use borrow.Author.Tests.{eqb-true, eqb-false, eq-eqb, ne-eqb, ltb-true, lt-ltb, not-true}
 use Rattle.sets.specs.Set.{holds, insert, join}
-use Rattle.sets.proofs.Sets.{holds-empty, holds-insert, holds-join, insert-lt, set-ext}
+use Rattle.sets.proofs.Sets.{or-false, holds-empty, holds-insert, holds-join, insert-lt, set-ext}
 use Rattle.lists.specs.Scan.{some, every, first, gather}
 
 -- ---- tests
@@ -24,10 +24,6 @@ choose s f g = ⊎-elim f g s
 pub or-true : (a : Bool) → (a || true) ≡ true
 or-true true = refl
 or-true false = refl
-
-pub or-false : (a : Bool) → (a || false) ≡ a
-or-false true = refl
-or-false false = refl
 
 pub and-comm : (a b : Bool) → (a && b) ≡ (b && a)
 and-comm true true = refl

@@ -40,7 +40,7 @@ small-set k (w ∷ ws) zero v h l (suc j) = h (suc j)
 small-set k (w ∷ ws) (suc i) v h l zero = h 0
 small-set k (w ∷ ws) (suc i) v h l (suc j) = small-set k ws i v (λ n. h (suc n)) l j
 
-two-pos : zero < 2
+pub two-pos : zero < 2
 two-pos = lit< tt
 
 max-lt : {a b n : ℕ} → a < n → b < n → max a b < n

@@ -14,12 +14,9 @@ use borrow.Author.Tests.{eq-eqb, ne-eqb, ltb-true}
 use Rattle.sets.specs.declared.StateSet.{StateSet}
 use Rattle.sets.specs.declared.SigSet.{SigSet}
 use Rattle.sets.specs.Set.{setWords, sigWords, setSize, num, bit, digits, setOf, sigsOf, holds, join, insert, bytesAt, setAt}
-use Rattle.sets.proofs.Laws.{Small, small-drop, bit-or, bit-zero, bit-pow-same, bit-pow-other, bits-ext, bit-num, num-inj, num-zeros, num-lt, num-take-lt}
+use Rattle.sets.proofs.Laws.{Small, two-pos, small-drop, bit-or, bit-zero, bit-pow-same, bit-pow-other, bits-ext, bit-num, num-inj, num-zeros, num-lt, num-take-lt}
 
-two-pos : zero < 2
-two-pos = lit< tt
-
-or-false : (a : Bool) → (a || false) ≡ a
+pub or-false : (a : Bool) → (a || false) ≡ a
 or-false true = refl
 or-false false = refl
 
@@ -84,10 +81,6 @@ insert-lt m n s h = go (ltb s m) refl
     go true e = or-lt m n (2 ^ s) h (pow-lt (ltb-true s m e))
     go false e = h
 
-pub join-lt : (m a b : ℕ) → a < 2 ^ m → b < 2 ^ m → join a b < 2 ^ m
-unfolding join
-join-lt m a b ha hb = or-lt m a b ha hb
-
 -- past its bits a set holds nothing
 pub holds-past : (m n s : ℕ) → n < 2 ^ m → m ≤ s → holds n s ≡ false
 unfolding holds
@@ -126,10 +119,6 @@ join-empty a = refl
 pub join-comm : (a b : ℕ) → join a b ≡ join b a
 unfolding join
 join-comm a b = or-comm a b
-
-pub join-self : (a : ℕ) → join a a ≡ a
-unfolding join
-join-self a = or-self a
 
 pub join-assoc : (a b c : ℕ) → join (join a b) c ≡ join a (join b c)
 join-assoc a b c =

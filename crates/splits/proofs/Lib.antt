@@ -1,3 +1,4 @@
+pub mod Halting
 pub mod Exact
 pub mod Taking
 pub mod Stepping

@@ -43,7 +43,7 @@ fails-words : (n : ℕ) (p : ℕ → Bool) (A : ℕ → Type 0) → ((i : ℕ) �
 fails-words n p A f = (λ e. scan-words n p A f .0 (ap not e), λ w. not-true (every n p) (scan-words n p A f .1 w))
 
 -- F is no split exactly when no split has that set
-no-split : (S : List ℕ) (F : ℕ) → isSplit S F ≡ false ↔ ((j : ℕ) → j < splitCount S → splitSet S j ≡ F → ⊥)
+pub no-split : (S : List ℕ) (F : ℕ) → isSplit S F ≡ false ↔ ((j : ℕ) → j < splitCount S → splitSet S j ≡ F → ⊥)
 no-split S F = (
   λ e j h. eqb-false (splitSet S j) F (none-some (splitCount S) (λ i. eqb (splitSet S i) F) e j h),
   λ n. some-none (splitCount S) (λ i. eqb (splitSet S i) F) (λ j h. ne-eqb (splitSet S j) F (n j h)),

@@ -8,7 +8,7 @@ use native.Mathlib.Nat.{mul-le-mul}
 use lib.ListN.{length, getD, take, drop, length-take, length-drop, List·getD-eq-default, drop-of-length-le}
 use lib.Seq.{drop-cons, getD-drop}
 use Rattle.sets.specs.Set.{setSize, num, digits, setBytes, bytesAt, setAt, before}
-use Rattle.sets.proofs.Laws.{Small, digits-num}
+use Rattle.sets.proofs.Laws.{Small, small-take, digits-num}
 use Rattle.sets.proofs.Bytes.{set-at-past}
 use Rattle.tables.specs.Table.{mostParts, splitSize, largest, classCount, partCount, splitCount, part, splitSet, slot, slots, inOrder}
 
@@ -83,17 +83,11 @@ rows-fit n k h l = mul-le-mul {n₁ = n} {m₁ = k} {n₂ = mostParts} {m₂ = 2
 
 -- ---- the bytes of a set that stands in a list of bytes
 
-small-take : (n : ℕ) (xs : List ℕ) → Small 8 xs → Small 8 (take n xs)
-small-take zero xs s i = omega arith
-small-take (suc n) [] s i = s i
-small-take (suc n) (x ∷ xs) s zero = s 0
-small-take (suc n) (x ∷ xs) s (suc i) = small-take n xs (λ j. s (suc j)) i
-
 pub set-bytes : (b : List ℕ) (at : ℕ) → Small 8 b → at + setSize ≤ length b → setBytes (setAt b at) ≡ bytesAt b at
 unfolding setAt
 set-bytes b at s h =
     let l : length (bytesAt b at) ≡ setSize = simp (length-take, length-drop) (omega arith) in
-    let t : Small 8 (bytesAt b at) = small-take setSize (drop at b) (λ i. rw (getD-drop at b i 0) (s (at + i))) in
+    let t : Small 8 (bytesAt b at) = small-take 8 setSize (drop at b) (λ i. rw (getD-drop at b i 0) (s (at + i))) in
     ap (λ (n : ℕ). digits 8 n (num 8 (bytesAt b at))) (sym l) ∙ digits-num 8 (bytesAt b at) t
 
 -- the bytes of a split's set

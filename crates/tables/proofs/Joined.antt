@@ -1,11 +1,12 @@
 -- Unions over a list of part numbers, and the slots of a split: those in use, those taken, and their order. Assumes nothing.
 use Prim.Native.Nat.{ℕ, zero, suc, _+_, _*_, _-_, _≤_, _<_}
 use mathlib.Core.Path.{_≡_, refl, sym, ap, _∙_}
-use mathlib.Core.Bool.{Bool, true, false, _&&_, cond}
+use mathlib.Core.Bool.{Bool, true, false, _&&_, not, cond, false≢true}
 use mathlib.Core.List.{List, [], _∷_}
 use mathlib.Core.Logic.{_↔_}
 use native.Mathlib.Omega.{arith}
-use native.Mathlib.Nat.{suc-inj}
+use native.Mathlib.Nat.{suc-inj, lt-of-not-le}
+use native.Mathlib.Decide.{decLt}
 use lib.ListN.{length, getD}
 use lib.Dec.{ltb, leb, eqb}
 use borrow.Author.Tests.{ltb-true, leb-true, le-leb, lt-ltb}
@@ -45,6 +46,23 @@ below-all n (x ∷ xs) h = rw (lt-ltb x n (h 0 (omega arith)), below-all n xs (�
 
 pub below-exactly : (n : ℕ) (xs : List ℕ) → allBelow n xs ≡ true ↔ ((i : ℕ) → i < length xs → getD xs i 0 < n)
 below-exactly n xs = (below-at n xs, below-all n xs)
+
+-- not every number of the list is below n exactly when one is not
+below-failed : (n : ℕ) (xs : List ℕ) → not (allBelow n xs) ≡ true → (i : ℕ) × (i < length xs) × (n ≤ getD xs i 0)
+unfolding allBelow
+below-failed n [] e = absurd (false≢true e)
+below-failed n (x ∷ xs) e =
+    elim (decLt x n) [ yes l ↦ later (below-failed n xs (sym (rw (lt-ltb x n l)) ∙ e)) | no g ↦ (0, omega arith, omega (arith, lt-of-not-le (λ (l : suc x ≤ n). g l))) ]
+  where
+    later : (i : ℕ) × (i < length xs) × (n ≤ getD xs i 0) → (i : ℕ) × (i < length (x ∷ xs)) × (n ≤ getD (x ∷ xs) i 0)
+    later w = (suc (w .0), omega (arith, w .1), w .2)
+
+pub below-fails : (n : ℕ) (xs : List ℕ) → not (allBelow n xs) ≡ true ↔ ((i : ℕ) × (i < length xs) × (n ≤ getD xs i 0))
+below-fails n xs = (below-failed n xs, λ w. back (allBelow n xs) refl w)
+  where
+    back : (b : Bool) → allBelow n xs ≡ b → (i : ℕ) × (i < length xs) × (n ≤ getD xs i 0) → not b ≡ true
+    back false e w = refl
+    back true e w = absurd (omega (arith, w .2, below-at n xs e (w .0) (w .1)))
 
 -- a list that rises from `least` on: each number is at least that, and later ones are greater
 rising-least : (least : ℕ) (xs : List ℕ) → rising least xs ≡ true → (i : ℕ) → i < length xs → least ≤ getD xs i 0

@@ -1,0 +1,45 @@
+-- Rule 14 in a reader's words: when a frontier is stuck. Assumes nothing.
+use Prim.Native.Nat.{ℕ, suc, _≤_, _<_}
+use mathlib.Core.Path.{_≡_, refl, sym, ap, _∙_}
+use mathlib.Core.Bool.{Bool, true, false, _||_, not, true≢false}
+use mathlib.Core.List.{List}
+use mathlib.Core.Logic.{_⊎_, _↔_}
+use native.Mathlib.Omega.{arith}
+use lib.ListN.{length, getD}
+use lib.Dec.{leb, ltb, eqb}
+use borrow.Author.Tests.{leb-true, le-leb}
+use Rattle.lists.specs.Scan.{some, first}
+use Rattle.lists.proofs.Scanning.{either-words, over-words, first-found, first-none}
+use Rattle.tables.specs.Table.{Table, partCount, splitCount, splitSet, allBelow, isSplit}
+use Rattle.tables.proofs.Joined.{below-fails}
+use Rattle.tables.proofs.Checked.{no-split}
+use Rattle.splits.specs.Split.{splitOf, taken, stuck}
+
+module _ (S : List ℕ) (F : ℕ) where
+  -- the search ends past the last split exactly when F is no split
+  past : leb (splitCount S) (splitOf S F) ≡ true ↔ (isSplit S F ≡ false)
+  unfolding splitOf
+  past = (λ e. there (isSplit S F) refl e, λ n. le-leb (splitCount S) _ (omega (arith, first-none (splitCount S) (λ i. eqb (splitSet S i) F) n)))
+    where
+      there : (b : Bool) → isSplit S F ≡ b → leb (splitCount S) (first (splitCount S) (λ i. eqb (splitSet S i) F)) ≡ true → isSplit S F ≡ false
+      there false e l = e
+      there true e l = absurd (omega (arith, leb-true (splitCount S) _ l, first-found (splitCount S) (λ i. eqb (splitSet S i) F) e .0))
+
+-- no split has the set F, or a slot taken names no part, or more than b are taken
+pub stuck-exactly : (b : ℕ) (T : Table) (F : ℕ) → stuck b T F ≡ true
+    ↔ ((((j : ℕ) → j < splitCount (T .splits) → splitSet (T .splits) j ≡ F → ⊥)
+    ⊎ ((i : ℕ) × (i < length (taken T F)) × (partCount (T .parts) ≤ getD (taken T F) i 0)))
+    ⊎ (b < length (taken T F)))
+unfolding stuck
+stuck-exactly b T F =
+    either-words (None ⊎ Unnamed) (b < length (taken T F)) (leb (splitCount (T .splits)) (splitOf (T .splits) F) || not (allBelow (partCount (T .parts)) (taken T F))) (ltb b (length (taken T F)))
+    (either-words None Unnamed (leb (splitCount (T .splits)) (splitOf (T .splits) F)) (not (allBelow (partCount (T .parts)) (taken T F)))
+    (λ e. no-split (T .splits) F .0 (past (T .splits) F .0 e), λ n. past (T .splits) F .1 (no-split (T .splits) F .1 n))
+    (below-fails (partCount (T .parts)) (taken T F)))
+    (over-words b (length (taken T F)))
+  where
+    None : Type 0
+    None = (j : ℕ) → j < splitCount (T .splits) → splitSet (T .splits) j ≡ F → ⊥
+
+    Unnamed : Type 0
+    Unnamed = (i : ℕ) × (i < length (taken T F)) × (partCount (T .parts) ≤ getD (taken T F) i 0)
