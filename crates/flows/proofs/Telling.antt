@@ -14,79 +14,12 @@ use borrow.Author.Tests.{eq-eqb, ne-eqb}
 use Rattle.sets.specs.Set.{sigWords, signatures, num, bit, holds, join, size, members, placed}
 use Rattle.sets.proofs.Laws.{digits-at, digits-num}
 use Rattle.sets.proofs.Sets.{Words, words-lt, holds-join, holds-pow, holds-empty, holds-past}
-use Rattle.sets.proofs.Words.{at-state}
+use Rattle.sets.proofs.Parts.{low-in, high-in, at-state, members-none, members-one, members-split}
 use Rattle.sets.proofs.Members.{members-in, members-out, members-size}
 use Rattle.flows.specs.Engine.{pairsAt}
 use Rattle.flows.specs.Fed.{Tells}
 use Rattle.flows.proofs.Runs.{pairsAt-length}
 use Rattle.flows.proofs.Placing.{length-placed, placed-none, placed-one, placed-after, placed-empty}
-
--- ---- members of the parts of a set
-
--- below the bits that are 1 there are none
-members-none : (m b : ℕ) → ((s : ℕ) → s < m → holds b s ≡ false) → members m b ≡ []
-unfolding members
-members-none zero b h = refl
-members-none (suc m) b h = members-out m b (h m (omega arith)) ∙ members-none m b (λ s l. h s (omega arith))
-
--- one number alone
-members-one : (m s : ℕ) → s < m → members m (2 ^ s) ≡ s ∷ []
-members-one zero s l = absurd (omega arith)
-members-one (suc m) s l = elim (decLt s m) [ yes k ↦ below k (members-one m s k) | no g ↦ here (omega (arith, lt-of-not-le (λ (k : suc s ≤ m). g k))) ]
-  where
-    below : s < m → members m (2 ^ s) ≡ s ∷ [] → members (suc m) (2 ^ s) ≡ s ∷ []
-    below k ih = members-out m (2 ^ s) (holds-pow s m ∙ ne-eqb m s (λ e. omega arith)) ∙ ih
-
-    here : s ≡ m → members (suc m) (2 ^ s) ≡ s ∷ []
-    here e =
-        rw e
-        (members-in m (2 ^ m) (holds-pow m m ∙ eq-eqb m m refl)
-        ∙ ap {B = List ℕ} (λ (gs : List ℕ). gs ++ (m ∷ [])) (members-none m (2 ^ m) (λ s l. holds-pow m s ∙ ne-eqb s m (λ e. omega arith))))
-
--- a part below k and a part from k on
-members-parts : (k a b : ℕ) → a < 2 ^ k → ((s : ℕ) → s < k → holds b s ≡ false) → (m : ℕ) → members m (join a b) ≡ members m a ++ members m b
-unfolding members
-members-parts k a b ha hb zero = refl
-members-parts k a b ha hb (suc m) = rw (members-parts k a b ha hb m, holds-join a b m) (elim (decLt m k) [ yes l ↦ low l | no g ↦ high (omega (arith, lt-of-not-le (λ (l : suc m ≤ k). g l))) ])
-  where
-    low : m < k → (members m a ++ members m b) ++ cond (holds a m || holds b m) (m ∷ []) [] ≡ (members m a ++ cond (holds a m) (m ∷ []) []) ++ (members m b ++ cond (holds b m) (m ∷ []) [])
-    low l = rw (hb m l, members-none m b (λ s n. hb s (omega arith))) (go (holds a m))
-      where
-        go : (t : Bool) → (members m a ++ []) ++ cond (t || false) (m ∷ []) [] ≡ (members m a ++ cond t (m ∷ []) []) ++ []
-        go true = simp append-nil
-        go false = simp append-nil
-
-    high : k ≤ m → (members m a ++ members m b) ++ cond (holds a m || holds b m) (m ∷ []) [] ≡ (members m a ++ cond (holds a m) (m ∷ []) []) ++ (members m b ++ cond (holds b m) (m ∷ []) [])
-    high l = rw (holds-past k a m ha l, append-nil (members m a)) (append-assoc (members m a) (members m b) (cond (holds b m) (m ∷ []) []))
-
--- a number that is shifted up holds nothing below
-holds-below : (n k s : ℕ) → s < k → holds (n * 2 ^ k) s ≡ false
-unfolding holds
-holds-below n k s l =
-    let e : n * 2 ^ k ≡ (n * 2 ^ (k - (1 + s))) * 2 ^ (1 + s) = ap (λ (i : ℕ). n * 2 ^ i) (omega arith) ∙ ap (λ (i : ℕ). n * i) (pow-add 2 (k - (1 + s)) (1 + s)) ∙ sym (mul-assoc n (2 ^ (k - (1 + s))) (2 ^ (1 + s))) in
-    let z : bit (n * 2 ^ k) s ≡ 0 = rw e (sym (field (n * 2 ^ (k - (1 + s)) * 2 ^ (1 + s)) 1 s) ∙ rw (mul-mod-left (n * 2 ^ (k - (1 + s))) (2 ^ (1 + s))) (zero-div (2 ^ s))) in
-    ap (λ (x : ℕ). eqb x 1) z
-
--- a number at place s: its j lowest bits, and the others at place s + j
-parts : (n s j : ℕ) → n / 2 ^ j * 2 ^ (s + j) + n % 2 ^ j * 2 ^ s ≡ n * 2 ^ s
-parts n s j =
-    rw (pow-add 2 s j, mul-comm (2 ^ s) (2 ^ j), ← mul-assoc (n / 2 ^ j) (2 ^ j) (2 ^ s), ← add-mul (n / 2 ^ j * 2 ^ j) (n % 2 ^ j) (2 ^ s), split n j)
-
-low-lt : (n s j : ℕ) → n % 2 ^ j * 2 ^ s < 2 ^ (s + j)
-low-lt n s j = let e : s + j ≡ j + s = omega arith in rw e (shl-lt j s (mod-lt n (pow-pos j)))
-
--- both are numbers below m, if the whole has no other
-low-in : (m n s j : ℕ) → n * 2 ^ s < 2 ^ m → n % 2 ^ j * 2 ^ s < 2 ^ m
-low-in m n s j l = omega (arith, parts n s j)
-
-high-in : (m n s j : ℕ) → n * 2 ^ s < 2 ^ m → n / 2 ^ j * 2 ^ (s + j) < 2 ^ m
-high-in m n s j l = omega (arith, parts n s j)
-
-members-split : (m n s j : ℕ) → members m (n * 2 ^ s) ≡ members m (n % 2 ^ j * 2 ^ s) ++ members m (n / 2 ^ j * 2 ^ (s + j))
-unfolding join
-members-split m n s j =
-    ap (members m) (sym (or-shifted-r (n / 2 ^ j) (s + j) (n % 2 ^ j * 2 ^ s) (low-lt n s j) ∙ parts n s j))
-    ∙ members-parts (s + j) (n % 2 ^ j * 2 ^ s) (n / 2 ^ j * 2 ^ (s + j)) (low-lt n s j) (holds-below (n / 2 ^ j) (s + j)) m
 
 -- ---- the words of their pairs
 

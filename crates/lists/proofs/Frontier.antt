@@ -9,7 +9,8 @@ use lib.Dec.{eqb}
 use Rattle.sets.specs.Set.{num, join}
 use Rattle.sets.proofs.Laws.{Small}
 use Rattle.sets.proofs.Sets.{join-empty, join-comm, join-assoc}
-use Rattle.sets.proofs.Words.{front-none, front-more, front-all, half-more}
+use Rattle.sets.proofs.Words.{front-none, front-more, front-all}
+use Rattle.sets.proofs.Parts.{half-more}
 use Rattle.lists.specs.Automaton.{step}
 use Rattle.lists.proofs.Steps.{step-join, step-empty}
 

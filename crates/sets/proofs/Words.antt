@@ -85,33 +85,3 @@ pub word-lt : (ws : List ℕ) (i m : ℕ) → Small 64 ws → i < m → getD ws 
 word-lt ws i m h l =
     let p : 2 ^ (64 * suc i) ≤ 2 ^ (64 * m) = pow-mono (omega arith) in
     omega (arith, num-take 64 ws i, num-take-lt 64 ws h (suc i), p)
-
--- ---- a word whose lowest bit is state s: that bit, and the other bits as a word at the next state
-
-low-bit : (b s : ℕ) → b < 2 → cond (eqb b 1) (2 ^ s) 0 ≡ b * 2 ^ s
-low-bit zero s h = sym (zero-mul (2 ^ s))
-low-bit (suc zero) s h = sym (one-mul (2 ^ s))
-low-bit (suc (suc b)) s h = absurd (omega arith)
-
-halves : (n s : ℕ) → n / 2 * 2 ^ (s + 1) + n % 2 * 2 ^ s ≡ n * 2 ^ s
-halves n s =
-    let e : n / 2 * 2 + n % 2 ≡ n = omega arith in
-    rw (add-one s, pow-succ' 2 s, ← mul-assoc (n / 2) 2 (2 ^ s), ← add-mul (n / 2 * 2) (n % 2) (2 ^ s), e)
-
-pub half-more : (n s : ℕ) → join (cond (eqb (n % 2) 1) (2 ^ s) 0) (n / 2 * 2 ^ (s + 1)) ≡ n * 2 ^ s
-unfolding join
-half-more n s =
-    rw (low-bit (n % 2) s (mod-lt n (lit< tt))) (or-shifted-r (n / 2) (s + 1) (n % 2 * 2 ^ s) (low-lt (n % 2) (mod-lt n (lit< tt))) ∙ halves n s)
-  where
-    low-lt : (b : ℕ) → b < 2 → b * 2 ^ s < 2 ^ (s + 1)
-    low-lt zero h = rw (zero-mul (2 ^ s)) (pow-pos (s + 1))
-    low-lt (suc zero) h = rw (one-mul (2 ^ s)) (pow-lt (omega arith))
-    low-lt (suc (suc b)) h = absurd (omega arith)
-
-pub half-lt : (n s m : ℕ) → n * 2 ^ s < 2 ^ m → n / 2 * 2 ^ (s + 1) < 2 ^ m
-half-lt n s m h = omega (arith, halves n s)
-
--- a word that is not 0 stands at a state
-pub at-state : (n s m : ℕ) → n * 2 ^ s < 2 ^ m → (n ≡ 0 → ⊥) → s < m
-at-state zero s m h ne = absurd (ne refl)
-at-state (suc n) s m h ne = lt-of-not-le (λ (l : m ≤ s). omega (arith, h, add-mul n 1 (2 ^ s), one-mul (2 ^ s), pow-mono l))

@@ -6,7 +6,7 @@ use native.Mathlib.Omega.{arith}
 use native.Mathlib.Nat.{one-mul, zero-mul}
 use lib.ListN.{length, length-set}
 use Rattle.sets.specs.Set.{signatures, size}
-use Rattle.sets.proofs.Words.{at-state}
+use Rattle.sets.proofs.Parts.{at-state}
 use Rattle.flows.proofs.Telling.{tells-none, tells-one, one-size}
 use Rattle.flows.proofs.tell_one.Statement.{statement}
 use Rattle.flows.proofs.tell_one.Tie as tie

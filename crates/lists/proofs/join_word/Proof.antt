@@ -4,7 +4,7 @@ use mathlib.Core.Path.{_≡_, refl, sym, ap, _∙_}
 use Prim.Native.Nat.{ℕ, _*_, _<_, _^_}
 use native.Mathlib.Omega.{arith}
 use Rattle.sets.specs.Set.{states, setOf, join}
-use Rattle.sets.proofs.Words.{half-lt, at-state}
+use Rattle.sets.proofs.Parts.{high-in, at-state}
 use Rattle.lists.specs.Automaton.{step}
 use Rattle.lists.proofs.Frontier.{bit-read, nothing-left}
 use Rattle.lists.proofs.join_word.Statement.{statement}
@@ -35,7 +35,7 @@ loop-again : tie.Need-loop-again Inv-loop μ-loop
 loop-again c =
     let a = c .before .before .before .before .args in
     let p = c .before .before .loop in (
-      half-lt (p .rest) (p .s) states (p .inv .0),
+      high-in states (p .rest) (p .s) 1 (p .inv .0),
       rw (c .join-targets .ensures) (bit-read (a .l .now) (a .c) (p .rest) (p .s) (setOf (p .all)) ∙ p .inv .1),
     )
 
