@@ -10,7 +10,7 @@ use borrow.Author.Tests.{eq-eqb}
 use Rattle.sets.specs.Set.{states, setOf}
 use Rattle.lists.specs.Scan.{verdict}
 use Rattle.lists.proofs.Scanning.{and-false}
-use Rattle.flows.specs.Flow.{flowSize, mostOffset, offsetOf, badFlow, flowLayout, feedRules}
+use Rattle.flows.specs.Flow.{flowSize, mostOffset, frontierOf, offsetOf, badFlow, flowLayout, feedRules}
 use Rattle.flows.proofs.Records.{good-flow}
 use Rattle.flows.proofs.Looping.{rows-most, feed-passes, answers-fed, answers-refused}
 use Rattle.plain.specs.Plain.{plain}
@@ -42,6 +42,10 @@ few c =
     let a = s .before .before .before .before .args in
     rows-most (plain (a .l .now)) _ _ (a .piece .now) _ _ _ _ _ _ (c .feed-bytes .ensures .0)
     (λ F. Unit {0}) (λ F b h p. tt) states (λ F p. plain-cheap (a .l .now) F) tt (λ i. s .before .shared-slice-known2 .given i .fits)
+
+-- the loop begins at the frontier that the flow has saved
+began : (c : tie.After-feed-bytes) → setOf (c .before .before .load .result) ≡ frontierOf (passed c .before .before .before .before .before .before .before .args .r .now)
+began c = c .before .before .load .ensures
 
 feed-refusal-requires : tie.Need-feed-refusal-requires
 feed-refusal-requires c κs = search needs
@@ -103,15 +107,14 @@ returns-2 c =
     let ran = save .before .before .before .before .before in
     let a = passed ran .before .before .before .before .before .before .before .args in
     let r = ran .feed-bytes .result in
-    let load = ran .before .before .load .ensures in
     let rows = ran .before .before .before .before .rows-of .ensures in
     let offset = ran .before .before .before .before .before .before .offset-of .ensures in
     let none : _≡_ {A = ℕ} 0 (cond (ltb (r .bytes) (length (a .piece .now)) && false) 14 0) = rw (and-false (ltb (r .bytes) (length (a .piece .now)))) in
     let o =
     answers-fed (plain (a .l .now)) flowLayout (a .r .now) (a .piece .now) (a .out .now) (feedRules (a .l .now) (a .r .now) (a .at) (a .piece .now))
     (record { refusal = 0; bytes = r .bytes; pairs = r .words / 2; all = eqb (r .bytes) (length (a .piece .now)) })
-    (setOf (r .frontier)) _ (r .bytes) (r .words) (r .rows) (rw (load, offset) at (ran .feed-bytes .ensures .0)) (verdict-0 (passed ran))
-    (rw load at (ran .feed-bytes .ensures .1)) none refl refl refl _
+    (setOf (r .frontier)) _ (r .bytes) (r .words) (r .rows) (rw (offset, began ran) at (ran .feed-bytes .ensures .0)) (verdict-0 (passed ran))
+    (rw (began ran) at (ran .feed-bytes .ensures .1)) none refl refl refl _
     (rw (eq-eqb (length (a .r .now)) flowSize (good-flow (a .r .now) (passes (passed ran) .0) .0), offset, rows) at (save .save .ensures)) in
     record { refusal = o .refusal; bytes = o .bytes; pairs = o .pairs; all = o .all; words = o .words; saved = o .saved }
 
