@@ -7,31 +7,25 @@ use mathlib.Core.Logic.{_↔_, _⊎_, inl, inr}
 use native.Mathlib.Omega.{arith}
 use lib.ListN.{length}
 use lib.Dec.{ltb, leb, eqb}
-use borrow.Author.Tests.{eqb-true, ltb-true, leb-true, lt-leb, le-ltb}
-use Rattle.lists.specs.Scan.{some, first}
+use borrow.Author.Tests.{lt-leb, le-ltb}
 use Rattle.lists.specs.Automaton.{step, accepted}
-use Rattle.lists.proofs.Scanning.{first-found}
 use Rattle.tables.specs.Table.{Table, byteValues, partCount, splitCount, part, row, splitSet, slots, usedSlots, takenSlots, allBelow, joined, isSplit}
 use Rattle.tables.proofs.Joined.{step-joined, joined-same}
 use Rattle.tables.proofs.Accepted.{Accepted, Slots-good, slots-said}
 use Rattle.splits.specs.Split.{splitOf, taken, stuck, splitStep}
+use Rattle.splits.proofs.Stepping.{found-split, taken-at}
 
 module _ (L : List ℕ) (b : ℕ) (T : Table) (a : Accepted L b T) (F : ℕ) (s : isSplit (T .splits) F ≡ true) where
   -- the frontier's split is there, and its set is the frontier
   pub found : (splitOf (T .splits) F < splitCount (T .splits)) × (splitSet (T .splits) (splitOf (T .splits) F) ≡ F)
-  unfolding splitOf
-  found =
-      let p : ℕ → Bool = (λ i. eqb (splitSet (T .splits) i) F) in
-      let r = first-found (splitCount (T .splits)) p s in
-      (r .0, eqb-true (splitSet (T .splits) (first (splitCount (T .splits)) p)) F (r .1))
+  found = found-split (T .splits) F s
 
   good : Slots-good (partCount (T .parts)) b (slots (T .splits) (splitOf (T .splits) F))
   good = slots-said (partCount (T .parts)) b (slots (T .splits) (splitOf (T .splits) F)) (a .slots-good (splitOf (T .splits) F) (found .0))
 
   -- the slots taken are the slots in use
   pub taken-used : taken T F ≡ usedSlots (slots (T .splits) (splitOf (T .splits) F))
-  unfolding taken
-  taken-used = good .taken
+  taken-used = sym (taken-at T F (splitOf (T .splits) F) refl) ∙ good .taken
 
   named : allBelow (partCount (T .parts)) (taken T F) ≡ true
   named = rw taken-used (good .named)

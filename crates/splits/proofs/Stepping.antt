@@ -6,11 +6,11 @@ use mathlib.Core.List.{List}
 use native.Mathlib.Numerals.{add-one}
 use lib.ListN.{length}
 use lib.Dec.{ltb, leb, eqb}
-use borrow.Author.Tests.{le-leb, lt-leb}
+use borrow.Author.Tests.{eqb-true, le-leb, lt-leb}
 use Rattle.sets.specs.Set.{setOf}
 use Rattle.lists.specs.Scan.{some, first}
-use Rattle.lists.proofs.Scanning.{neither, first-at, first-none}
-use Rattle.tables.specs.Table.{Table, partCount, splitCount, row, splitSet, slots, takenSlots, allBelow, joined}
+use Rattle.lists.proofs.Scanning.{neither, first-at, first-none, first-found}
+use Rattle.tables.specs.Table.{Table, partCount, splitCount, row, splitSet, slots, takenSlots, allBelow, joined, isSplit}
 use Rattle.splits.specs.Split.{splitOf, taken, stuck, splitStep}
 use Rattle.splits.specs.declared.Taken.{Taken}
 use Rattle.splits.specs.Taken.{TakesSlots, TakesStep}
@@ -40,7 +40,20 @@ module _ (S : List ℕ) (F i : ℕ) (m : Missed S F i) where
   found-none e =
       sym (ap (λ (n : ℕ). first n (λ j. eqb (splitSet S j) F)) (sym e) ∙ first-none i (λ j. eqb (splitSet S j) F) m)
 
+-- where some split has the set F, the search gives one that has it
+pub found-split : (S : List ℕ) (F : ℕ) → isSplit S F ≡ true → (splitOf S F < splitCount S) × (splitSet S (splitOf S F) ≡ F)
+unfolding splitOf
+found-split S F s =
+    let p : ℕ → Bool = (λ i. eqb (splitSet S i) F) in
+    let r = first-found (splitCount S) p s in
+    (r .0, eqb-true (splitSet S (first (splitCount S) p)) F (r .1))
+
 -- ---- the step, where the search gives i
+
+-- the slots taken are those of split i up to the first unused one
+pub taken-at : (T : Table) (F i : ℕ) → i ≡ splitOf (T .splits) F → takenSlots (slots (T .splits) i) ≡ taken T F
+unfolding taken
+taken-at T F i e = ap (λ (n : ℕ). takenSlots (slots (T .splits) n)) e
 
 module _ (b : ℕ) (T : Table) (F c i : ℕ) (e : i ≡ splitOf (T .splits) F) where
   -- no split has the set F
@@ -53,8 +66,7 @@ module _ (b : ℕ) (T : Table) (F c i : ℕ) (e : i ≡ splitOf (T .splits) F) w
   -- the slots of split i are taken; too many of them halt
   module _ (l : i < splitCount (T .splits)) (s : Taken) (g : TakesSlots (partCount (T .parts)) (λ p. row (T .classes) (T .rows) p c) (takenSlots (slots (T .splits) i)) s) where
     these : takenSlots (slots (T .splits) i) ≡ taken T F
-    unfolding taken
-    these = ap (λ (n : ℕ). takenSlots (slots (T .splits) n)) e
+    these = taken-at T F i e
 
     halts-of : (s .halts || ltb b (s .rows)) ≡ stuck b T F
     unfolding stuck

@@ -170,25 +170,30 @@ fn feed_bytes(
         rows: 0,
     };
     for i in 0..piece.len() {
+        let left = (out.len() - ran.words) / 2;
         let f = ran.frontier;
         let t = split_step(classes, parts, rows, splits, k, bound, f, piece[i]);
-        if t.halts {
+        let halts = t.halts;
+        if halts {
             ran.refusal = HALTED;
             return ran;
         }
         let next = t.next;
         let g = lists::accepted(l, next);
         let n = g.count() as usize;
-        if (out.len() - ran.words) / 2 < n {
+        if left < n {
             return ran;
         }
         flows::tell(out, ran.words, g, (offset + i as u64 + 1) as u32);
+        let words = ran.words + 2 * n;
+        let spent = ran.rows + t.rows;
+        let bytes = i + 1;
         ran = Ran {
             refusal: lists::PASSED,
             frontier: next,
-            bytes: i + 1,
-            words: ran.words + 2 * n,
-            rows: ran.rows + t.rows,
+            bytes: bytes,
+            words: words,
+            rows: spent,
         };
     }
     ran

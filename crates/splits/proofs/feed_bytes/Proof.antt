@@ -7,6 +7,7 @@ use native.Mathlib.Omega.{arith}
 use lib.ListN.{length}
 use Rattle.sets.specs.Set.{setOf, sigsOf}
 use Rattle.lists.specs.Automaton.{accepted}
+use Rattle.flows.specs.Flow.{mostOffset}
 use Rattle.flows.proofs.Going.{Going, start, finish, length-kept}
 use Rattle.flows.proofs.Looping.{words-fit, more-by, stop-by}
 use Rattle.tables.specs.Table.{Table}
@@ -57,6 +58,20 @@ few c =
 to-come : (c : tie.In-loop Inv-loop μ-loop) → c .before .loop .i < length (entry (c .before) .args .piece .now)
 to-come c = omega (arith, c .loop-test)
 
+-- in the loop: the way back to its head from the step, and to the step from where the pairs fit or do not
+abbrev inside : tie.After-split-step Inv-loop μ-loop → tie.In-loop Inv-loop μ-loop
+inside c = c .before .before .before .before
+
+abbrev stepped : tie.Else2 Inv-loop μ-loop → tie.After-split-step Inv-loop μ-loop
+stepped c = c .before .before .before .before .before
+
+-- and where they fit, to there from the words written and from the loop's end
+abbrev written : tie.After-slice-known2 Inv-loop μ-loop → tie.Else2 Inv-loop μ-loop
+written c = c .before .before .before .before
+
+abbrev ended : tie.After-struct-known4 Inv-loop μ-loop → tie.Else2 Inv-loop μ-loop
+ended c = written (c .before .before .before)
+
 class-count-requires : tie.Need-class-count-requires Inv-loop μ-loop
 class-count-requires c κs = search needs
 
@@ -66,6 +81,9 @@ loop-holds c =
     let T : Table = record { classes = a .classes .now; parts = a .parts .now; rows = a .rows .now; splits = a .splits .now } in
     (start (split (a .l .now) (a .bound) T) (setOf (a .first)) (a .offset) (a .piece .now) (a .out .now), refl, refl)
 
+sub-left : tie.Need-sub-left Inv-loop μ-loop
+sub-left c = omega (arith, within (c .before .before))
+
 shared-slice-read-split-step : tie.Need-shared-slice-read-split-step Inv-loop μ-loop
 shared-slice-read-split-step c = search needs
 
@@ -73,18 +91,18 @@ split-step-requires : tie.Need-split-step-requires Inv-loop μ-loop
 split-step-requires c κs = search needs
 
 same-length : tie.Need-same-length Inv-loop μ-loop
-same-length c = kept (c .before .before .before .before .before)
+same-length c = kept (inside (c .before) .before)
 
 returns : tie.Need-returns Inv-loop μ-loop
 returns c =
-    let head = c .before .before .before .before .before in
+    let head = c .before .before .before .before .before .before in
     let a = entry head .args in
     let l = head .loop in
     let b = l .inv .1 in
     let h : stuck (a .bound) (table head) (setOf (l .ran .frontier)) ≡ true = sym (c .before .split-step .ensures .halts) ∙ c .if1 .taken in (
       rw (sym b) at (l .inv .0),
       (
-        stop-halted (a .l .now) (a .bound) (table head) (setOf (a .first)) (a .offset) (a .piece .now) (a .out .now) (setOf (l .ran .frontier)) (l .out) (l .i) (l .ran .words) (l .ran .rows) (l .inv .0) (to-come (c .before .before .before .before)) h ∙ sym b,
+        stop-halted (a .l .now) (a .bound) (table head) (setOf (a .first)) (a .offset) (a .piece .now) (a .out .now) (setOf (l .ran .frontier)) (l .out) (l .i) (l .ran .words) (l .ran .rows) (l .inv .0) (to-come (inside (c .before))) h ∙ sym b,
         refused-halted (l .ran .bytes) (length (a .piece .now)) _ (omega arith) h,
       ),
     )
@@ -98,28 +116,25 @@ count-requires c κs = search needs
 cast-n : tie.Need-cast-n Inv-loop μ-loop
 cast-n c = search needs
 
-sub-if2 : tie.Need-sub-if2 Inv-loop μ-loop
-sub-if2 c = omega (arith, within (c .before .before .before .before .before .before .before .before .before))
-
 same-length-2 : tie.Need-same-length-2 Inv-loop μ-loop
-same-length-2 c = kept (c .before .before .before .before .before .before .before .before .before .before)
+same-length-2 c = kept (inside (c .before .before .before .before .before) .before)
 
 returns-2 : tie.Need-returns-2 Inv-loop μ-loop
 returns-2 c =
-    let count = c .before .before in
+    let count = c .before in
     let told = count .before in
     let free = told .before .before in
-    let stepped = free .before in
-    let head = stepped .before .before .before .before in
+    let step = free .before in
+    let head = step .before .before .before .before .before in
     let a = entry head .args in
     let l = head .loop in
     let b = l .inv .1 in (
       rw (sym b) at (l .inv .0),
       (
         stop-by (split (a .l .now) (a .bound) (table head)) (setOf (a .first)) (a .offset) (a .piece .now) (a .out .now) (setOf (l .ran .frontier)) (l .out) (l .i) (l .ran .words) (l .ran .rows) (l .inv .0)
-            (sigsOf (told .accepted .result)) (count .count .result) (to-come (stepped .before .before .before))
-            (told .accepted .ensures ∙ ap (accepted (a .l .now)) (stepped .split-step .ensures .next (free .if1 .left))) (count .count .ensures) (c .if2 .taken) ∙ sym b,
-        l .inv .2 ∙ refused-free (l .ran .bytes) (length (a .piece .now)) _ (sym (stepped .split-step .ensures .halts) ∙ free .if1 .left),
+            (sigsOf (told .accepted .result)) (count .count .result) (to-come (inside step))
+            (told .accepted .ensures ∙ ap (accepted (a .l .now)) (step .split-step .ensures .next (free .if1 .left))) (count .count .ensures) (c .if2 .taken) ∙ sym b,
+        l .inv .2 ∙ refused-free (l .ran .bytes) (length (a .piece .now)) _ (sym (step .split-step .ensures .halts) ∙ free .if1 .left),
       ),
     )
 
@@ -136,50 +151,53 @@ tell-requires : tie.Need-tell-requires Inv-loop μ-loop
 tell-requires c κs = search needs
 
 -- the words of its pairs fit
-roomy : (c : tie.Else2 Inv-loop μ-loop) → c .before .before .before .before .before .before .before .before .before .before .loop .ran .words + 2 * c .before .before .count .result ≤ length (c .before .before .before .before .before .before .before .before .before .before .before .before .before .before .before .before .before .before .before .args .out .now)
-roomy c = omega (arith, c .if2 .left, within (c .before .before .before .before .before .before .before .before .before .before), kept (c .before .before .before .before .before .before .before .before .before .before))
+roomy : (c : tie.Else2 Inv-loop μ-loop) → inside (stepped c) .before .loop .ran .words + 2 * c .before .count .result ≤ length (entry (inside (stepped c) .before) .args .out .now)
+roomy c = omega (arith, c .if2 .left, within (inside (stepped c) .before), kept (inside (stepped c) .before))
 
-add-t24 : tie.Need-add-t24 Inv-loop μ-loop
-add-t24 c = omega (arith, to-come (c .before .before .before .before .before .before .before .before .before .before .before .before .before), c .before .before .before .before .before .before .before .before .before .before .before .before .before .before .before .before .before .before .before .before .before .before .before .pre)
+-- the offset stays among the largest, for a byte is still to come
+offset-fits : (c : tie.In-loop Inv-loop μ-loop) → entry (c .before) .args .offset + c .before .loop .i + 1 ≤ mostOffset
+offset-fits c = omega (arith, to-come c, entry (c .before) .pre .0)
 
-mul-t25 : tie.Need-mul-t25 Inv-loop μ-loop
-mul-t25 c = search needs
+mul-words : tie.Need-mul-words Inv-loop μ-loop
+mul-words c = search needs
 
-add-t26 : tie.Need-add-t26 Inv-loop μ-loop
-add-t26 c = omega (arith, roomy (c .before .before .before .before .before), c .before .before .before .before .before .before .before .before .before .before .before .before .before .before .before .before .before .before .before .before .before .before .before .before)
+add-words : tie.Need-add-words Inv-loop μ-loop
+add-words c = omega (arith, roomy (written (c .before)), entry (inside (stepped (written (c .before))) .before))
 
 -- rows read for a byte
 cost : (c : tie.Else1 Inv-loop μ-loop) → c .before .split-step .result .rows ≤ 4
 cost c =
-    let head = c .before .before .before .before .before in
+    let head = inside (c .before) .before in
     omega (arith, c .before .split-step .ensures .rows (c .if1 .left), split-cheap (table head) (setOf (head .loop .ran .frontier)))
 
-add-t32 : tie.Need-add-t32 Inv-loop μ-loop
-add-t32 c = omega (arith, few (c .before .before .before .before .before .before .before .before .before .before .before .before .before .before .before .before .before), cost (c .before .before .before .before .before .before .before .before .before .before .before .before), to-come (c .before .before .before .before .before .before .before .before .before .before .before .before .before .before .before .before), c .before .before .before .before .before .before .before .before .before .before .before .before .before .before .before .before .before .before .before .before .before .before .before .before .before .before .pre)
+add-spent : tie.Need-add-spent Inv-loop μ-loop
+add-spent c = omega (arith, few (inside (stepped (ended c)) .before), cost (ended c .before .before .before .before), offset-fits (inside (stepped (ended c))))
+
+add-bytes : tie.Need-add-bytes Inv-loop μ-loop
+add-bytes c = omega (arith, offset-fits (inside (stepped (ended c))))
 
 add-i : tie.Need-add-i Inv-loop μ-loop
-add-i c = omega (arith, to-come (c .before .before .before .before .before .before .before .before .before .before .before .before .before .before .before .before), c .before .before .before .before .before .before .before .before .before .before .before .before .before .before .before .before .before .before .before .before .before .before .before .before .before .before .pre)
+add-i c = omega (arith, offset-fits (inside (stepped (ended c))))
 
 loop-less : tie.Need-loop-less Inv-loop μ-loop
 loop-less c = search needs
 
 loop-again : tie.Need-loop-again Inv-loop μ-loop
 loop-again c =
-    let wrote = c .before .before .before .before .before in
-    let fits = wrote .before .before in
-    let count = fits .before .before in
+    let fits = ended c in
+    let count = fits .before in
     let told = count .before in
     let free = told .before .before in
-    let stepped = free .before in
-    let head = stepped .before .before .before .before in
+    let step = free .before in
+    let head = inside step .before in
     let a = entry head .args in
     let l = head .loop in
-    let s = stepped .split-step .ensures in
+    let s = step .split-step .ensures in
     let h = free .if1 .left in (
       more-by (split (a .l .now) (a .bound) (table head)) (setOf (a .first)) (a .offset) (a .piece .now) (a .out .now) (setOf (l .ran .frontier)) (l .out) (l .i) (l .ran .words) (l .ran .rows) (l .inv .0)
-          (sigsOf (told .accepted .result)) (count .count .result) (to-come (stepped .before .before .before))
+          (sigsOf (told .accepted .result)) (count .count .result) (to-come (inside step))
           (told .accepted .ensures ∙ ap (accepted (a .l .now)) (s .next h)) (count .count .ensures) (sym (s .halts) ∙ h) (omega (arith, fits .if2 .left))
-          (setOf (stepped .split-step .result .next)) (s .next h) _ (wrote .tell .ensures) (stepped .split-step .result .rows) (s .rows h),
+          (setOf (step .split-step .result .next)) (s .next h) _ (c .before .before .before .before .before .tell .ensures) (step .split-step .result .rows) (s .rows h),
       refl,
       refl,
     )
@@ -209,6 +227,7 @@ feed-bytes-spec =
     μ-loop
     class-count-requires
     loop-holds
+    sub-left
     shared-slice-read-split-step
     split-step-requires
     same-length
@@ -216,17 +235,16 @@ feed-bytes-spec =
     accepted-requires
     count-requires
     cast-n
-    sub-if2
     same-length-2
     returns-2
     add-tell
     add-tell-2
     cast-tell
     tell-requires
-    add-t24
-    mul-t25
-    add-t26
-    add-t32
+    mul-words
+    add-words
+    add-spent
+    add-bytes
     add-i
     loop-less
     loop-again
