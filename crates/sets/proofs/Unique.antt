@@ -19,6 +19,7 @@ module _ (r q : Bool) where
   pub unique-same : (x y : StateSet) → r ≡ eqb (setOf x) (setOf y) → q ≡ eqb (setOf x) (setOf y) → r ≡ q
   unique-same x y e f = e ∙ sym f
 
+  -- of `same_at`, and of `same_whole`
   pub unique-same-at : (x : StateSet) (b : List ℕ) (at : ℕ) → r ≡ eqb (setAt b at) (setOf x) → q ≡ eqb (setAt b at) (setOf x) → r ≡ q
   unique-same-at x b at e f = e ∙ sym f
 
@@ -57,6 +58,7 @@ module _ (r q : StateSet) (vr : Words setWords (r .words)) (vq : Words setWords 
   pub unique-from-bytes : (b : List ℕ) → setOf r ≡ setAt b 0 → setOf q ≡ setAt b 0 → r ≡ q
   unique-from-bytes b e f = set-one r q vr vq (e ∙ sym f)
 
+  -- of `load`, and of `whole`
   pub unique-load : (b : List ℕ) (at : ℕ) → setOf r ≡ setAt b at → setOf q ≡ setAt b at → r ≡ q
   unique-load b at e f = set-one r q vr vq (e ∙ sym f)
 

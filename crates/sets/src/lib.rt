@@ -151,7 +151,7 @@ impl StateSet {
     }
 
     // Says whether it is the set that stands at a place of a list of bytes, where its bytes are all there.
-    fn same_whole(self, b: &[u8], at: usize) -> bool
+    pub fn same_whole(self, b: &[u8], at: usize) -> bool
         requires { ⌜ at + setSize ≤ length (now b) ⌝ }
         ensures { λ r. ⌜ r ≡ eqb (setAt (now (b .entry)) at) (setOf self) ⌝ }
     {
@@ -176,14 +176,14 @@ impl StateSet {
         StateSet::load(b, at).same(self)
     }
 
-    // The set that a list of bytes begins with, where its bytes are all there.
-    fn whole(b: &[u8]) -> StateSet
-        requires { ⌜ setSize ≤ length (now b) ⌝ }
-        ensures { λ r. ⌜ setOf r ≡ setAt (now (b .entry)) 0 ⌝ }
+    // The set that stands at a place of a list of bytes, where its bytes are all there.
+    pub fn whole(b: &[u8], at: usize) -> StateSet
+        requires { ⌜ at + setSize ≤ length (now b) ⌝ }
+        ensures { λ r. ⌜ setOf r ≡ setAt (now (b .entry)) at ⌝ }
     {
         let mut w = [0u64; WORDS];
         for i in 0..WORDS {
-            w[i] = whole_word(b, 8 * i);
+            w[i] = whole_word(b, at + 8 * i);
         }
         StateSet { words: w }
     }
@@ -205,7 +205,7 @@ impl StateSet {
         ensures { λ r. ⌜ setOf r ≡ setAt (now (b .entry)) 0 ⌝ }
     {
         if BYTES <= b.len() {
-            StateSet::whole(b)
+            StateSet::whole(b, 0)
         } else {
             StateSet::cut(b)
         }

@@ -8,6 +8,7 @@ use native.Mathlib.Omega.{arith}
 use lib.ListN.{length}
 use lib.Dec.{ltb}
 use borrow.Author.Tests.{lt-ltb, le-ltb}
+use Rattle.sets.specs.Set.{setSize}
 use Rattle.lists.specs.Scan.{verdict}
 use Rattle.lists.proofs.Scanning.{and-false}
 use Rattle.lists.proofs.Rules.{verdict-then, passes-front}
@@ -16,18 +17,18 @@ use Rattle.flows.specs.Flow.{mostOffset, offsetOf, badFlow, feedRules}
 use Rattle.flows.specs.Calls.{Bytes}
 use Rattle.flows.proofs.Going.{Going, stop}
 use Rattle.flows.proofs.Looping.{rows-most, feed-passes}
-use Rattle.tables.specs.Table.{Table, mostParts, partCount, sizeRules}
-use Rattle.tables.proofs.Ordered.{few-parts}
+use Rattle.tables.specs.Table.{Table, classCount, partCount, sizeRules}
+use Rattle.tables.proofs.Ordered.{rows-there}
 use Rattle.splits.specs.Split.{stuck, split, splitRules}
 use Rattle.splits.proofs.Stepping.{split-cheap}
 
 -- what a feed knows that no rule refuses
 pub split-passes : (L : List ℕ) (b : ℕ) (T : Table) (R : List ℕ) (at : ℕ) (piece : List ℕ) → verdict (splitRules L b T R at piece) ≡ 0
-    → (badFlow R ≡ false) × (offsetOf R + length piece ≤ mostOffset) × (partCount (T .parts) ≤ mostParts)
+    → (badFlow R ≡ false) × (offsetOf R + length piece ≤ mostOffset) × (setSize * (partCount (T .parts) * classCount (T .classes)) ≤ length (T .rows))
 split-passes L b T R at piece v =
     let f = passes-front (feedRules L R at piece) (sizeRules b T) v in
     let p = feed-passes L R at piece f in
-    (p .0, p .2, few-parts b T (sym (verdict-then (feedRules L R at piece) (sizeRules b T) refl f) ∙ v))
+    (p .0, p .2, omega (arith, rows-there b T (sym (verdict-then (feedRules L R at piece) (sizeRules b T) refl f) ∙ v)))
 
 -- ---- the loop
 

@@ -3,16 +3,16 @@ use flows::Fed;
 use sets::StateSet;
 ghost use mathlib.Core.Path.{_≡_};
 ghost use mathlib.Core.Bool.{_&&_, cond};
-ghost use Prim.Native.Nat.{_+_, _≤_};
+ghost use Prim.Native.Nat.{_+_, _*_, _≤_, _<_};
 ghost use lib.ListN.{length};
 ghost use lib.Dec.{ltb};
-ghost use Rattle.sets.specs.Set.{setOf};
+ghost use Rattle.sets.specs.Set.{setSize, setOf};
 ghost use Rattle.lists.specs.Scan.{verdict};
 ghost use Rattle.flows.specs.Engine.{room, consumed};
 ghost use Rattle.flows.specs.Flow.{mostOffset};
 ghost use Rattle.flows.specs.Fed.{Answers};
 ghost use Rattle.flows.proofs.Going.{Going};
-ghost use Rattle.tables.specs.Table.{mostParts, classCount, partCount, row, slots, takenSlots};
+ghost use Rattle.tables.specs.Table.{classCount, partCount, splitCount, rowAt, slots, takenSlots};
 ghost use Rattle.splits.specs.Split.{splitOf, stuck, split, splitRules, splitFeed};
 ghost use Rattle.splits.specs.Taken.{TakesSlots, TakesStep};
 
@@ -41,29 +41,21 @@ fn find(splits: &[u8], f: StateSet) -> usize
 {
     let n = tables::split_count(splits);
     for i in 0..n {
-        if f.same_at(splits, tables::SPLIT_SIZE * i) {
+        if f.same_whole(splits, tables::SPLIT_SIZE * i) {
             return i;
         }
     }
     n
 }
 
-// Takes the slots of split i up to the first unused one, where there are n parts and k classes: the rows that byte c selects.
-fn take_slots(
-    classes: &[u8],
-    rows: &[u8],
-    splits: &[u8],
-    k: usize,
-    n: usize,
-    i: usize,
-    c: u8,
-) -> Taken
-    requires { ⌜ (k ≡ classCount (now classes)) × (n ≤ mostParts) ⌝ }
-    ensures { λ t. ⌜ TakesSlots n (λ p. row (now (classes .entry)) (now (rows .entry)) p c) (takenSlots (slots (now (splits .entry)) i)) t ⌝ }
+// Takes the slots of split i up to the first unused one, where there are n parts and k classes: the rows of class q.
+fn take_slots(rows: &[u8], splits: &[u8], k: usize, n: usize, i: usize, q: usize) -> Taken
+    requires { ⌜ (setSize * (n * k) ≤ length (now rows)) × (q < k) × (i < splitCount (now splits)) ⌝ }
+    ensures { λ t. ⌜ TakesSlots n (λ p. rowAt (now (rows .entry)) k p q) (takenSlots (slots (now (splits .entry)) i)) t ⌝ }
 {
     let mut all = StateSet::EMPTY;
     for j in 0..tables::SLOTS {
-        let x = tables::slot(splits, i, j);
+        let x = tables::whole_slot(splits, i, j);
         if x == tables::UNUSED {
             return Taken {
                 halts: false,
@@ -78,7 +70,7 @@ fn take_slots(
                 next: all,
             };
         }
-        all = all.union(tables::row_set(classes, rows, k, x, c));
+        all = all.union(tables::whole_row(rows, k, x, q));
     }
     Taken {
         halts: false,
@@ -98,7 +90,7 @@ fn split_step(
     f: StateSet,
     c: u8,
 ) -> Taken
-    requires { ⌜ (k ≡ classCount (now classes)) × (partCount (now parts) ≤ mostParts) ⌝ }
+    requires { ⌜ (k ≡ classCount (now classes)) × (setSize * (partCount (now parts) * classCount (now classes)) ≤ length (now rows)) ⌝ }
     ensures { λ t. ⌜ TakesStep bound (record { classes = now (classes .entry); parts = now (parts .entry); rows = now (rows .entry); splits = now (splits .entry) }) (setOf f) c t ⌝ }
 {
     let i = find(splits, f);
@@ -109,7 +101,9 @@ fn split_step(
             next: f,
         };
     }
-    let t = take_slots(classes, rows, splits, k, tables::part_count(parts), i, c);
+    let n = tables::part_count(parts);
+    let q = lists::byte_at(classes, c as usize) as usize;
+    let t = take_slots(rows, splits, k, n, i, q);
     let next = t.next;
     Taken {
         halts: t.halts | (bound < t.rows),
@@ -156,7 +150,7 @@ fn feed_bytes(
     piece: &[u8],
     out: &mut [u32],
 ) -> Ran
-    requires { ⌜ (offset + length (now piece) ≤ mostOffset) × (partCount (now parts) ≤ mostParts) ⌝ }
+    requires { ⌜ (offset + length (now piece) ≤ mostOffset) × (setSize * (partCount (now parts) * classCount (now classes)) ≤ length (now rows)) ⌝ }
     ensures going { λ res. ⌜ Going (split (now (l .entry)) bound (record { classes = now (classes .entry); parts = now (parts .entry); rows = now (rows .entry); splits = now (splits .entry) })) (setOf first) offset (now (piece .entry)) (now (out .entry)) (setOf (res .frontier)) (now (out .exit)) (res .bytes) (res .words) (res .rows) ⌝ }
     ensures longest { λ res. ⌜ consumed (split (now (l .entry)) bound (record { classes = now (classes .entry); parts = now (parts .entry); rows = now (rows .entry); splits = now (splits .entry) })) (setOf first) (room (now (out .entry))) (now (piece .entry)) ≡ res .bytes ⌝ }
     ensures refused { λ res. ⌜ res .refusal ≡ cond (ltb (res .bytes) (length (now (piece .entry))) && stuck bound (record { classes = now (classes .entry); parts = now (parts .entry); rows = now (rows .entry); splits = now (splits .entry) }) (setOf (res .frontier))) 14 0 ⌝ }

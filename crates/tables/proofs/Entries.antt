@@ -4,7 +4,7 @@ use mathlib.Core.Path.{_≡_, refl, sym, ap, _∙_}
 use mathlib.Core.List.{List, [], _∷_}
 use native.Mathlib.Omega.{arith}
 use native.Mathlib.Numerals.{add-one}
-use native.Mathlib.Nat.{mul-le-mul}
+use native.Mathlib.Nat.{mul-le-mul, mul-le-mul-right, suc-mul}
 use lib.ListN.{length, getD, take, drop, length-take, length-drop, List·getD-eq-default, drop-of-length-le}
 use lib.Seq.{drop-cons, getD-drop}
 use Rattle.sets.specs.Set.{setSize, num, digits, setBytes, bytesAt, setAt, before}
@@ -80,6 +80,10 @@ classes-fit C s = omega (arith, largest-lt 256 C (omega arith) s)
 
 pub rows-fit : (n k : ℕ) → n ≤ mostParts → k ≤ 2 ^ 8 → n * k ≤ mostParts * 2 ^ 8
 rows-fit n k h l = mul-le-mul {n₁ = n} {m₁ = k} {n₂ = mostParts} {m₂ = 2 ^ 8} h l
+
+-- of n parts and k classes, each part and class has its row
+pub row-inside : (n k p q : ℕ) → p < n → q < k → p * k + q < n * k
+row-inside n k p q h l = omega (arith, mul-le-mul-right {m = suc p} {n = n} k h, suc-mul p k)
 
 -- ---- the bytes of a set that stands in a list of bytes
 

@@ -6,14 +6,14 @@ use mathlib.Core.List.{List, [], _∷_}
 use native.Mathlib.Omega.{arith}
 use lib.ListN.{length}
 use lib.Dec.{ltb, eqb}
-use borrow.Author.Tests.{eqb-true, ltb-false}
+use borrow.Author.Tests.{eqb-true, ltb-false, not-false}
 use Rattle.sets.specs.Set.{setSize}
 use Rattle.lists.specs.Scan.{every, verdict}
 use Rattle.lists.specs.List.{listRules, listRefusal}
 use Rattle.lists.specs.Automaton.{start, step}
 use Rattle.lists.proofs.Scanning.{both, neither, every-at, every-all, every-same}
 use Rattle.lists.proofs.Rules.{passes, skip, stop, last, verdict-first, verdict-then}
-use Rattle.tables.specs.Table.{Table, byteValues, mostParts, partCount, splitCount, part, row, splitSet, slots, usedSlots, allBelow, joined, isSplit, badClasses, badCount, badRowsLength, badLengths, goodSlots, inOrder, badSplits, badRows, badUnion, noStartSplit, notClosed, sizeRules, tableRefusal, splitSize, mostSplits}
+use Rattle.tables.specs.Table.{Table, byteValues, mostParts, classCount, partCount, splitCount, part, row, splitSet, slots, usedSlots, allBelow, joined, isSplit, badClasses, badCount, badRowsLength, badLengths, goodSlots, inOrder, badSplits, badRows, badUnion, noStartSplit, notClosed, sizeRules, tableRefusal, splitSize, mostSplits}
 use Rattle.tables.proofs.Joined.{step-joined, joined-same}
 use Rattle.tables.proofs.Accepted.{slots-said}
 use Rattle.tables.proofs.Slots.{below-wider}
@@ -106,6 +106,14 @@ few-parts b T z =
     let q = neither (badClasses (T .classes) || badCount setSize mostParts (T .parts)) (badCount splitSize mostSplits (T .splits)) (r .0) in
     let l = count-fits setSize mostParts (T .parts) (neither (badClasses (T .classes)) (badCount setSize mostParts (T .parts)) (q .0) .1) in
     omega arith
+
+-- each part and class has its row
+pub rows-there : (b : ℕ) (T : Table) → verdict (sizeRules b T) ≡ 0 → length (T .rows) ≡ setSize * (partCount (T .parts) * classCount (T .classes))
+unfolding badLengths badRowsLength
+rows-there b T z =
+    let e = passes 7 _ _ (passes 6 _ _ z .1) .0 in
+    let r = neither (badClasses (T .classes) || badCount setSize mostParts (T .parts) || badCount splitSize mostSplits (T .splits)) (badRowsLength T) e in
+    eqb-true (length (T .rows)) (setSize * (partCount (T .parts) * classCount (T .classes))) (not-false (eqb (length (T .rows)) (setSize * (partCount (T .parts) * classCount (T .classes)))) (r .1))
 
 module _ (b : ℕ) (T : Table) (e9 : goodSplits b T ≡ true) where
   at : (i : ℕ) → i < splitCount (T .splits) → (goodSlots (partCount (T .parts)) b (slots (T .splits) i) ≡ true) × (inOrder (T .splits) i ≡ true)

@@ -8,7 +8,7 @@ use Rattle.sets.specs.declared.StateSet.{StateSet}
 use Rattle.sets.specs.Set.{setWords, setOf}
 use Rattle.sets.proofs.Sets.{Words, set-one}
 use Rattle.lists.specs.Scan.{verdict}
-use Rattle.tables.specs.Table.{Table, classCount, partCount, splitCount, part, row, splitSet, slots, isSplit, sizeRules, tableRefusal}
+use Rattle.tables.specs.Table.{Table, classCount, partCount, splitCount, part, rowAt, row, splitSet, slots, isSplit, sizeRules, tableRefusal}
 
 -- ---- numbers and answers
 
@@ -28,6 +28,7 @@ module _ (x y : ℕ) where
   pub unique-split-count : (S : List ℕ) → x ≡ splitCount S → y ≡ splitCount S → x ≡ y
   unique-split-count S p q = p ∙ sym q
 
+  -- of `slot`, and of `whole_slot`
   pub unique-slot : (S : List ℕ) (i j : ℕ) → x ≡ getD (slots S i) j 0 → y ≡ getD (slots S i) j 0 → x ≡ y
   unique-slot S i j p q = p ∙ sym q
 
@@ -39,6 +40,9 @@ module _ (x y : StateSet) (vx : Words setWords (x .words)) (vy : Words setWords 
 
   pub unique-split-set : (S : List ℕ) (i : ℕ) → setOf x ≡ splitSet S i → setOf y ≡ splitSet S i → x ≡ y
   unique-split-set S i p q = set-one x y vx vy (p ∙ sym q)
+
+  pub unique-whole-row : (W : List ℕ) (k i c : ℕ) → setOf x ≡ rowAt W k i c → setOf y ≡ rowAt W k i c → x ≡ y
+  unique-whole-row W k i c p q = set-one x y vx vy (p ∙ sym q)
 
   pub unique-row-set : (C W : List ℕ) (i c : ℕ) → setOf x ≡ row C W i c → setOf y ≡ row C W i c → x ≡ y
   unique-row-set C W i c p q = set-one x y vx vy (p ∙ sym q)

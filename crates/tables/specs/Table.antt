@@ -55,9 +55,13 @@ splitCount S = length S / splitSize
 unfoldable pub part : List ℕ → ℕ → ℕ
 part P p = setAt P (setSize * p)
 
--- the row of part p that byte c selects by its class: at p × K + class
+-- the row of part p and class q where there are k classes: at p × k + q
+abbrev pub rowAt : List ℕ → ℕ → ℕ → ℕ → ℕ
+rowAt W k p q = setAt W (setSize * (p * k + q))
+
+-- the row of part p that byte c selects by its class
 unfoldable pub row : List ℕ → List ℕ → ℕ → ℕ → ℕ
-row C W p c = setAt W (setSize * (p * classCount C + getD C c 0))
+row C W p c = rowAt W (classCount C) p (getD C c 0)
 
 -- the set of split i, and its four slots
 unfoldable pub splitSet : List ℕ → ℕ → ℕ

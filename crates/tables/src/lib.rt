@@ -2,14 +2,14 @@
 use sets::StateSet;
 ghost use mathlib.Core.Path.{_≡_};
 ghost use mathlib.Core.Bool.{true, false, _&&_, cond};
-ghost use Prim.Native.Nat.{_*_, _^_, _<_, _≤_, max};
-ghost use lib.ListN.{getD};
+ghost use Prim.Native.Nat.{_+_, _*_, _^_, _<_, _≤_, max};
+ghost use lib.ListN.{length, getD};
 ghost use lib.Dec.{eqb};
-ghost use Rattle.sets.specs.Set.{setOf, join};
+ghost use Rattle.sets.specs.Set.{setSize, setOf, join};
 ghost use Rattle.lists.specs.Scan.{every, verdict};
 ghost use Rattle.lists.specs.List.{listRefusal};
 ghost use Rattle.lists.specs.Automaton.{step};
-ghost use Rattle.tables.specs.Table.{byteValues, mostParts, largest, classCount, partCount, splitCount, part, row, splitSet, slots, unusedSlot, usedSlots, allBelow, joined, isSplit, badClasses, badCount, badRowsLength, badLengths, goodSlots, inOrder, sizeRules, tableRefusal};
+ghost use Rattle.tables.specs.Table.{byteValues, mostParts, largest, classCount, partCount, splitCount, part, rowAt, row, splitSet, slots, unusedSlot, usedSlots, allBelow, joined, isSplit, badClasses, badCount, badRowsLength, badLengths, goodSlots, inOrder, sizeRules, tableRefusal};
 
 // Bytes that a piece may have; each has a class.
 pub const BYTE_VALUES: usize = 256;
@@ -105,6 +105,23 @@ pub fn slot(splits: &[u8], i: usize, j: usize) -> usize
         return 0;
     }
     lists::word_at(splits, SPLIT_SIZE * i + sets::BYTES + 2 * j)
+}
+
+// Slot j of split i, where that split is there.
+pub fn whole_slot(splits: &[u8], i: usize, j: usize) -> usize
+    requires { ⌜ (i < splitCount (now splits)) × (j < 4) ⌝ }
+    ensures { λ r. ⌜ r ≡ getD (slots (now (splits .entry)) i) j 0 ⌝ }
+{
+    let at = SPLIT_SIZE * i + sets::BYTES + 2 * j;
+    splits[at] as usize + 256 * (splits[at + 1] as usize)
+}
+
+// The row of part p and class q, where there are k classes and that row is there.
+pub fn whole_row(rows: &[u8], k: usize, p: usize, q: usize) -> StateSet
+    requires { ⌜ setSize * (p * k + q) + setSize ≤ length (now rows) ⌝ }
+    ensures { λ r. ⌜ setOf r ≡ rowAt (now (rows .entry)) k p q ⌝ }
+{
+    StateSet::whole(rows, sets::BYTES * (p * k + q))
 }
 
 // The row of part p, below the most parts, that byte c selects, where the bytes have k classes.

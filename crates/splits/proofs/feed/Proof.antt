@@ -6,12 +6,12 @@ use mathlib.Core.Bool.{false}
 use Prim.Native.Nat.{_+_, _*_, _≤_}
 use native.Mathlib.Omega.{arith}
 use lib.ListN.{length}
-use Rattle.sets.specs.Set.{setOf}
+use Rattle.sets.specs.Set.{setSize, setOf}
 use Rattle.lists.specs.Scan.{verdict}
 use Rattle.flows.specs.Flow.{flowSize, mostOffset, offsetOf, badFlow, flowLayout}
 use Rattle.flows.proofs.Records.{good-flow}
 use Rattle.flows.proofs.Looping.{answers-fed, answers-refused}
-use Rattle.tables.specs.Table.{Table, mostParts, partCount}
+use Rattle.tables.specs.Table.{Table, classCount, partCount}
 use Rattle.splits.specs.Split.{split, splitRules}
 use Rattle.splits.proofs.Feeding.{split-passes, rows-few}
 use Rattle.splits.proofs.feed.Statement.{statement}
@@ -30,7 +30,7 @@ table c =
 abbrev passed : tie.After-feed-bytes → tie.Else1
 passed c = c .before .before .before .before .before .before .before .before
 
--- there no rule refuses, so the flow is good, the piece ends at an offset, and the parts are not too many
+-- there no rule refuses, so the flow is good, the piece ends at an offset, and each part and class has its row
 verdict-0 : (c : tie.Else1)
     → verdict (splitRules (entry (c .before) .args .l .now) (entry (c .before) .args .bound) (table (c .before)) (entry (c .before) .args .r .now) (entry (c .before) .args .at) (entry (c .before) .args .piece .now)) ≡ 0
 verdict-0 c = sym (c .before .feed-refusal .ensures) ∙ c .if1 .left
@@ -38,7 +38,7 @@ verdict-0 c = sym (c .before .feed-refusal .ensures) ∙ c .if1 .left
 passes : (c : tie.Else1)
     → (badFlow (entry (c .before) .args .r .now) ≡ false)
     × (offsetOf (entry (c .before) .args .r .now) + length (entry (c .before) .args .piece .now) ≤ mostOffset)
-    × (partCount (entry (c .before) .args .parts .now) ≤ mostParts)
+    × (setSize * (partCount (entry (c .before) .args .parts .now) * classCount (entry (c .before) .args .classes .now)) ≤ length (entry (c .before) .args .rows .now))
 passes c =
     let a = entry (c .before) .args in
     split-passes (a .l .now) (a .bound) (table (c .before)) (a .r .now) (a .at) (a .piece .now) (verdict-0 c)

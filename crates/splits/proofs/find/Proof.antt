@@ -17,9 +17,9 @@ abbrev μ-loop : tie.MeasureT-loop
 μ-loop splits f n i₀ i = splitCount splits - i
 
 -- the test at a split is that of its set
-tested : (c : tie.After-same-at Inv-loop μ-loop) → eqb (splitSet (c .before .before .before .before .before .args .splits .now) (c .before .before .loop .i)) (setOf (c .before .before .before .before .before .args .f)) ≡ c .same-at .result
+tested : (c : tie.After-same-whole Inv-loop μ-loop) → eqb (splitSet (c .before .before .before .before .before .args .splits .now) (c .before .before .loop .i)) (setOf (c .before .before .before .before .before .args .f)) ≡ c .same-whole .result
 unfolding splitSet
-tested c = sym (c .same-at .ensures)
+tested c = sym (c .same-whole .ensures)
 
 split-count-requires : tie.Need-split-count-requires Inv-loop μ-loop
 split-count-requires c κs = search needs
@@ -27,11 +27,11 @@ split-count-requires c κs = search needs
 loop-holds : tie.Need-loop-holds Inv-loop μ-loop
 loop-holds c = (search needs, missed-none (c .before .before .args .splits .now) (setOf (c .before .before .args .f)))
 
-mul-same-at : tie.Need-mul-same-at Inv-loop μ-loop
-mul-same-at c = search needs
+mul-same-whole : tie.Need-mul-same-whole Inv-loop μ-loop
+mul-same-whole c = search needs
 
-same-at-requires : tie.Need-same-at-requires Inv-loop μ-loop
-same-at-requires c κs = search needs
+same-whole-requires : tie.Need-same-whole-requires Inv-loop μ-loop
+same-whole-requires c κs = search needs
 
 returns : tie.Need-returns Inv-loop μ-loop
 returns c =
@@ -66,8 +66,8 @@ find-spec =
     μ-loop
     split-count-requires
     loop-holds
-    mul-same-at
-    same-at-requires
+    mul-same-whole
+    same-whole-requires
     returns
     add-i
     loop-less

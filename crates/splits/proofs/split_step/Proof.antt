@@ -3,7 +3,8 @@ use borrow.Author.Needs.{needs}
 use mathlib.Core.Path.{refl}
 use native.Mathlib.Omega.{arith}
 use Rattle.sets.specs.Set.{setOf}
-use Rattle.tables.specs.Table.{Table}
+use Rattle.tables.specs.Table.{Table, row}
+use Rattle.tables.proofs.Entries.{largest-at}
 use Rattle.splits.proofs.Stepping.{step-none, step-found}
 use Rattle.splits.proofs.split_step.Statement.{statement}
 use Rattle.splits.proofs.split_step.Tie as tie
@@ -23,15 +24,29 @@ returns c =
 part-count-requires : tie.Need-part-count-requires
 part-count-requires c κs = search needs
 
+byte-at-requires : tie.Need-byte-at-requires
+byte-at-requires c κs = search needs
+
+cast-q : tie.Need-cast-q
+cast-q c = search needs
+
 take-slots-requires : tie.Need-take-slots-requires
-take-slots-requires c κs = search needs
+take-slots-requires c κs =
+    let s = c .before .before .before .before .before .before .before .before .before in (
+      rw (c .before .part-count .ensures, s .pre .0) (s .pre .1),
+      omega (arith, c .byte-at .ensures, s .pre .0, largest-at (s .args .classes .now) (s .args .c)),
+      omega arith,
+    )
 
 returns-2 : tie.Need-returns-2
+unfolding row
 returns-2 c =
-    let a = c .before .before .before .before .before .before .before .before .before .before .before .before .args in
+    let s = c .before .before .before .before .before .before .before .before .before .before .before .before .before in
+    let a = s .args in
+    let found = c .before .before .before .before .before .before .before .before .find in
     let T : Table = record { classes = a .classes .now; parts = a .parts .now; rows = a .rows .now; splits = a .splits .now } in
-    step-found (a .bound) T (setOf (a .f)) (a .c) (c .before .before .before .before .before .before .before .find .result) (c .before .before .before .before .before .before .before .find .ensures) (omega arith) (c .before .before .before .take-slots .result)
-    (rw (c .before .before .before .before .part-count .ensures) at (c .before .before .before .take-slots .ensures)) _ refl refl refl
+    step-found (a .bound) T (setOf (a .f)) (a .c) (found .result) (found .ensures) (omega arith) (c .before .before .before .take-slots .result)
+    (rw (c .before .before .before .before .before .part-count .ensures, s .pre .0, c .before .before .before .before .byte-at .ensures) at (c .before .before .before .take-slots .ensures)) _ refl refl refl
 
 pub split-step-spec : {M : Type 1} → statement M
 split-step-spec =
@@ -41,5 +56,7 @@ split-step-spec =
     split-count-requires
     returns
     part-count-requires
+    byte-at-requires
+    cast-q
     take-slots-requires
     returns-2)

@@ -8,41 +8,43 @@ use native.Mathlib.Omega.{arith}
 use lib.ListN.{drop}
 use Rattle.sets.specs.Set.{setWords, setOf, join}
 use Rattle.sets.proofs.Sets.{empty-words}
-use Rattle.tables.specs.Table.{row, slots}
-use Rattle.tables.proofs.Entries.{slots-cons, slots-end}
+use Rattle.tables.specs.Table.{rowAt, slots}
+use Rattle.tables.proofs.Entries.{slots-cons, slots-end, row-inside}
 use Rattle.splits.proofs.Taking.{Taking, taking-start, taking-end, taking-stop, taking-bad, taking-more}
 use Rattle.splits.proofs.take_slots.Statement.{statement}
 use Rattle.splits.proofs.take_slots.Tie as tie
 
 abbrev Inv-loop : tie.InvT-loop
-Inv-loop classes rows splits k n i c all₀ j₀ all j = (j ≤ 4) × Taking (λ p. row classes rows p c) n (slots splits i) (setOf all) j
+Inv-loop rows splits k n i q all₀ j₀ all j = (j ≤ 4) × Taking (λ p. rowAt rows k p q) n (slots splits i) (setOf all) j
 
 abbrev μ-loop : tie.MeasureT-loop
-μ-loop classes rows splits k n i c all₀ j₀ all j = 4 - j
+μ-loop rows splits k n i q all₀ j₀ all j = 4 - j
 
 -- the slot that is read is the next of the rest
-here : (c : tie.After-slot Inv-loop μ-loop)
-    → drop (c .before .before .loop .j) (slots (c .before .before .before .before .before .before .args .splits .now) (c .before .before .before .before .before .before .args .i)) ≡ c .slot .result ∷ drop (c .before .before .loop .j + 1) (slots (c .before .before .before .before .before .before .args .splits .now) (c .before .before .before .before .before .before .args .i))
-here c = slots-cons (c .before .before .before .before .before .before .args .splits .now) (c .before .before .before .before .before .before .args .i) (c .before .before .loop .j) (c .slot .result) (omega arith) (c .slot .ensures)
+here : (c : tie.After-whole-slot Inv-loop μ-loop)
+    → drop (c .before .before .loop .j) (slots (c .before .before .before .before .before .args .splits .now) (c .before .before .before .before .before .args .i)) ≡ c .whole-slot .result ∷ drop (c .before .before .loop .j + 1) (slots (c .before .before .before .before .before .args .splits .now) (c .before .before .before .before .before .args .i))
+here c = slots-cons (c .before .before .before .before .before .args .splits .now) (c .before .before .before .before .before .args .i) (c .before .before .loop .j) (c .whole-slot .result) (omega arith) (c .whole-slot .ensures)
 
 loop-holds : tie.Need-loop-holds Inv-loop μ-loop
 loop-holds c = (search needs, taking-start _ _ _ _ (empty-words setWords))
 
-slot-requires : tie.Need-slot-requires Inv-loop μ-loop
-slot-requires c κs = search needs
+whole-slot-requires : tie.Need-whole-slot-requires Inv-loop μ-loop
+whole-slot-requires c κs = search needs
 
 returns : tie.Need-returns Inv-loop μ-loop
 returns c =
     let l = c .before .before .before .loop in
-    taking-stop _ _ _ _ (l .j) (l .inv .1) (c .before .slot .result) (here (c .before)) refl refl (eq-eqb _ _ (c .if1 .taken))
+    taking-stop _ _ _ _ (l .j) (l .inv .1) (c .before .whole-slot .result) (here (c .before)) refl refl (eq-eqb _ _ (c .if1 .taken))
 
 returns-2 : tie.Need-returns-2 Inv-loop μ-loop
 returns-2 c =
     let l = c .before .before .before .before .loop in
-    taking-bad _ _ _ _ (l .j) (l .inv .1) (c .before .before .slot .result) (here (c .before .before)) refl (ne-eqb _ _ (c .before .if1 .left)) (c .if2 .taken)
+    taking-bad _ _ _ _ (l .j) (l .inv .1) (c .before .before .whole-slot .result) (here (c .before .before)) refl (ne-eqb _ _ (c .before .if1 .left)) (c .if2 .taken)
 
-row-set-requires : tie.Need-row-set-requires Inv-loop μ-loop
-row-set-requires c κs = search needs
+whole-row-requires : tie.Need-whole-row-requires Inv-loop μ-loop
+whole-row-requires c κs =
+    let s = c .before .before .before .before .before .before .before in
+    omega (arith, row-inside (s .args .n) (s .args .k) (c .before .before .whole-slot .result) (s .args .q) (omega arith) (s .pre .1), s .pre .0)
 
 union-requires : tie.Need-union-requires Inv-loop μ-loop
 union-requires c κs = search needs
@@ -56,15 +58,15 @@ loop-less c = search needs
 loop-again : tie.Need-loop-again Inv-loop μ-loop
 loop-again c =
     let l = c .before .before .before .before .before .before .loop in
-    let x = c .before .before .before .before .slot .result in (
+    let x = c .before .before .before .before .whole-slot .result in (
       search needs,
       taking-more _ _ _ (setOf (l .all)) (l .j) x (l .inv .1) (here (c .before .before .before .before)) (ne-eqb _ _ (c .before .before .before .if1 .left)) (omega arith) _
-          (c .union .ensures ∙ ap (join (setOf (l .all))) (c .before .row-set .ensures)),
+          (c .union .ensures ∙ ap (join (setOf (l .all))) (c .before .whole-row .ensures)),
     )
 
 returns-3 : tie.Need-returns-3 Inv-loop μ-loop
 returns-3 c =
-    let a = c .before .before .before .before .before .args in
+    let a = c .before .before .before .before .args in
     let l = c .before .loop in
     taking-end _ _ _ _ (l .j) (l .inv .1) refl (omega arith) (slots-end (a .splits .now) (a .i) (l .j) (omega arith))
 
@@ -75,10 +77,10 @@ take-slots-spec =
     Inv-loop
     μ-loop
     loop-holds
-    slot-requires
+    whole-slot-requires
     returns
     returns-2
-    row-set-requires
+    whole-row-requires
     union-requires
     add-j
     loop-less
