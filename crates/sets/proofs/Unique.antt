@@ -20,8 +20,8 @@ module _ (r q : Bool) where
   unique-same x y e f = e ∙ sym f
 
   -- of `same_at`, and of `same_whole`
-  pub unique-same-at : (x : StateSet) (b : List ℕ) (at : ℕ) → r ≡ eqb (setAt b at) (setOf x) → q ≡ eqb (setAt b at) (setOf x) → r ≡ q
-  unique-same-at x b at e f = e ∙ sym f
+  pub unique-same-whole : (x : StateSet) (b : List ℕ) (at : ℕ) → r ≡ eqb (setAt b at) (setOf x) → q ≡ eqb (setAt b at) (setOf x) → r ≡ q
+  unique-same-whole x b at e f = e ∙ sym f
 
   pub unique-less : (x y : StateSet) → r ≡ before (setBytes (setOf x)) (setBytes (setOf y)) → q ≡ before (setBytes (setOf x)) (setBytes (setOf y)) → r ≡ q
   unique-less x y e f = e ∙ sym f

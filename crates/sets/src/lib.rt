@@ -164,18 +164,6 @@ impl StateSet {
         true
     }
 
-    // Says whether it is the set that stands at a place of a list of bytes; bytes past the list's end are read as 0.
-    pub fn same_at(self, b: &[u8], at: usize) -> bool
-        ensures { λ r. ⌜ r ≡ eqb (setAt (now (b .entry)) at) (setOf self) ⌝ }
-    {
-        if BYTES <= b.len() {
-            if at <= b.len() - BYTES {
-                return self.same_whole(b, at);
-            }
-        }
-        StateSet::load(b, at).same(self)
-    }
-
     // The set that stands at a place of a list of bytes, where its bytes are all there.
     pub fn whole(b: &[u8], at: usize) -> StateSet
         requires { ⌜ at + setSize ≤ length (now b) ⌝ }

@@ -29,20 +29,11 @@ module _ (x y : ℕ) where
   unique-split-count S p q = p ∙ sym q
 
   -- of `slot`, and of `whole_slot`
-  pub unique-slot : (S : List ℕ) (i j : ℕ) → x ≡ getD (slots S i) j 0 → y ≡ getD (slots S i) j 0 → x ≡ y
-  unique-slot S i j p q = p ∙ sym q
+  pub unique-whole-slot : (S : List ℕ) (i j : ℕ) → x ≡ getD (slots S i) j 0 → y ≡ getD (slots S i) j 0 → x ≡ y
+  unique-whole-slot S i j p q = p ∙ sym q
 
 -- ---- sets that own as many words as their kind has, each of 64 bits
 
 module _ (x y : StateSet) (vx : Words setWords (x .words)) (vy : Words setWords (y .words)) where
-  pub unique-part-set : (P : List ℕ) (i : ℕ) → setOf x ≡ part P i → setOf y ≡ part P i → x ≡ y
-  unique-part-set P i p q = set-one x y vx vy (p ∙ sym q)
-
-  pub unique-split-set : (S : List ℕ) (i : ℕ) → setOf x ≡ splitSet S i → setOf y ≡ splitSet S i → x ≡ y
-  unique-split-set S i p q = set-one x y vx vy (p ∙ sym q)
-
   pub unique-whole-row : (W : List ℕ) (k i c : ℕ) → setOf x ≡ rowAt W k i c → setOf y ≡ rowAt W k i c → x ≡ y
   unique-whole-row W k i c p q = set-one x y vx vy (p ∙ sym q)
-
-  pub unique-row-set : (C W : List ℕ) (i c : ℕ) → setOf x ≡ row C W i c → setOf y ≡ row C W i c → x ≡ y
-  unique-row-set C W i c p q = set-one x y vx vy (p ∙ sym q)

@@ -73,7 +73,7 @@ pub fn split_count(splits: &[u8]) -> usize
 }
 
 // Part p; past the list's end that is the empty set.
-pub fn part_set(parts: &[u8], p: usize) -> StateSet
+fn part_set(parts: &[u8], p: usize) -> StateSet
     ensures { λ r. ⌜ setOf r ≡ part (now (parts .entry)) p ⌝ }
 {
     if p <= part_count(parts) {
@@ -84,7 +84,7 @@ pub fn part_set(parts: &[u8], p: usize) -> StateSet
 }
 
 // The set of split i; past the list's end that is the empty set.
-pub fn split_set(splits: &[u8], i: usize) -> StateSet
+fn split_set(splits: &[u8], i: usize) -> StateSet
     ensures { λ r. ⌜ setOf r ≡ splitSet (now (splits .entry)) i ⌝ }
 {
     if i <= split_count(splits) {
@@ -95,7 +95,7 @@ pub fn split_set(splits: &[u8], i: usize) -> StateSet
 }
 
 // Slot j of split i; past the slots, or past the list's end, that is 0.
-pub fn slot(splits: &[u8], i: usize, j: usize) -> usize
+fn slot(splits: &[u8], i: usize, j: usize) -> usize
     ensures { λ r. ⌜ r ≡ getD (slots (now (splits .entry)) i) j 0 ⌝ }
 {
     if SLOTS <= j {
@@ -125,7 +125,7 @@ pub fn whole_row(rows: &[u8], k: usize, p: usize, q: usize) -> StateSet
 }
 
 // The row of part p, below the most parts, that byte c selects, where the bytes have k classes.
-pub fn row_set(classes: &[u8], rows: &[u8], k: usize, p: usize, c: u8) -> StateSet
+fn row_set(classes: &[u8], rows: &[u8], k: usize, p: usize, c: u8) -> StateSet
     requires { ⌜ (k ≡ classCount (now classes)) × (p < mostParts) ⌝ }
     ensures { λ r. ⌜ setOf r ≡ row (now (classes .entry)) (now (rows .entry)) p c ⌝ }
 {
