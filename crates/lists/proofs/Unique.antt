@@ -13,9 +13,6 @@ use Rattle.lists.specs.Automaton.{start, step, accepted}
 pub unique-byte-at : (b : List ℕ) (at x y : ℕ) → x ≡ getD b at 0 → y ≡ getD b at 0 → x ≡ y
 unique-byte-at b at x y p q = p ∙ sym q
 
-pub unique-word-at : (b : List ℕ) (at x y : ℕ) → x ≡ word b at → y ≡ word b at → x ≡ y
-unique-word-at b at x y p q = p ∙ sym q
-
 pub unique-check-list : (L : List ℕ) (x y : ℕ) → x ≡ listRefusal L → y ≡ listRefusal L → x ≡ y
 unique-check-list L x y p q = p ∙ sym q
 

@@ -32,17 +32,6 @@ pub fn byte_at(b: &[u8], at: usize) -> u8
     if at < b.len() { b[at] } else { 0 }
 }
 
-// The number that two bytes at a place write, low byte first; past the end they are 0.
-pub fn word_at(b: &[u8], at: usize) -> usize
-    ensures { λ r. ⌜ r ≡ word (now (b .entry)) at ⌝ }
-{
-    if at < b.len() {
-        byte_at(b, at) as usize + 256 * (byte_at(b, at + 1) as usize)
-    } else {
-        0
-    }
-}
-
 // How many records the list has.
 fn records(l: &[u8]) -> usize
     ensures { λ r. ⌜ r ≡ records (now (l .entry)) ⌝ }

@@ -55,7 +55,7 @@ fn take_slots(rows: &[u8], splits: &[u8], k: usize, n: usize, i: usize, q: usize
 {
     let mut all = StateSet::EMPTY;
     for j in 0..tables::SLOTS {
-        let x = tables::whole_slot(splits, i, j);
+        let x = tables::slot(splits, i, j);
         if x == tables::UNUSED {
             return Taken {
                 halts: false,

@@ -36,16 +36,6 @@ slot-at S i (suc (suc zero)) h = refl
 slot-at S i (suc (suc (suc zero))) h = refl
 slot-at S i (suc (suc (suc (suc j)))) h = absurd (omega arith)
 
--- no slot there, or no split
-pub slot-none : (S : List ℕ) (i j : ℕ) → 4 ≤ j → 0 ≡ getD (slots S i) j 0
-slot-none S i j h = sym (List·getD-eq-default (slots S i) 0 (rw (slots-length S i) h))
-
-pub slot-past : (S : List ℕ) (i j : ℕ) → j < 4 → splitCount S < i → 0 ≡ getD (slots S i) j 0
-slot-past S i j h l =
-    let a : getD S (splitSize * i + setSize + 2 * j) 0 ≡ 0 = List·getD-eq-default S 0 (omega arith) in
-    let b : getD S (splitSize * i + setSize + 2 * j + 1) 0 ≡ 0 = List·getD-eq-default S 0 (omega arith) in
-    sym (slot-at S i j h ∙ rw (a, b))
-
 pub slots-cons : (S : List ℕ) (i j x : ℕ) → j < 4 → x ≡ getD (slots S i) j 0 → drop j (slots S i) ≡ x ∷ drop (j + 1) (slots S i)
 slots-cons S i j x h e = rw (add-one j, e) (drop-cons (slots S i) j 0 (rw (slots-length S i) h))
 

@@ -28,9 +28,8 @@ module _ (x y : ℕ) where
   pub unique-split-count : (S : List ℕ) → x ≡ splitCount S → y ≡ splitCount S → x ≡ y
   unique-split-count S p q = p ∙ sym q
 
-  -- of `slot`, and of `whole_slot`
-  pub unique-whole-slot : (S : List ℕ) (i j : ℕ) → x ≡ getD (slots S i) j 0 → y ≡ getD (slots S i) j 0 → x ≡ y
-  unique-whole-slot S i j p q = p ∙ sym q
+  pub unique-slot : (S : List ℕ) (i j : ℕ) → x ≡ getD (slots S i) j 0 → y ≡ getD (slots S i) j 0 → x ≡ y
+  unique-slot S i j p q = p ∙ sym q
 
 -- ---- sets that own as many words as their kind has, each of 64 bits
 

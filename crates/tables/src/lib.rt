@@ -94,21 +94,8 @@ fn split_set(splits: &[u8], i: usize) -> StateSet
     }
 }
 
-// Slot j of split i; past the slots, or past the list's end, that is 0.
-fn slot(splits: &[u8], i: usize, j: usize) -> usize
-    ensures { λ r. ⌜ r ≡ getD (slots (now (splits .entry)) i) j 0 ⌝ }
-{
-    if SLOTS <= j {
-        return 0;
-    }
-    if split_count(splits) < i {
-        return 0;
-    }
-    lists::word_at(splits, SPLIT_SIZE * i + sets::BYTES + 2 * j)
-}
-
 // Slot j of split i, where that split is there.
-pub fn whole_slot(splits: &[u8], i: usize, j: usize) -> usize
+pub fn slot(splits: &[u8], i: usize, j: usize) -> usize
     requires { ⌜ (i < splitCount (now splits)) × (j < 4) ⌝ }
     ensures { λ r. ⌜ r ≡ getD (slots (now (splits .entry)) i) j 0 ⌝ }
 {
@@ -187,6 +174,7 @@ pub fn size_refusal(bound: u64, classes: &[u8], parts: &[u8], rows: &[u8], split
 
 // Says whether rule 9 passes the slots of split i: n parts, at most `bound` slots in use.
 fn good_slots(splits: &[u8], i: usize, n: usize, bound: u64) -> bool
+    requires { ⌜ i < splitCount (now splits) ⌝ }
     ensures { λ r. ⌜ r ≡ goodSlots n bound (slots (now (splits .entry)) i) ⌝ }
 {
     let mut least = 0;
@@ -286,6 +274,7 @@ fn add_row(classes: &[u8], rows: &[u8], k: usize, x: usize, c: u8, all: StateSet
 
 // The union of the parts of split i.
 fn union_of(parts: &[u8], splits: &[u8], i: usize) -> StateSet
+    requires { ⌜ i < splitCount (now splits) ⌝ }
     ensures { λ r. ⌜ setOf r ≡ joined (part (now (parts .entry))) (usedSlots (slots (now (splits .entry)) i)) ⌝ }
 {
     let mut all = StateSet::EMPTY;
@@ -329,7 +318,7 @@ fn is_split_sorted(splits: &[u8], f: StateSet) -> bool
 
 // The union of the rows that byte c selects for the parts of split i.
 fn rows_of(classes: &[u8], rows: &[u8], splits: &[u8], k: usize, i: usize, c: u8) -> StateSet
-    requires { ⌜ (k ≡ classCount (now classes)) × (allBelow mostParts (usedSlots (slots (now splits) i)) ≡ true) ⌝ }
+    requires { ⌜ (k ≡ classCount (now classes)) × (allBelow mostParts (usedSlots (slots (now splits) i)) ≡ true) × (i < splitCount (now splits)) ⌝ }
     ensures { λ r. ⌜ setOf r ≡ joined (λ p. row (now (classes .entry)) (now (rows .entry)) p c) (usedSlots (slots (now (splits .entry)) i)) ⌝ }
 {
     let mut all = StateSet::EMPTY;
@@ -341,7 +330,7 @@ fn rows_of(classes: &[u8], rows: &[u8], splits: &[u8], k: usize, i: usize, c: u8
 
 // Says whether each byte leads from split i to a split, through the rows.
 fn leads_at(classes: &[u8], rows: &[u8], splits: &[u8], k: usize, i: usize) -> bool
-    requires { ⌜ (k ≡ classCount (now classes)) × (allBelow mostParts (usedSlots (slots (now splits) i)) ≡ true) × (every (splitCount (now splits)) (inOrder (now splits)) ≡ true) ⌝ }
+    requires { ⌜ (k ≡ classCount (now classes)) × (allBelow mostParts (usedSlots (slots (now splits) i)) ≡ true) × (every (splitCount (now splits)) (inOrder (now splits)) ≡ true) × (i < splitCount (now splits)) ⌝ }
     ensures { λ r. ⌜ r ≡ every byteValues (λ c. isSplit (now (splits .entry)) (joined (λ p. row (now (classes .entry)) (now (rows .entry)) p c) (usedSlots (slots (now (splits .entry)) i)))) ⌝ }
 {
     for d in 0..BYTE_VALUES {

@@ -21,30 +21,30 @@ abbrev μ-loop : tie.MeasureT-loop
 μ-loop rows splits k n i q all₀ j₀ all j = 4 - j
 
 -- the slot that is read is the next of the rest
-here : (c : tie.After-whole-slot Inv-loop μ-loop)
-    → drop (c .before .before .loop .j) (slots (c .before .before .before .before .before .args .splits .now) (c .before .before .before .before .before .args .i)) ≡ c .whole-slot .result ∷ drop (c .before .before .loop .j + 1) (slots (c .before .before .before .before .before .args .splits .now) (c .before .before .before .before .before .args .i))
-here c = slots-cons (c .before .before .before .before .before .args .splits .now) (c .before .before .before .before .before .args .i) (c .before .before .loop .j) (c .whole-slot .result) (omega arith) (c .whole-slot .ensures)
+here : (c : tie.After-slot Inv-loop μ-loop)
+    → drop (c .before .before .loop .j) (slots (c .before .before .before .before .before .args .splits .now) (c .before .before .before .before .before .args .i)) ≡ c .slot .result ∷ drop (c .before .before .loop .j + 1) (slots (c .before .before .before .before .before .args .splits .now) (c .before .before .before .before .before .args .i))
+here c = slots-cons (c .before .before .before .before .before .args .splits .now) (c .before .before .before .before .before .args .i) (c .before .before .loop .j) (c .slot .result) (omega arith) (c .slot .ensures)
 
 loop-holds : tie.Need-loop-holds Inv-loop μ-loop
 loop-holds c = (search needs, taking-start _ _ _ _ (empty-words setWords))
 
-whole-slot-requires : tie.Need-whole-slot-requires Inv-loop μ-loop
-whole-slot-requires c κs = search needs
+slot-requires : tie.Need-slot-requires Inv-loop μ-loop
+slot-requires c κs = search needs
 
 returns : tie.Need-returns Inv-loop μ-loop
 returns c =
     let l = c .before .before .before .loop in
-    taking-stop _ _ _ _ (l .j) (l .inv .1) (c .before .whole-slot .result) (here (c .before)) refl refl (eq-eqb _ _ (c .if1 .taken))
+    taking-stop _ _ _ _ (l .j) (l .inv .1) (c .before .slot .result) (here (c .before)) refl refl (eq-eqb _ _ (c .if1 .taken))
 
 returns-2 : tie.Need-returns-2 Inv-loop μ-loop
 returns-2 c =
     let l = c .before .before .before .before .loop in
-    taking-bad _ _ _ _ (l .j) (l .inv .1) (c .before .before .whole-slot .result) (here (c .before .before)) refl (ne-eqb _ _ (c .before .if1 .left)) (c .if2 .taken)
+    taking-bad _ _ _ _ (l .j) (l .inv .1) (c .before .before .slot .result) (here (c .before .before)) refl (ne-eqb _ _ (c .before .if1 .left)) (c .if2 .taken)
 
 whole-row-requires : tie.Need-whole-row-requires Inv-loop μ-loop
 whole-row-requires c κs =
     let s = c .before .before .before .before .before .before .before in
-    omega (arith, row-inside (s .args .n) (s .args .k) (c .before .before .whole-slot .result) (s .args .q) (omega arith) (s .pre .1), s .pre .0)
+    omega (arith, row-inside (s .args .n) (s .args .k) (c .before .before .slot .result) (s .args .q) (omega arith) (s .pre .1), s .pre .0)
 
 union-requires : tie.Need-union-requires Inv-loop μ-loop
 union-requires c κs = search needs
@@ -58,7 +58,7 @@ loop-less c = search needs
 loop-again : tie.Need-loop-again Inv-loop μ-loop
 loop-again c =
     let l = c .before .before .before .before .before .before .loop in
-    let x = c .before .before .before .before .whole-slot .result in (
+    let x = c .before .before .before .before .slot .result in (
       search needs,
       taking-more _ _ _ (setOf (l .all)) (l .j) x (l .inv .1) (here (c .before .before .before .before)) (ne-eqb _ _ (c .before .before .before .if1 .left)) (omega arith) _
           (c .union .ensures ∙ ap (join (setOf (l .all))) (c .before .whole-row .ensures)),
@@ -77,7 +77,7 @@ take-slots-spec =
     Inv-loop
     μ-loop
     loop-holds
-    whole-slot-requires
+    slot-requires
     returns
     returns-2
     whole-row-requires

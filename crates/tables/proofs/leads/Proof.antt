@@ -32,7 +32,7 @@ loop-holds c = (search needs, every-none _)
 leads-at-requires : tie.Need-leads-at-requires Inv-loop μ-loop
 leads-at-requires c κs =
     let s = c .before .before .before .before .before .before in
-    (s .pre .0, every-at (splitCount (s .args .splits .now)) (λ j. allBelow mostParts (usedSlots (slots (s .args .splits .now) j))) (s .pre .1) (c .before .loop .i) (omega arith), s .pre .2)
+    (s .pre .0, every-at (splitCount (s .args .splits .now)) (λ j. allBelow mostParts (usedSlots (slots (s .args .splits .now) j))) (s .pre .1) (c .before .loop .i) (omega arith), s .pre .2, omega arith)
 
 returns : tie.Need-returns Inv-loop μ-loop
 returns c = every-stops (splitCount (c .before .before .before .before .before .before .before .before .args .splits .now)) _ (c .before .before .before .loop .i) (omega arith) (sym (said (c .before)) ∙ not-true _ (c .if1 .taken))

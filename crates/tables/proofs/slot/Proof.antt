@@ -1,49 +1,64 @@
--- `slot` reads where the slot stands; past the end it is 0. Assumes nothing.
+-- `slot` reads the two bytes of the slot, which stand in the list. Assumes nothing.
 use borrow.Author.Needs.{needs}
-use mathlib.Core.Path.{sym, _∙_}
+use mathlib.Core.Path.{sym}
+use Prim.Native.Nat.{_+_, _*_}
 use native.Mathlib.Omega.{arith}
-use Rattle.sets.specs.Set.{before}
-use Rattle.tables.proofs.Entries.{slot-at, slot-none, slot-past}
+use Rattle.sets.specs.Set.{setSize}
+use Rattle.tables.specs.Table.{splitSize}
+use Rattle.tables.proofs.Entries.{slot-at}
 use Rattle.tables.proofs.slot.Statement.{statement}
 use Rattle.tables.proofs.slot.Tie as tie
 
+mul-at : tie.Need-mul-at
+mul-at c = search needs
+
+add-at : tie.Need-add-at
+add-at c = search needs
+
+mul-at-2 : tie.Need-mul-at-2
+mul-at-2 c = search needs
+
+add-at-2 : tie.Need-add-at-2
+add-at-2 c = search needs
+
+shared-slice-read-result : tie.Need-shared-slice-read-result
+shared-slice-read-result c = search needs
+
+cast-result : tie.Need-cast-result
+cast-result c = omega (arith, c .shared-slice-known .given (splitSize * c .before .args .i + setSize + 2 * c .before .args .j))
+
+add-result : tie.Need-add-result
+add-result c = search needs
+
+shared-slice-read-result-2 : tie.Need-shared-slice-read-result-2
+shared-slice-read-result-2 c = search needs
+
+cast-result-2 : tie.Need-cast-result-2
+cast-result-2 c = omega (arith, c .shared-slice-known2 .given (splitSize * c .before .before .args .i + setSize + 2 * c .before .before .args .j + 1))
+
+mul-result : tie.Need-mul-result
+mul-result c = omega (arith, c .shared-slice-known2 .given (splitSize * c .before .before .args .i + setSize + 2 * c .before .before .args .j + 1))
+
+add-result-2 : tie.Need-add-result-2
+add-result-2 c =
+    omega (arith, c .shared-slice-known2 .given (splitSize * c .before .before .args .i + setSize + 2 * c .before .before .args .j), c .shared-slice-known2 .given (splitSize * c .before .before .args .i + setSize + 2 * c .before .before .args .j + 1))
+
 returns : tie.Need-returns
-returns c = slot-none (c .before .before .args .splits .now) (c .before .before .args .i) (c .before .before .args .j) (omega arith)
-
-split-count-requires : tie.Need-split-count-requires
-split-count-requires c κs = search needs
-
-returns-2 : tie.Need-returns-2
-returns-2 c = slot-past (c .before .before .before .before .args .splits .now) (c .before .before .before .before .args .i) (c .before .before .before .before .args .j) (omega arith) (omega arith)
-
-mul-word-at : tie.Need-mul-word-at
-mul-word-at c = search needs
-
-add-word-at : tie.Need-add-word-at
-add-word-at c = search needs
-
-mul-word-at-2 : tie.Need-mul-word-at-2
-mul-word-at-2 c = search needs
-
-add-word-at-2 : tie.Need-add-word-at-2
-add-word-at-2 c = search needs
-
-word-at-requires : tie.Need-word-at-requires
-word-at-requires c κs = search needs
-
-returns-3 : tie.Need-returns-3
-returns-3 c = c .word-at .ensures ∙ sym (slot-at (c .before .before .before .before .before .args .splits .now) (c .before .before .before .before .before .args .i) (c .before .before .before .before .before .args .j) (omega arith))
+returns c = sym (slot-at (c .before .before .args .splits .now) (c .before .before .args .i) (c .before .before .args .j) (c .before .before .pre .1))
 
 pub slot-spec : {M : Type 1} → statement M
 slot-spec =
     tie.close
     (tie.spec
-    returns
-    split-count-requires
-    returns-2
-    mul-word-at
-    add-word-at
-    mul-word-at-2
-    add-word-at-2
-    word-at-requires
-    returns-3)
+    mul-at
+    add-at
+    mul-at-2
+    add-at-2
+    shared-slice-read-result
+    cast-result
+    add-result
+    shared-slice-read-result-2
+    cast-result-2
+    mul-result
+    add-result-2
+    returns)
