@@ -1,15 +1,11 @@
 -- Feeding a front and then the rest gives what feeding all at once gives, for the plain feed and for the split feed through an accepted table. Assumes nothing.
-use Prim.Native.Nat.{ℕ, _+_, _*_, _^_, _≤_, _<_}
-use mathlib.Core.Path.{_≡_, refl, sym, ap, _∙_}
-use mathlib.Core.Bool.{Bool, true, false}
+use Prim.Native.Nat.{ℕ, _^_, _<_}
+use mathlib.Core.Path.{_≡_}
+use mathlib.Core.Bool.{true, false}
 use mathlib.Core.List.{List}
-use lib.ListN.{length}
-use native.Mathlib.Omega.{arith}
 use Rattle.sets.specs.Set.{states}
-use Rattle.lists.specs.Scan.{verdict}
 use Rattle.lists.proofs.Steps.{start-lt, step-lt}
-use Rattle.flows.specs.Engine.{Engine}
-use Rattle.flows.specs.Flow.{flowLayout, frontierOf, badFlow}
+use Rattle.flows.specs.Flow.{flowLayout, badFlow}
 use Rattle.flows.specs.Calls.{Bytes}
 use Rattle.flows.proofs.Records.{frontier-lt, flow-again}
 use Rattle.flows.proofs.Whole.{flow-sound}

@@ -1,30 +1,30 @@
 -- Demand 1: every refusal exactly when its row says, and nothing changes; 14 keeps the bytes before it. Assumes nothing.
-use Prim.Native.Nat.{ℕ, zero, suc, _+_, _≤_, _<_}
+use Prim.Native.Nat.{ℕ, suc, _+_, _≤_, _<_}
 use mathlib.Core.Path.{_≡_, refl, sym, ap, _∙_}
-use mathlib.Core.Bool.{Bool, true, false, _&&_, cond, true≢false, false≢true}
-use mathlib.Core.List.{List, [], _∷_, _++_}
+use mathlib.Core.Bool.{Bool, true, false, _&&_, cond}
+use mathlib.Core.List.{List, [], _∷_}
 use mathlib.Core.Logic.{_↔_}
 use native.Mathlib.Omega.{arith}
 use native.Mathlib.Nat.{lt-of-not-le}
 use native.Mathlib.Decide.{decLt}
 use lib.ListN.{length, take}
 use lib.Seq.{length-take-le, take-take}
-use lib.Dec.{ltb, eqb, lit<}
-use borrow.Author.Tests.{eqb-true, eqb-false, eq-eqb, ne-eqb, ltb-true, lt-ltb, le-ltb}
-use Rattle.lists.specs.Scan.{Rule, verdict, number, Given, Refuses}
-use Rattle.lists.specs.List.{listRules, listRefusal, badLength, badRecord, noStart}
+use lib.Dec.{ltb, lit<}
+use borrow.Author.Tests.{eq-eqb, ne-eqb, ltb-true, lt-ltb, le-ltb}
+use Rattle.lists.specs.Scan.{Rule, verdict, number, Given}
+use Rattle.lists.specs.List.{badLength, badRecord, noStart}
 use Rattle.lists.proofs.Scanning.{both}
 use Rattle.lists.proofs.Listed.{list-refuses}
 use Rattle.lists.proofs.Rules.{refuses, exactly, numbered, number-lt, verdict-lt, passes-front, passes-changed}
-use Rattle.flows.specs.Engine.{Engine, Outcome, room, run, consumed, ended, refused, feed}
+use Rattle.flows.specs.Engine.{Engine, room, run, consumed, ended, feed}
 use Rattle.flows.specs.Flow.{flowLayout, frontierOf, offsetOf, mostOffset, badFlow, otherStart, tooLong, feedRules}
 use Rattle.flows.proofs.Runs.{consumed-most, consumed-again, length-take-most}
 use Rattle.flows.proofs.Going.{unfed}
 use Rattle.flows.proofs.Moves.{no-refusal}
 use Rattle.flows.proofs.Looping.{feed-passes}
-use Rattle.plain.specs.Plain.{plain, opened, openRules, openRefusal, openSaved, plainFeed}
+use Rattle.plain.specs.Plain.{plain, openRules, openRefusal, openSaved}
 use Rattle.plain.proofs.Plain.{plain-refusal}
-use Rattle.tables.specs.Table.{Table, sizeRules, tableRules, tableRefusal}
+use Rattle.tables.specs.Table.{Table, sizeRules}
 use Rattle.tables.proofs.Checked.{table-exactly}
 use Rattle.splits.specs.Split.{stuck, split, splitRules, splitFeed}
 use Rattle.demands.specs.Demands.{Unchanged, Same, Demand1}

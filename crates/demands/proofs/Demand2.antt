@@ -1,8 +1,8 @@
 -- Demand 2 over any list of calls from any record, and what holds of each call, plain or split. Assumes nothing.
 use Prim.Native.Nat.{ℕ, zero, suc, _+_, _*_, _^_, _≤_, _<_}
-use mathlib.Core.Path.{_≡_, refl, sym, ap, _∙_, subst}
-use mathlib.Core.Bool.{Bool, true, false, not, true≢false}
-use mathlib.Core.List.{List, [], _∷_, _++_}
+use mathlib.Core.Path.{_≡_, refl, sym, ap, _∙_}
+use mathlib.Core.Bool.{true, false, not, true≢false}
+use mathlib.Core.List.{List, [], _∷_}
 use mathlib.Core.Logic.{_↔_}
 use native.Mathlib.Omega.{arith}
 use native.Mathlib.Nat.{mul-add}
@@ -12,23 +12,22 @@ use Rattle.sets.specs.Set.{states, signatures, holds}
 use Rattle.lists.specs.Scan.{verdict}
 use Rattle.lists.specs.Automaton.{accepted}
 use Rattle.lists.proofs.Steps.{accepted-exactly}
-use Rattle.lists.proofs.Rules.{passes}
 use Rattle.flows.specs.Pairs.{Pair}
-use Rattle.flows.specs.Engine.{Engine, Layout, Outcome, room, run, costs, told, consumed, ended, refused, feed}
-use Rattle.flows.specs.Flow.{flowLayout, frontierOf, offsetOf, rowsOf, flow, badFlow, otherStart, mostOffset}
-use Rattle.flows.specs.Calls.{Bytes, Asked, answer, recordAfter, allTold, allBytes, Along}
+use Rattle.flows.specs.Engine.{Engine, room, run, costs, told, consumed, ended, refused}
+use Rattle.flows.specs.Flow.{flowLayout, frontierOf, offsetOf, rowsOf, badFlow, otherStart}
+use Rattle.flows.specs.Calls.{Bytes, Asked, answer, Along}
 use Rattle.flows.proofs.Runs.{run-more, consumed-most, consumed-fits, consumed-longest, costs-most, bytes-take, length-take-most}
 use Rattle.flows.proofs.Told.{told-exactly, told-ordered}
 use Rattle.flows.proofs.Follows.{follows-within}
 use Rattle.flows.proofs.Records.{frontier-lt, flow-good}
 use Rattle.flows.proofs.Moves.{feed-bytes, no-refusal, feed-moves}
-use Rattle.flows.proofs.Whole.{Sound, flow-sound, Pieces, Passed, Fair, whole, never-halts, one-engine, by-answer}
-use Rattle.flows.proofs.Cuts.{along-map, Equal, ByOne, One}
+use Rattle.flows.proofs.Whole.{Sound, flow-sound, Pieces, Fair, whole, never-halts, one-engine, by-answer}
+use Rattle.flows.proofs.Cuts.{Equal, One}
 use Rattle.flows.proofs.Cuts as cut
 use Rattle.plain.specs.Plain.{plain}
 use Rattle.plain.proofs.Plain.{plain-cheap, plain-kept}
-use Rattle.demands.specs.Calls.{Via, byList, byTable, Call, engineOf, asked, allAsked, outcome}
-use Rattle.demands.specs.Demands.{Unchanged, Longest, OneCall, InBytes, Each, Plainly, bytesOf, wordsOf, after, Demand2}
+use Rattle.demands.specs.Calls.{Via, byList, Call, engineOf, asked, allAsked, outcome}
+use Rattle.demands.specs.Demands.{Unchanged, Longest, OneCall, InBytes, Each, Plainly, bytesOf, Demand2}
 use Rattle.demands.proofs.Engines.{call-passes, rows-few, cost-most}
 use Rattle.demands.proofs.Demand1.{refused-unchanged}
 

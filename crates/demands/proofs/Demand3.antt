@@ -1,7 +1,7 @@
 -- Demand 3 over any list of calls through one accepted table, from the record that opening leaves. Assumes nothing.
-use Prim.Native.Nat.{ℕ, zero, suc, _+_, _*_, _^_, _≤_, _<_}
+use Prim.Native.Nat.{ℕ, _≤_, _<_}
 use mathlib.Core.Path.{_≡_, refl, sym, ap, _∙_}
-use mathlib.Core.List.{List, [], _∷_, _++_}
+use mathlib.Core.List.{List}
 use native.Mathlib.Omega.{arith}
 use lib.ListN.{length}
 use lib.Dec.{lit<}
@@ -11,17 +11,17 @@ use Rattle.lists.specs.Scan.{verdict}
 use Rattle.lists.specs.Automaton.{start}
 use Rattle.lists.proofs.Rules.{verdict-lt}
 use Rattle.lists.proofs.Steps.{start-lt}
-use Rattle.flows.specs.Engine.{Engine, costs, told}
+use Rattle.flows.specs.Engine.{Engine}
 use Rattle.flows.specs.Flow.{flowLayout, frontierOf, offsetOf, rowsOf}
-use Rattle.flows.specs.Calls.{Asked, answer, allRows, Along}
+use Rattle.flows.specs.Calls.{answer, allRows}
 use Rattle.flows.proofs.Records.{frontier-flow, offset-flow, rows-flow}
-use Rattle.flows.proofs.Whole.{Sound, flow-sound, Pieces, Fair, whole, never-halts, ceiling, one-engine}
-use Rattle.plain.specs.Plain.{plain, opened, openPairs}
-use Rattle.tables.specs.Table.{Table, tableRefusal, mostBound}
-use Rattle.tables.proofs.Accepted.{Accepted, accepted}
-use Rattle.splits.specs.Split.{split, taken, splitRules}
+use Rattle.flows.proofs.Whole.{Sound, flow-sound, Fair, whole, never-halts, ceiling, one-engine}
+use Rattle.plain.specs.Plain.{plain, opened}
+use Rattle.tables.specs.Table.{Table, tableRefusal}
+use Rattle.tables.proofs.Accepted.{accepted}
+use Rattle.splits.specs.Split.{split, taken}
 use Rattle.demands.specs.Calls.{Via, byList, byTable, Call, engineOf, rulesOf, asked, allAsked, outcome}
-use Rattle.demands.specs.Demands.{InBytes, Each, Through, bytesOf, activeParts, Demand3}
+use Rattle.demands.specs.Demands.{InBytes, Each, Through, activeParts, Demand3}
 use Rattle.demands.proofs.Engines.{call-passes, rows-few, cost-most, AtSplit, split-follows, split-few}
 use Rattle.demands.proofs.Demand2.{in-bytes, each-along, along-each}
 

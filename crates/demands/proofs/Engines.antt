@@ -1,27 +1,24 @@
 -- The two list engines on a flow: what rules 4 and 6 give a call that passes, what a byte costs, and that an accepted table follows the list. Assumes nothing.
-use Prim.Native.Nat.{ℕ, zero, suc, _+_, _*_, _^_, _≤_, _<_}
-use mathlib.Core.Path.{_≡_, refl, sym, ap, _∙_, subst}
-use mathlib.Core.Bool.{Bool, true, false, _||_, cond}
-use mathlib.Core.List.{List, [], _∷_, _++_}
+use Prim.Native.Nat.{ℕ, _+_, _*_, _^_, _≤_, _<_}
+use mathlib.Core.Path.{_≡_, ap, _∙_}
+use mathlib.Core.Bool.{true, false}
+use mathlib.Core.List.{List}
 use native.Mathlib.Omega.{arith}
 use lib.ListN.{length}
-use lib.Dec.{ltb, eqb}
 use Rattle.sets.specs.Set.{states}
-use Rattle.lists.specs.Scan.{Rule, verdict}
-use Rattle.lists.specs.Automaton.{start, step, accepted}
-use Rattle.lists.proofs.Scanning.{neither}
+use Rattle.lists.specs.Scan.{verdict}
+use Rattle.lists.specs.Automaton.{step, accepted}
 use Rattle.lists.proofs.Rules.{passes-front}
 use Rattle.lists.proofs.Steps.{step-lt}
-use Rattle.flows.specs.Engine.{Engine}
-use Rattle.flows.specs.Flow.{flowLayout, offsetOf, rowsOf, badFlow, mostOffset, feedRules}
+use Rattle.flows.specs.Flow.{offsetOf, rowsOf, badFlow, mostOffset, feedRules}
 use Rattle.flows.specs.Calls.{Follows}
 use Rattle.flows.proofs.Records.{good-flow}
 use Rattle.flows.proofs.Looping.{feed-passes}
 use Rattle.plain.specs.Plain.{plain}
 use Rattle.plain.proofs.Plain.{plain-cheap}
-use Rattle.tables.specs.Table.{Table, unusedSlot, slots, takenSlots, isSplit, badBound, sizeRules, tableRefusal, mostBound}
-use Rattle.tables.proofs.Accepted.{Accepted, accepted as accepted-table}
-use Rattle.splits.specs.Split.{splitOf, taken, splitStep, split, splitRules}
+use Rattle.tables.specs.Table.{Table, isSplit, sizeRules, tableRefusal}
+use Rattle.tables.proofs.Accepted.{accepted as accepted-table}
+use Rattle.splits.specs.Split.{split}
 use Rattle.splits.proofs.Exact.{few, free, same, stays}
 use Rattle.splits.proofs.Stepping.{split-cheap}
 use Rattle.demands.specs.Calls.{Via, byList, byTable, Call, engineOf, rulesOf, asked}

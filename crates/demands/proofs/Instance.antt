@@ -1,18 +1,15 @@
 -- Demand 3 is no empty promise: four calls on the example list and table, two of them refused, to which the theorem applies. Assumes nothing.
-use Prim.Native.Nat.{ℕ, zero, suc, _+_, _*_, _<_}
+use Prim.Native.Nat.{ℕ, zero, suc, _<_}
 use mathlib.Core.Path.{_≡_, refl, sym, _∙_}
-use mathlib.Core.Bool.{Bool, true, false}
-use mathlib.Core.List.{List, [], _∷_, _++_}
+use mathlib.Core.List.{List, [], _∷_}
 use native.Mathlib.Omega.{arith}
 use lib.Dec.{lit<}
-use Rattle.lists.specs.Scan.{verdict}
 use Rattle.lists.specs.List.{badLength}
 use Rattle.lists.proofs.Rules.{stop}
 use Rattle.flows.specs.Calls.{Bytes}
-use Rattle.plain.specs.Plain.{opened}
 use Rattle.tables.specs.Table.{tableRefusal}
-use Rattle.demands.specs.Calls.{Call, byTable, asked, outcome}
-use Rattle.demands.specs.Demands.{Each, Through, Demand3}
+use Rattle.demands.specs.Calls.{Call, byTable}
+use Rattle.demands.specs.Demands.{Through, Demand3}
 use Rattle.demands.specs.Examples.{L, T₃, a, b, room}
 use Rattle.demands.proofs.Examples.{examples-hold}
 use Rattle.demands.proofs.Demand3.{demand-3}

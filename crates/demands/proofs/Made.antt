@@ -1,6 +1,6 @@
 -- What calls made with the code tell, consume and leave is what the definitions say of those calls: so the demands are demands on the code. Assumes nothing.
 use Prim.Native.Nat.{ℕ, _*_}
-use mathlib.Core.Path.{_≡_, refl, sym, ap, _∙_, subst}
+use mathlib.Core.Path.{_≡_, refl, ap, _∙_}
 use mathlib.Core.List.{List, [], _∷_, _++_}
 use lib.ListN.{take}
 use Rattle.flows.specs.Calls.{recordAfter, allTold, allBytes}
@@ -9,7 +9,7 @@ use Rattle.flows.specs.declared.Fed.{Fed}
 use Rattle.plain.specs.Plain.{plainFeed}
 use Rattle.splits.specs.Split.{splitFeed}
 use Rattle.tables.specs.Table.{Table}
-use Rattle.demands.specs.Calls.{Call, byList, byTable, outcome}
+use Rattle.demands.specs.Calls.{byList, byTable, outcome}
 use Rattle.demands.specs.Demands.{bytesOf, wordsOf, after}
 use Rattle.demands.specs.Made.{Made, Promised, callsOf, toldBy, eatenBy, leftBy}
 

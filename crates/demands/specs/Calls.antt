@@ -1,14 +1,12 @@
 -- Calls on a flow as a caller makes them: each has its own list, engine, stated start, piece and words.
 use Prim.Native.Nat.{ℕ}
-use mathlib.Core.Bool.{Bool}
 use mathlib.Core.List.{List, [], _∷_}
-use mathlib.Core.Path.{_≡_}
-use Rattle.lists.specs.Scan.{Rule, verdict}
+use Rattle.lists.specs.Scan.{Rule}
 use Rattle.flows.specs.Engine.{Engine, Outcome}
 use Rattle.flows.specs.Flow.{flowLayout, feedRules}
 use Rattle.flows.specs.Calls.{Asked, answer}
 use Rattle.plain.specs.Plain.{plain}
-use Rattle.tables.specs.Table.{Table, tableRefusal}
+use Rattle.tables.specs.Table.{Table}
 use Rattle.splits.specs.Split.{split, splitRules}
 
 -- the plain feed, or the split feed with a bound and a table

@@ -1,22 +1,22 @@
 -- The order's three demands as statements about the definitions. Each entry point of the code promises to be its definition, so they are statements about the code.
-use Prim.Native.Nat.{ℕ, zero, suc, _+_, _*_, _^_, _≤_, _<_}
-use mathlib.Core.Bool.{Bool, true, false}
+use Prim.Native.Nat.{ℕ, zero, suc, _+_, _*_, _≤_, _<_}
+use mathlib.Core.Bool.{true, false}
 use mathlib.Core.List.{List, [], _∷_, _++_}
 use mathlib.Core.Logic.{_⊎_, _↔_}
 use mathlib.Core.Path.{_≡_}
-use lib.ListN.{length, take, drop, getD}
+use lib.ListN.{length, take}
 use Rattle.sets.specs.Set.{signatures, holds}
-use Rattle.lists.specs.Scan.{Rule, verdict, number, Given, Refuses}
+use Rattle.lists.specs.Scan.{verdict, number, Given, Refuses}
 use Rattle.lists.specs.List.{listRules, listRefusal}
 use Rattle.lists.specs.Automaton.{start, accepted}
 use Rattle.flows.specs.Pairs.{Pair, Before}
 use Rattle.flows.specs.Engine.{Engine, Outcome, run, costs, told, amount, room}
 use Rattle.flows.specs.Flow.{flowLayout, frontierOf, offsetOf, rowsOf, badFlow, otherStart, feedRules}
-use Rattle.flows.specs.Calls.{Bytes, recordAfter, allTold, allBytes, allRows, refusals, Along, Asked}
+use Rattle.flows.specs.Calls.{Bytes, recordAfter, allTold, allBytes}
 use Rattle.plain.specs.Plain.{plain, opened, openPairs, pairsOf, openRules, openRefusal, openSaved, plainFeed}
 use Rattle.tables.specs.Table.{Table, tableRules, tableRefusal}
 use Rattle.splits.specs.Split.{taken, stuck, split, splitRules, splitFeed}
-use Rattle.demands.specs.Calls.{Via, byList, byTable, Call, engineOf, rulesOf, asked, allAsked, outcome}
+use Rattle.demands.specs.Calls.{byList, byTable, Call, asked, allAsked, outcome}
 
 -- ==== Demand 1: each refusal has a number, is given exactly when the rules say, and changes nothing in the buffers;
 -- ==== only 14, met by the split feed at some byte, keeps the bytes before it.

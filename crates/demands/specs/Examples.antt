@@ -3,14 +3,14 @@ use Prim.Native.Nat.{ℕ, _-_, _*_}
 use mathlib.Core.Bool.{cond}
 use mathlib.Core.List.{List, [], _∷_, _++_}
 use mathlib.Core.Path.{_≡_}
-use lib.ListN.{length, replicate}
+use lib.ListN.{replicate}
 use Rattle.sets.specs.Set.{states, signatures, setSize, digits, setBytes}
 use Rattle.lists.specs.List.{mostRecords, listRefusal}
 use Rattle.flows.specs.Engine.{Outcome}
 use Rattle.flows.specs.Flow.{mostOffset, flow, rowsOf}
 use Rattle.plain.specs.Plain.{opened}
 use Rattle.tables.specs.Table.{Table, mostClass, mostParts, mostSplits, mostBound, tableRefusal}
-use Rattle.demands.specs.Calls.{Via, byList, byTable, Call, outcome}
+use Rattle.demands.specs.Calls.{Via, byList, byTable, outcome}
 
 -- a row: what a definition gives, and what the example says
 abbrev pub Row : Type 0

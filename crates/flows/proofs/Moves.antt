@@ -1,17 +1,16 @@
 -- A feed that gives no refusal consumes a front of its piece, and with room for all signatures at least a byte. Assumes nothing.
-use Prim.Native.Nat.{ℕ, zero, suc, _+_, _≤_, _<_}
+use Prim.Native.Nat.{ℕ, zero, suc, _≤_, _<_}
 use mathlib.Core.Path.{_≡_, refl, sym, ap, _∙_}
-use mathlib.Core.Bool.{Bool, true, false, _&&_, cond}
+use mathlib.Core.Bool.{Bool, true, false}
 use mathlib.Core.List.{List, [], _∷_}
 use native.Mathlib.Omega.{arith}
 use native.Mathlib.Decide.{ℕ-discrete}
 use lib.ListN.{length, take}
 use lib.Seq.{length-take-le}
-use lib.Dec.{ltb, eqb}
 use borrow.Author.Tests.{eq-eqb, lt-ltb}
 use Rattle.sets.specs.Set.{signatures}
 use Rattle.lists.specs.Scan.{Rule, verdict}
-use Rattle.flows.specs.Engine.{Engine, Layout, Outcome, room, run, amount, consumed, ended, refused, feed}
+use Rattle.flows.specs.Engine.{Engine, Layout, Outcome, room, run, consumed, ended, feed}
 use Rattle.flows.proofs.Runs.{told-length, consumed-most, consumed-fits, moves}
 use Rattle.flows.proofs.Going.{unfed}
 

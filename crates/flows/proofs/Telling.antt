@@ -1,21 +1,16 @@
 -- Telling a set part by part: its members from the lowest on, and the words of their pairs, where there is room for all. Assumes nothing.
-use Prim.Native.Nat.{ℕ, zero, suc, _+_, _*_, _-_, _/_, _%_, _^_, _≤_, _<_}
+use Prim.Native.Nat.{ℕ, _+_, _*_, _/_, _%_, _^_, _≤_, _<_}
 use mathlib.Core.Path.{_≡_, refl, sym, ap, _∙_}
-use mathlib.Core.Bool.{Bool, true, false, _||_, cond}
-use mathlib.Core.List.{List, [], _∷_, _++_, append-assoc, append-nil}
+use mathlib.Core.List.{List, [], _∷_, _++_}
 use native.Mathlib.Omega.{arith}
-use native.Mathlib.Decide.{decLt}
-use native.Mathlib.Nat.{lt-of-not-le, mul-assoc, mul-comm, add-mul, zero-mul, mul-mod-left, zero-div, mod-lt, mul-one, div-one, div-eq-of-lt}
+use native.Mathlib.Nat.{zero-mul, mul-one, div-one, div-eq-of-lt}
 use lib.ListN.{length, getD, set, length-append}
-use lib.Pow.{pow-add, pow-pos, split, field, shl-lt, shr-shr}
-use lib.Bits.{or-shifted-r}
-use lib.Dec.{eqb}
-use borrow.Author.Tests.{eq-eqb, ne-eqb}
-use Rattle.sets.specs.Set.{sigWords, signatures, num, bit, holds, join, size, members, placed}
+use lib.Pow.{shr-shr}
+use Rattle.sets.specs.Set.{sigWords, signatures, num, size, members, placed}
 use Rattle.sets.proofs.Laws.{digits-at, digits-num}
-use Rattle.sets.proofs.Sets.{Words, words-lt, holds-join, holds-pow, holds-empty, holds-past}
+use Rattle.sets.proofs.Sets.{Words, words-lt, holds-empty}
 use Rattle.sets.proofs.Parts.{low-in, high-in, at-state, members-none, members-one, members-split}
-use Rattle.sets.proofs.Members.{members-in, members-out, members-size}
+use Rattle.sets.proofs.Members.{members-size}
 use Rattle.flows.specs.Engine.{pairsAt}
 use Rattle.flows.specs.Fed.{Tells}
 use Rattle.flows.proofs.Runs.{pairsAt-length}

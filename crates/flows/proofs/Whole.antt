@@ -7,7 +7,7 @@ use native.Mathlib.Omega.{arith}
 use native.Mathlib.Nat.{mul-add}
 use lib.ListN.{length, take, drop, length-append}
 use lib.Seq.{take-at}
-use lib.Dec.{ltb, eqb, lit<}
+use lib.Dec.{eqb, lit<}
 use borrow.Author.Tests.{eqb-true}
 use Rattle.sets.specs.Set.{states}
 use Rattle.lists.specs.Scan.{verdict}

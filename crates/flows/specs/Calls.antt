@@ -1,8 +1,8 @@
 -- Any number of feeds on one saved flow, each with its own rules, engine, piece and words; and when one engine follows another.
-use Prim.Native.Nat.{ℕ, zero, suc, _+_, _*_, _<_}
+use Prim.Native.Nat.{ℕ, _+_, _*_, _<_}
 use mathlib.Core.Path.{_≡_}
 use mathlib.Core.List.{List, [], _∷_, _++_}
-use lib.ListN.{length, take, getD}
+use lib.ListN.{take, getD}
 use Rattle.lists.specs.Scan.{Rule}
 use Rattle.flows.specs.Engine.{Engine, Layout, Outcome, feed, costs}
 

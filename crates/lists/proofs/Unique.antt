@@ -7,7 +7,7 @@ use Rattle.sets.specs.declared.StateSet.{StateSet}
 use Rattle.sets.specs.declared.SigSet.{SigSet}
 use Rattle.sets.specs.Set.{setWords, sigWords, setOf, sigsOf}
 use Rattle.sets.proofs.Sets.{Words, set-one, sigs-one}
-use Rattle.lists.specs.List.{word, listRefusal}
+use Rattle.lists.specs.List.{listRefusal}
 use Rattle.lists.specs.Automaton.{start, step, accepted}
 
 pub unique-byte-at : (b : List ℕ) (at x y : ℕ) → x ≡ getD b at 0 → y ≡ getD b at 0 → x ≡ y

@@ -1,6 +1,6 @@
 -- Opening and the plain feed: what each call answers and leaves.
 use Prim.Native.Nat.{ℕ}
-use mathlib.Core.Bool.{Bool, false, cond}
+use mathlib.Core.Bool.{false, cond}
 use mathlib.Core.List.{List, [], _∷_, _++_}
 use lib.Dec.{eqb}
 use Rattle.sets.specs.Set.{states, size}

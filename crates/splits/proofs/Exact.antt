@@ -1,15 +1,12 @@
 -- Where the check has accepted a table, at each split's set: no 14, the split step is the list's step, at most b rows, and a split again. Assumes nothing.
-use Prim.Native.Nat.{ℕ, zero, suc, _+_, _*_, _-_, _≤_, _<_}
+use Prim.Native.Nat.{ℕ, _≤_, _<_}
 use mathlib.Core.Path.{_≡_, refl, sym, ap, _∙_}
-use mathlib.Core.Bool.{Bool, true, false, _&&_, _||_, cond, not}
-use mathlib.Core.List.{List, [], _∷_, _++_}
-use mathlib.Core.Logic.{_↔_, _⊎_, inl, inr}
-use native.Mathlib.Omega.{arith}
+use mathlib.Core.Bool.{true, false}
+use mathlib.Core.List.{List}
 use lib.ListN.{length}
-use lib.Dec.{ltb, leb, eqb}
 use borrow.Author.Tests.{lt-leb, le-ltb}
-use Rattle.lists.specs.Automaton.{step, accepted}
-use Rattle.tables.specs.Table.{Table, byteValues, partCount, splitCount, part, row, splitSet, slots, usedSlots, takenSlots, allBelow, joined, isSplit}
+use Rattle.lists.specs.Automaton.{step}
+use Rattle.tables.specs.Table.{Table, byteValues, partCount, splitCount, part, row, splitSet, slots, usedSlots, allBelow, joined, isSplit}
 use Rattle.tables.proofs.Joined.{step-joined, joined-same}
 use Rattle.tables.proofs.Accepted.{Accepted, Slots-good, slots-said}
 use Rattle.splits.specs.Split.{splitOf, taken, stuck, splitStep}

@@ -1,14 +1,14 @@
 -- Rule 14 in a reader's words: when a frontier is stuck. Assumes nothing.
-use Prim.Native.Nat.{ℕ, suc, _≤_, _<_}
-use mathlib.Core.Path.{_≡_, refl, sym, ap, _∙_}
-use mathlib.Core.Bool.{Bool, true, false, _||_, not, true≢false}
+use Prim.Native.Nat.{ℕ, _≤_, _<_}
+use mathlib.Core.Path.{_≡_, refl}
+use mathlib.Core.Bool.{Bool, true, false, _||_, not}
 use mathlib.Core.List.{List}
 use mathlib.Core.Logic.{_⊎_, _↔_}
 use native.Mathlib.Omega.{arith}
 use lib.ListN.{length, getD}
 use lib.Dec.{leb, ltb, eqb}
 use borrow.Author.Tests.{leb-true, le-leb}
-use Rattle.lists.specs.Scan.{some, first}
+use Rattle.lists.specs.Scan.{first}
 use Rattle.lists.proofs.Scanning.{either-words, over-words, first-found, first-none}
 use Rattle.tables.specs.Table.{Table, partCount, splitCount, splitSet, allBelow, isSplit}
 use Rattle.tables.proofs.Joined.{below-fails}

@@ -1,7 +1,7 @@
 -- What the code of a split step owes: whether it halts, and where it does not, how many slots are taken and the union of their rows.
 use Prim.Native.Nat.{ℕ}
 use mathlib.Core.Path.{_≡_}
-use mathlib.Core.Bool.{Bool, false, not}
+use mathlib.Core.Bool.{false, not}
 use mathlib.Core.List.{List}
 use lib.ListN.{length}
 use Rattle.sets.specs.Set.{setOf}

@@ -1,18 +1,17 @@
 -- The table check in both directions: what an accepted table obeys, and that it accepts every table that obeys it. Assumes nothing.
-use Prim.Native.Nat.{ℕ, zero, suc, _+_, _*_, _≤_, _<_}
-use mathlib.Core.Path.{_≡_, refl, sym, ap, _∙_}
-use mathlib.Core.Bool.{Bool, true, false, _&&_, _||_, cond, not}
-use mathlib.Core.List.{List, [], _∷_, _++_}
-use native.Mathlib.Omega.{arith}
+use Prim.Native.Nat.{ℕ, _≤_, _<_}
+use mathlib.Core.Path.{_≡_, refl, ap, _∙_}
+use mathlib.Core.Bool.{Bool, true, false, _&&_, not}
+use mathlib.Core.List.{List}
 use lib.ListN.{length}
-use lib.Dec.{ltb, leb, eqb}
+use lib.Dec.{leb, eqb}
 use borrow.Author.Tests.{eqb-true, eq-eqb, leb-true, not-false}
-use Rattle.lists.specs.Scan.{some, every, verdict}
+use Rattle.lists.specs.Scan.{every}
 use Rattle.lists.specs.List.{listRules, listRefusal}
 use Rattle.lists.specs.Automaton.{start, step}
 use Rattle.lists.proofs.Scanning.{both, every-at, every-all}
 use Rattle.lists.proofs.Rules.{passes, passes-front, skip, last, verdict-then}
-use Rattle.tables.specs.Table.{Table, byteValues, partCount, splitCount, part, row, splitSet, slots, usedSlots, takenSlots, allBelow, rising, joined, isSplit, badBound, badLengths, goodSlots, inOrder, badSplits, badRows, badUnion, noStartSplit, notClosed, sizeRules, tableRules, tableRefusal}
+use Rattle.tables.specs.Table.{Table, byteValues, partCount, splitCount, part, row, splitSet, slots, usedSlots, takenSlots, allBelow, rising, joined, isSplit, badBound, badLengths, goodSlots, inOrder, badSplits, badRows, badUnion, noStartSplit, notClosed, tableRefusal}
 use Rattle.tables.proofs.Joined.{used-taken}
 
 -- 01's rules, each for every split, part and byte

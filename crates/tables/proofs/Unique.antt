@@ -1,14 +1,13 @@
 -- Each promise of the public functions determines the outcome: two outcomes that meet it are equal. Assumes nothing.
 use Prim.Native.Nat.{ℕ}
 use mathlib.Core.Path.{_≡_, sym, _∙_}
-use mathlib.Core.Bool.{Bool}
 use mathlib.Core.List.{List}
 use lib.ListN.{getD}
 use Rattle.sets.specs.declared.StateSet.{StateSet}
 use Rattle.sets.specs.Set.{setWords, setOf}
 use Rattle.sets.proofs.Sets.{Words, set-one}
 use Rattle.lists.specs.Scan.{verdict}
-use Rattle.tables.specs.Table.{Table, classCount, partCount, splitCount, part, rowAt, row, splitSet, slots, isSplit, sizeRules, tableRefusal}
+use Rattle.tables.specs.Table.{Table, classCount, partCount, splitCount, rowAt, slots, sizeRules, tableRefusal}
 
 -- ---- numbers and answers
 

@@ -2,10 +2,9 @@
 use flows::Fed;
 ghost use mathlib.Core.Path.{_≡_};
 ghost use Rattle.lists.specs.List.{listRefusal};
-ghost use Rattle.flows.specs.Fed.{Answers};
 ghost use Rattle.plain.specs.Plain.{plainFeed};
 ghost use Rattle.plain.specs.Opens.{Opens};
-ghost use Rattle.tables.specs.Table.{Table, tableRefusal};
+ghost use Rattle.tables.specs.Table.{tableRefusal};
 ghost use Rattle.splits.specs.Split.{splitFeed};
 ghost use Rattle.watch_c.specs.Face.{Faces, FaceAnswers};
 
