@@ -178,8 +178,8 @@ fn tell_word(out: &mut [u32], at: usize, word: u64, base: usize, offset: u32) ->
     w
 }
 
-// Writes signature and offset for each member of the set, from word `at` on.
-fn tell_all(out: &mut [u32], at: usize, g: SigSet, offset: u32)
+// Writes signature and offset for each member of the set, from word `at` on, where there is room for all of them.
+pub fn tell(out: &mut [u32], at: usize, g: SigSet, offset: u32)
     requires { ⌜ at + 2 * size signatures (sigsOf g) ≤ length (now out) ⌝ }
     ensures { λ res. ⌜ now (out .exit) ≡ placed (now (out .entry)) at (pairsAt offset (members signatures (sigsOf g))) ⌝ }
 {
@@ -187,20 +187,5 @@ fn tell_all(out: &mut [u32], at: usize, g: SigSet, offset: u32)
     let mut w = at;
     for i in 0..sets::SIG_WORDS {
         w = tell_word(out, w, words[i], 64 * i, offset);
-    }
-}
-
-// Writes signature and offset for each member of the set, from word `at` on; the words stay as they are where not all of that fits.
-pub fn tell(out: &mut [u32], at: usize, g: SigSet, offset: u32)
-    ensures { λ res. ⌜ now (out .exit) ≡ placed (now (out .entry)) at (pairsAt offset (members signatures (sigsOf g))) ⌝ }
-{
-    let n = g.count() as usize;
-    if n == 0 {
-        return;
-    }
-    if at <= out.len() {
-        if n <= (out.len() - at) / 2 {
-            tell_all(out, at, g, offset);
-        }
     }
 }

@@ -1,59 +1,84 @@
--- `tell` meets its promise. Assumes nothing.
+-- `tell` goes through the words of the set; the invariant is that what it told and what is left are all. Assumes nothing.
 use borrow.Author.Needs.{needs}
-use Prim.Native.Nat.{_*_}
-use mathlib.Core.Path.{_≡_}
+use Prim.Native.Nat.{_≤_, _-_, _*_, _/_, _^_}
 use native.Mathlib.Omega.{arith}
-use lib.ListN.{length}
-use Rattle.sets.specs.Set.{signatures, sigsOf, size, members}
-use Rattle.sets.proofs.Members.{members-size}
-use Rattle.sets.proofs.Bytes.{placed-out}
-use Rattle.flows.specs.Engine.{pairsAt}
-use Rattle.flows.proofs.Runs.{pairsAt-length}
-use Rattle.flows.proofs.Placing.{placed-empty}
+use Rattle.sets.specs.Set.{sigWords, num}
+use Rattle.sets.proofs.Sets.{Words}
+use Rattle.sets.proofs.Whole.{sigs-valid-of}
+use Rattle.flows.proofs.Telling.{Left, words-all, words-low, words-more, words-none}
 use Rattle.flows.proofs.tell.Statement.{statement}
 use Rattle.flows.proofs.tell.Tie as tie
 
--- two words for each member
-long : (c : tie.Start) → length (pairsAt (c .args .offset) (members signatures (sigsOf (c .args .g)))) ≡ 2 * size signatures (sigsOf (c .args .g))
-long c =
-    let gs = members signatures (sigsOf (c .args .g)) in
-    let e = members-size signatures (sigsOf (c .args .g)) in
-    omega (arith, pairsAt-length (c .args .offset) gs)
+abbrev Inv-loop : tie.InvT-loop
+Inv-loop out₀ at offset words w₀ i₀ out w i = (i ≤ sigWords) × Left out₀ at offset (num 64 words) out w (num 64 words / 2 ^ (64 * i)) (64 * i)
 
-count-requires : tie.Need-count-requires
-count-requires c κs = search needs
+abbrev μ-loop : tie.MeasureT-loop
+μ-loop out₀ at offset words w₀ i₀ out w i = sigWords - i
 
-cast-n : tie.Need-cast-n
-cast-n c = search needs
+-- the set has its words, and each fits
+valid : (c : tie.Start Inv-loop μ-loop) → Words sigWords (c .args .g .words)
+valid c = sigs-valid-of (c .args .g) _ (c .good .1 .1 .0)
 
-returns : tie.Need-returns
-returns c =
-    let s = c .before .before .before in
+loop-holds : tie.Need-loop-holds Inv-loop μ-loop
+loop-holds c =
+    let s = c .before .before in
     let a = s .args in
-    placed-empty (a .out .now) (a .at) (pairsAt (a .offset) (members signatures (sigsOf (a .g)))) (omega (arith, long s, c .before .count .ensures))
+    (search needs, words-all (a .g .words) (valid s) (a .out .now) (a .at) (a .offset) (s .pre))
 
-sub-if3 : tie.Need-sub-if3
-sub-if3 c = search needs
+mul-tell-word : tie.Need-mul-tell-word Inv-loop μ-loop
+mul-tell-word c = search needs
 
-tell-all-requires : tie.Need-tell-all-requires
-tell-all-requires c κs = search needs
+array-read-tell-word : tie.Need-array-read-tell-word Inv-loop μ-loop
+array-read-tell-word c = search needs
 
-same-length : tie.Need-same-length
-same-length c = search needs
+mul-tell-word-2 : tie.Need-mul-tell-word-2 Inv-loop μ-loop
+mul-tell-word-2 c = search needs
 
-returns-2 : tie.Need-returns-2
-returns-2 c = search needs
-
-returns-3 : tie.Need-returns-3
-returns-3 c =
+tell-word-requires : tie.Need-tell-word-requires Inv-loop μ-loop
+tell-word-requires c κs =
     let s = c .before .before .before .before .before in
     let a = s .args in
-    placed-out (a .out .now) (a .at) (pairsAt (a .offset) (members signatures (sigsOf (a .g)))) (omega (arith, long s, c .before .before .before .count .ensures))
+    let l = c .before .before .loop in
+    words-low (a .g .words) (valid s) (a .out .now) (a .at) (a .offset) (s .pre) (l .out) (l .w) (l .i) (l .inv .1) (omega arith)
 
-returns-4 : tie.Need-returns-4
-returns-4 c =
-    let a = c .before .before .before .before .args in
-    placed-out (a .out .now) (a .at) (pairsAt (a .offset) (members signatures (sigsOf (a .g)))) (omega arith)
+add-i : tie.Need-add-i Inv-loop μ-loop
+add-i c = search needs
+
+loop-less : tie.Need-loop-less Inv-loop μ-loop
+loop-less c = search needs
+
+loop-again : tie.Need-loop-again Inv-loop μ-loop
+loop-again c =
+    let s = c .before .before .before .before .before .before .before .before in
+    let a = s .args in
+    let l = c .before .before .before .before .before .loop in (
+      omega arith,
+      words-more (a .g .words) (valid s) (a .out .now) (a .at) (a .offset) (s .pre) (l .out) (l .w) (l .i) (l .inv .1) (omega arith) _ _ (c .before .before .tell-word .ensures),
+    )
+
+same-length : tie.Need-same-length Inv-loop μ-loop
+same-length c = c .before .loop .inv .1 .kept
+
+returns : tie.Need-returns Inv-loop μ-loop
+returns c =
+    let s = c .before .before .before .before in
+    let a = s .args in
+    let l = c .before .loop in
+    words-none (a .g .words) (valid s) (a .out .now) (a .at) (a .offset) (s .pre) (l .out) (l .w) (l .i) (l .inv .1) (omega arith)
 
 pub tell-spec : {M : Type 1} → statement M
-tell-spec = tie.close (tie.spec count-requires cast-n returns sub-if3 tell-all-requires same-length returns-2 returns-3 returns-4)
+tell-spec =
+    tie.close
+    (tie.spec
+    Inv-loop
+    μ-loop
+    loop-holds
+    mul-tell-word
+    array-read-tell-word
+    mul-tell-word-2
+    tell-word-requires
+    add-i
+    loop-less
+    loop-again
+    same-length
+    returns)

@@ -89,7 +89,9 @@ cast-tell : tie.Need-cast-tell Inv-loop μ-loop
 cast-tell c = search needs
 
 tell-requires : tie.Need-tell-requires Inv-loop μ-loop
-tell-requires c κs = search needs
+tell-requires c κs =
+    let head = c .before .before .before .before .before .before .before in
+    omega (arith, within head, c .before .before .count .ensures, c .before .if1 .left)
 
 mul-words : tie.Need-mul-words Inv-loop μ-loop
 mul-words c = search needs

@@ -147,12 +147,14 @@ add-tell-2 c = search needs
 cast-tell : tie.Need-cast-tell Inv-loop μ-loop
 cast-tell c = search needs
 
-tell-requires : tie.Need-tell-requires Inv-loop μ-loop
-tell-requires c κs = search needs
-
 -- the words of its pairs fit
 roomy : (c : tie.Else2 Inv-loop μ-loop) → inside (stepped c) .before .loop .ran .words + 2 * c .before .count .result ≤ length (entry (inside (stepped c) .before) .args .out .now)
 roomy c = omega (arith, c .if2 .left, within (inside (stepped c) .before), kept (inside (stepped c) .before))
+
+tell-requires : tie.Need-tell-requires Inv-loop μ-loop
+tell-requires c κs =
+    let fits = c .before in
+    omega (arith, roomy fits, kept (inside (stepped fits) .before), fits .before .count .ensures)
 
 -- the offset stays among the largest, for a byte is still to come
 offset-fits : (c : tie.In-loop Inv-loop μ-loop) → entry (c .before) .args .offset + c .before .loop .i + 1 ≤ mostOffset
