@@ -292,13 +292,13 @@ pub fn step(l: &[u8], f: StateSet, c: u8) -> StateSet
     next
 }
 
-// Says whether record i is an accept at a state of the frontier.
-fn accepts(l: &[u8], f: StateSet, i: usize) -> bool
+// Says whether record i is an accept at a state of the frontier that the words hold.
+fn accepts(l: &[u8], frontier: &[u64], i: usize) -> bool
     requires { ⌜ i < records (now l) ⌝ }
-    ensures { λ r. ⌜ r ≡ leaves (now (l .entry)) (setOf f) (isAccept (now (l .entry))) i ⌝ }
+    ensures { λ r. ⌜ r ≡ leaves (now (l .entry)) (num 64 (now (frontier .entry))) (isAccept (now (l .entry))) i ⌝ }
 {
     if is_accept(l, i) {
-        f.has(from(l, i))
+        sets::bit_of(frontier, from(l, i))
     } else {
         false
     }
@@ -309,10 +309,11 @@ pub fn accepted(l: &[u8], f: StateSet) -> SigSet
     ensures { λ r. ⌜ sigsOf r ≡ accepted (now (l .entry)) (setOf f) ⌝ }
 {
     let n = records(l);
+    let frontier = f.words;
     let none = SigSet::EMPTY;
     let mut w = none.words;
     for i in 0..n {
-        put_target(l, i, accepts(l, f, i), &mut w);
+        put_target(l, i, accepts(l, &frontier, i), &mut w);
     }
     SigSet::of_words(w)
 }

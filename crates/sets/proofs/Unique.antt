@@ -26,6 +26,9 @@ module _ (r q : Bool) where
   pub unique-less : (x y : StateSet) → r ≡ before (setBytes (setOf x)) (setBytes (setOf y)) → q ≡ before (setBytes (setOf x)) (setBytes (setOf y)) → r ≡ q
   unique-less x y e f = e ∙ sym f
 
+  pub unique-bit-of : (ws : List ℕ) (s : ℕ) → r ≡ holds (num 64 ws) s → q ≡ holds (num 64 ws) s → r ≡ q
+  unique-bit-of ws s e f = e ∙ sym f
+
   pub unique-sig-has : (x : SigSet) (g : ℕ) → r ≡ holds (sigsOf x) g → q ≡ holds (sigsOf x) g → r ≡ q
   unique-sig-has x g e f = e ∙ sym f
 

@@ -5,7 +5,7 @@ use Prim.Native.Nat.{_≤_, _-_}
 use native.Mathlib.Omega.{arith}
 use native.Mathlib.Numerals.{add-one}
 use lib.ListN.{length}
-use Rattle.sets.specs.Set.{signatures, sigWords, num, setOf}
+use Rattle.sets.specs.Set.{signatures, sigWords, num}
 use Rattle.sets.proofs.Sets.{empty-words}
 use Rattle.lists.specs.Scan.{gather}
 use Rattle.lists.specs.List.{records, isAccept, target}
@@ -14,11 +14,11 @@ use Rattle.lists.proofs.accepted.Statement.{statement}
 use Rattle.lists.proofs.accepted.Tie as tie
 
 abbrev Inv-loop : tie.InvT-loop
-Inv-loop l f n w₀ i₀ w i =
-    (i ≤ n) × (length w ≡ sigWords) × (num 64 w ≡ gather signatures (leaves l (setOf f) (isAccept l)) (target l) i)
+Inv-loop l n frontier w₀ i₀ w i =
+    (i ≤ n) × (length w ≡ sigWords) × (num 64 w ≡ gather signatures (leaves l (num 64 frontier) (isAccept l)) (target l) i)
 
 abbrev μ-loop : tie.MeasureT-loop
-μ-loop l f n w₀ i₀ w i = n - i
+μ-loop l n frontier w₀ i₀ w i = n - i
 
 records-requires : tie.Need-records-requires Inv-loop μ-loop
 records-requires c κs = search needs
@@ -26,6 +26,9 @@ records-requires c κs = search needs
 loop-holds : tie.Need-loop-holds Inv-loop μ-loop
 unfolding gather
 loop-holds c = (search needs, search needs, empty-words sigWords)
+
+slice-aggregate-accepts : tie.Need-slice-aggregate-accepts Inv-loop μ-loop
+slice-aggregate-accepts c = search needs
 
 accepts-requires : tie.Need-accepts-requires Inv-loop μ-loop
 accepts-requires c κs = search needs
@@ -45,7 +48,7 @@ loop-less c = search needs
 loop-again : tie.Need-loop-again Inv-loop μ-loop
 unfolding gather
 loop-again c =
-    let p = c .before .before .before .before .before .loop in
+    let p = c .before .before .before .before .before .before .loop in
     (search needs, search needs, rw (add-one, c .before .put-target .ensures, c .before .before .before .accepts .ensures, p .inv .1, p .inv .2) refl)
 
 of-words-requires : tie.Need-of-words-requires Inv-loop μ-loop
@@ -53,7 +56,7 @@ of-words-requires c κs = search needs
 
 returns : tie.Need-returns Inv-loop μ-loop
 unfolding accepted
-returns c = let e : c .before .before .loop .i ≡ records (c .before .before .before .before .before .before .args .l .now) = omega arith in cc
+returns c = let e : c .before .before .loop .i ≡ records (c .before .before .before .before .before .before .before .args .l .now) = omega arith in cc
 
 pub accepted-spec : {M : Type 1} → statement M
 accepted-spec =
@@ -63,6 +66,7 @@ accepted-spec =
     μ-loop
     records-requires
     loop-holds
+    slice-aggregate-accepts
     accepts-requires
     slice-aggregate-put-target
     put-target-requires
