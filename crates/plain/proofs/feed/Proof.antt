@@ -18,21 +18,24 @@ use Rattle.plain.proofs.Plain.{plain-cheap}
 use Rattle.plain.proofs.feed.Statement.{statement}
 use Rattle.plain.proofs.feed.Tie as tie
 
--- the way back from the loop to where no rule refuses
+-- the way back from the check to the entry, and from the loop to where no rule refuses
+abbrev entry : tie.After-feed-refusal → tie.Start
+entry c = c .before .before .before .before .before .before
+
 abbrev passed : tie.After-feed-bytes → tie.Else1
 passed c = c .before .before .before .before .before .before .before .before
 
 -- there no rule refuses, so the flow is good, and the piece ends at an offset
 verdict-0 : (c : tie.Else1)
-    → verdict (feedRules (c .before .before .before .before .before .before .before .args .l .now) (c .before .before .before .before .before .before .before .args .r .now) (c .before .before .before .before .before .before .before .args .at) (c .before .before .before .before .before .before .before .args .piece .now)) ≡ 0
+    → verdict (feedRules (entry (c .before) .args .l .now) (entry (c .before) .args .r .now) (entry (c .before) .args .at) (entry (c .before) .args .piece .now)) ≡ 0
 verdict-0 c = sym (c .before .feed-refusal .ensures) ∙ c .if1 .left
 
 passes : (c : tie.Else1)
-    → (badFlow (c .before .before .before .before .before .before .before .args .r .now) ≡ false)
-    × (c .before .before .before .before .before .before .before .args .at ≡ offsetOf (c .before .before .before .before .before .before .before .args .r .now))
-    × (offsetOf (c .before .before .before .before .before .before .before .args .r .now) + length (c .before .before .before .before .before .before .before .args .piece .now) ≤ mostOffset)
+    → (badFlow (entry (c .before) .args .r .now) ≡ false)
+    × (entry (c .before) .args .at ≡ offsetOf (entry (c .before) .args .r .now))
+    × (offsetOf (entry (c .before) .args .r .now) + length (entry (c .before) .args .piece .now) ≤ mostOffset)
 passes c =
-    let a = c .before .before .before .before .before .before .before .args in
+    let a = entry (c .before) .args in
     feed-passes (a .l .now) (a .r .now) (a .at) (a .piece .now) (verdict-0 c)
 
 -- the rows of the loop are at most all states for each byte
@@ -44,7 +47,7 @@ few c =
     (λ F. Unit {0}) (λ F b h p. tt) states (λ F p. plain-cheap (a .l .now) F) tt (λ i. s .before .shared-slice-known2 .given i .fits)
 
 -- the loop begins at the frontier that the flow has saved
-began : (c : tie.After-feed-bytes) → setOf (c .before .before .load .result) ≡ frontierOf (passed c .before .before .before .before .before .before .before .args .r .now)
+began : (c : tie.After-feed-bytes) → setOf (c .before .before .load .result) ≡ frontierOf (entry (passed c .before) .args .r .now)
 began c = c .before .before .load .ensures
 
 feed-refusal-requires : tie.Need-feed-refusal-requires
@@ -55,7 +58,7 @@ same-length c = search needs
 
 returns : tie.Need-returns
 returns c =
-    let a = c .before .before .before .before .before .before .before .args in
+    let a = entry (c .before) .args in
     let e = c .before .feed-refusal .ensures in
     answers-refused (plain (a .l .now)) flowLayout (a .r .now) (a .piece .now) (a .out .now) (feedRules (a .l .now) (a .r .now) (a .at) (a .piece .now)) _
     (λ z. c .if1 .taken (e ∙ z)) e refl refl refl
@@ -82,7 +85,7 @@ add-save c =
 add-save-2 : tie.Need-add-save-2
 add-save-2 c =
     let ran = c .before .before .before .before in
-    let a = passed ran .before .before .before .before .before .before .before .args in
+    let a = entry (passed ran .before) .args in
     omega (
       arith,
       ran .before .before .before .before .rows-of .ensures,
@@ -105,7 +108,7 @@ returns-2 : tie.Need-returns-2
 returns-2 c =
     let save = c .before .before .before .before in
     let ran = save .before .before .before .before .before in
-    let a = passed ran .before .before .before .before .before .before .before .args in
+    let a = entry (passed ran .before) .args in
     let r = ran .feed-bytes .result in
     let rows = ran .before .before .before .before .rows-of .ensures in
     let offset = ran .before .before .before .before .before .before .offset-of .ensures in

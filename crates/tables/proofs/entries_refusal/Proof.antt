@@ -16,32 +16,59 @@ use Rattle.tables.proofs.entries_refusal.Tie as tie
 abbrev table : tie.Start → Table
 table s = record { classes = s .args .classes .now; parts = s .args .parts .now; rows = s .args .rows .now; splits = s .args .splits .now }
 
--- what each test says
-said-9 : (c : tie.After-splits-good) → c .splits-good .result ≡ goodSplits (c .before .before .before .before .before .before .before .before .args .bound) (table (c .before .before .before .before .before .before .before .before))
+-- the way back to the entry from the first test, and from behind each rule by way of the rule before
+abbrev entry : tie.After-splits-good → tie.Start
+entry c = c .before .before .before .before .before .before .before .before
+
+abbrev entry-9 : tie.Else1 → tie.Start
+entry-9 c = entry (c .before)
+
+abbrev behind-9 : tie.Else2 → tie.Else1
+behind-9 c = c .before .before
+
+abbrev entry-10 : tie.Else2 → tie.Start
+entry-10 c = entry-9 (behind-9 c)
+
+abbrev behind-10 : tie.Else3 → tie.Else2
+behind-10 c = c .before .before
+
+abbrev entry-11 : tie.Else3 → tie.Start
+entry-11 c = entry-10 (behind-10 c)
+
+abbrev behind-11 : tie.Else4 → tie.Else3
+behind-11 c = c .before .before .before
+
+abbrev entry-12 : tie.Else4 → tie.Start
+entry-12 c = entry-11 (behind-11 c)
+
+-- what each test says, and what it has passed
+said-9 : (c : tie.After-splits-good) → c .splits-good .result ≡ goodSplits (entry c .args .bound) (table (entry c))
 said-9 c =
+    let a = entry c .args in
     c .splits-good .ensures
-    ∙ ap (λ (n : ℕ). every (splitCount (c .before .before .before .before .before .before .before .before .args .splits .now)) (λ i. goodSlots n (c .before .before .before .before .before .before .before .before .args .bound) (slots (c .before .before .before .before .before .before .before .before .args .splits .now) i) && inOrder (c .before .before .before .before .before .before .before .before .args .splits .now) i)) (c .before .part-count .ensures)
+    ∙ ap (λ (n : ℕ). every (splitCount (a .splits .now)) (λ i. goodSlots n (a .bound) (slots (a .splits .now) i) && inOrder (a .splits .now) i)) (c .before .part-count .ensures)
 
-said-12 : (c : tie.After-is-split-sorted) → c .is-split-sorted .result ≡ isSplit (c .before .before .before .before .before .before .before .before .before .before .before .before .before .before .before .args .splits .now) (start (c .before .before .before .before .before .before .before .before .before .before .before .before .before .before .before .args .l .now))
-said-12 c = c .is-split-sorted .ensures ∙ ap (isSplit (c .before .before .before .before .before .before .before .before .before .before .before .before .before .before .before .args .splits .now)) (c .before .start-set .ensures)
-
--- what each test has passed
-passed-9 : (c : tie.Else1) → goodSplits (c .before .before .before .before .before .before .before .before .before .args .bound) (table (c .before .before .before .before .before .before .before .before .before)) ≡ true
+passed-9 : (c : tie.Else1) → goodSplits (entry-9 c .args .bound) (table (entry-9 c)) ≡ true
 passed-9 c = sym (said-9 (c .before)) ∙ not-false _ (c .if1 .left)
 
-passed-10 : (c : tie.Else2) → goodRows (c .before .before .before .before .before .before .before .before .before .before .before .args .l .now) (table (c .before .before .before .before .before .before .before .before .before .before .before)) ≡ true
+passed-10 : (c : tie.Else2) → goodRows (entry-10 c .args .l .now) (table (entry-10 c)) ≡ true
 passed-10 c = sym (c .before .rows-good .ensures) ∙ not-false _ (c .if2 .left)
 
-passed-11 : (c : tie.Else3) → goodUnions (table (c .before .before .before .before .before .before .before .before .before .before .before .before .before)) ≡ true
+passed-11 : (c : tie.Else3) → goodUnions (table (entry-11 c)) ≡ true
 passed-11 c = sym (c .before .unions-good .ensures) ∙ not-false _ (c .if3 .left)
 
-passed-12 : (c : tie.Else4) → isSplit (c .before .before .before .before .before .before .before .before .before .before .before .before .before .before .before .before .args .splits .now) (start (c .before .before .before .before .before .before .before .before .before .before .before .before .before .before .before .before .args .l .now)) ≡ true
+said-12 : (c : tie.After-is-split-sorted)
+    → c .is-split-sorted .result ≡ isSplit (entry-11 (c .before .before) .args .splits .now) (start (entry-11 (c .before .before) .args .l .now))
+said-12 c = c .is-split-sorted .ensures ∙ ap (isSplit (entry-11 (c .before .before) .args .splits .now)) (c .before .start-set .ensures)
+
+passed-12 : (c : tie.Else4) → isSplit (entry-12 c .args .splits .now) (start (entry-12 c .args .l .now)) ≡ true
 passed-12 c = sym (said-12 (c .before)) ∙ not-false _ (c .if4 .left)
 
-said-13 : (c : tie.After-leads) → c .leads .result ≡ closed (c .before .before .before .before .before .before .before .before .before .before .before .before .before .before .before .before .before .args .l .now) (table (c .before .before .before .before .before .before .before .before .before .before .before .before .before .before .before .before .before))
+said-13 : (c : tie.After-leads) → c .leads .result ≡ closed (entry-12 (c .before) .args .l .now) (table (entry-12 (c .before)))
 said-13 c =
-    let s = c .before .before .before .before .before .before .before .before .before .before .before .before .before .before .before .before .before in
-    c .leads .ensures ∙ rows-closed (s .args .bound) (table s) (passed-9 (c .before .before .before .before .before .before .before .before)) (s .args .l .now) (passed-10 (c .before .before .before .before .before .before)) (passed-11 (c .before .before .before .before))
+    let s = entry-12 (c .before) in
+    let e = behind-11 (c .before) in
+    c .leads .ensures ∙ rows-closed (s .args .bound) (table s) (passed-9 (behind-9 (behind-10 e))) (s .args .l .now) (passed-10 (behind-10 e)) (passed-11 e)
 
 class-count-requires : tie.Need-class-count-requires
 class-count-requires c κs = search needs
@@ -54,50 +81,62 @@ splits-good-requires c κs = search needs
 
 returns : tie.Need-returns
 returns c =
-    let s = c .before .before .before .before .before .before .before .before .before in
+    let s = entry (c .before) in
     refused-9 (s .args .l .now) (s .args .bound) (table s) (s .pre .0) (s .pre .1) (sym (said-9 (c .before)) ∙ not-true _ (c .if1 .taken))
 
 rows-good-requires : tie.Need-rows-good-requires
-rows-good-requires c κs = (c .before .before .before .class-count .ensures, few-parts (c .before .before .before .before .before .before .before .before .before .args .bound) (table (c .before .before .before .before .before .before .before .before .before)) (c .before .before .before .before .before .before .before .before .before .pre .1))
+rows-good-requires c κs =
+    let s = entry-9 c in
+    (c .before .before .before .class-count .ensures, few-parts (s .args .bound) (table s) (s .pre .1))
 
 returns-2 : tie.Need-returns-2
 returns-2 c =
-    let s = c .before .before .before .before .before .before .before .before .before .before .before in
-    refused-10 (s .args .l .now) (s .args .bound) (table s) (s .pre .0) (s .pre .1) (passed-9 (c .before .before)) (sym (c .before .rows-good .ensures) ∙ not-true _ (c .if2 .taken))
+    let e = c .before .before in
+    let s = entry-9 e in
+    refused-10 (s .args .l .now) (s .args .bound) (table s) (s .pre .0) (s .pre .1) (passed-9 e) (sym (c .before .rows-good .ensures) ∙ not-true _ (c .if2 .taken))
 
 unions-good-requires : tie.Need-unions-good-requires
 unions-good-requires c κs = search needs
 
 returns-3 : tie.Need-returns-3
 returns-3 c =
-    let s = c .before .before .before .before .before .before .before .before .before .before .before .before .before in
-    refused-11 (s .args .l .now) (s .args .bound) (table s) (s .pre .0) (s .pre .1) (passed-9 (c .before .before .before .before)) (passed-10 (c .before .before)) (sym (c .before .unions-good .ensures) ∙ not-true _ (c .if3 .taken))
+    let e = c .before .before in
+    let s = entry-10 e in
+    refused-11 (s .args .l .now) (s .args .bound) (table s) (s .pre .0) (s .pre .1) (passed-9 (behind-9 e)) (passed-10 e) (sym (c .before .unions-good .ensures) ∙ not-true _ (c .if3 .taken))
 
 start-set-requires : tie.Need-start-set-requires
 start-set-requires c κs = search needs
 
 is-split-sorted-requires : tie.Need-is-split-sorted-requires
-is-split-sorted-requires c κs = splits-ordered (c .before .before .before .before .before .before .before .before .before .before .before .before .before .before .args .bound) (table (c .before .before .before .before .before .before .before .before .before .before .before .before .before .before)) (passed-9 (c .before .before .before .before .before))
+is-split-sorted-requires c κs =
+    let s = entry-11 (c .before) in
+    splits-ordered (s .args .bound) (table s) (passed-9 (behind-9 (behind-10 (c .before))))
 
 returns-4 : tie.Need-returns-4
 returns-4 c =
-    let s = c .before .before .before .before .before .before .before .before .before .before .before .before .before .before .before .before in
-    refused-12 (s .args .l .now) (s .args .bound) (table s) (s .pre .0) (s .pre .1) (passed-9 (c .before .before .before .before .before .before .before)) (passed-10 (c .before .before .before .before .before)) (passed-11 (c .before .before .before)) (sym (said-12 (c .before)) ∙ not-true _ (c .if4 .taken))
+    let e = c .before .before .before in
+    let s = entry-11 e in
+    refused-12 (s .args .l .now) (s .args .bound) (table s) (s .pre .0) (s .pre .1) (passed-9 (behind-9 (behind-10 e))) (passed-10 (behind-10 e)) (passed-11 e) (sym (said-12 (c .before)) ∙ not-true _ (c .if4 .taken))
 
 leads-requires : tie.Need-leads-requires
 leads-requires c κs =
-    let s = c .before .before .before .before .before .before .before .before .before .before .before .before .before .before .before .before in
-    (c .before .before .before .before .before .before .before .before .before .before .class-count .ensures, splits-below (s .args .bound) (table s) (passed-9 (c .before .before .before .before .before .before .before)) (few-parts (s .args .bound) (table s) (s .pre .1)), splits-ordered (s .args .bound) (table s) (passed-9 (c .before .before .before .before .before .before .before)))
+    let s = entry-12 c in
+    let first = behind-9 (behind-10 (behind-11 c)) in
+    (first .before .before .before .class-count .ensures, splits-below (s .args .bound) (table s) (passed-9 first) (few-parts (s .args .bound) (table s) (s .pre .1)), splits-ordered (s .args .bound) (table s) (passed-9 first))
 
 returns-5 : tie.Need-returns-5
 returns-5 c =
-    let s = c .before .before .before .before .before .before .before .before .before .before .before .before .before .before .before .before .before .before in
-    refused-13 (s .args .l .now) (s .args .bound) (table s) (s .pre .0) (s .pre .1) (passed-9 (c .before .before .before .before .before .before .before .before .before)) (passed-10 (c .before .before .before .before .before .before .before)) (passed-11 (c .before .before .before .before .before)) (passed-12 (c .before .before)) (sym (said-13 (c .before)) ∙ not-true _ (c .if5 .taken))
+    let e = c .before .before in
+    let f = behind-11 e in
+    let s = entry-12 e in
+    refused-13 (s .args .l .now) (s .args .bound) (table s) (s .pre .0) (s .pre .1) (passed-9 (behind-9 (behind-10 f))) (passed-10 (behind-10 f)) (passed-11 f) (passed-12 e) (sym (said-13 (c .before)) ∙ not-true _ (c .if5 .taken))
 
 returns-6 : tie.Need-returns-6
 returns-6 c =
-    let s = c .before .before .before .before .before .before .before .before .before .before .before .before .before .before .before .before .before .before in
-    passed (s .args .l .now) (s .args .bound) (table s) (s .pre .0) (s .pre .1) (passed-9 (c .before .before .before .before .before .before .before .before .before)) (passed-10 (c .before .before .before .before .before .before .before)) (passed-11 (c .before .before .before .before .before)) (passed-12 (c .before .before)) (sym (said-13 (c .before)) ∙ not-false _ (c .if5 .left))
+    let e = c .before .before in
+    let f = behind-11 e in
+    let s = entry-12 e in
+    passed (s .args .l .now) (s .args .bound) (table s) (s .pre .0) (s .pre .1) (passed-9 (behind-9 (behind-10 f))) (passed-10 (behind-10 f)) (passed-11 f) (passed-12 e) (sym (said-13 (c .before)) ∙ not-false _ (c .if5 .left))
 
 pub entries-refusal-spec : {M : Type 1} → statement M
 entries-refusal-spec =
