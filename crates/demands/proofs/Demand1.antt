@@ -12,10 +12,10 @@ use lib.Seq.{length-take-le, take-take}
 use lib.Dec.{ltb, lit<}
 use borrow.Author.Tests.{eq-eqb, ne-eqb, ltb-true, lt-ltb, le-ltb}
 use Rattle.lists.specs.Scan.{Rule, verdict, number, Given}
-use Rattle.lists.specs.List.{badLength, badRecord, noStart}
+use Rattle.lists.specs.List.{badLength, badRecord, noStart, listRules}
 use Rattle.lists.proofs.Scanning.{both}
 use Rattle.lists.proofs.Listed.{list-refuses}
-use Rattle.lists.proofs.Rules.{refuses, exactly, numbered, number-lt, verdict-lt, passes-front, passes-changed}
+use Rattle.lists.proofs.Rules.{refuses, rises, exactly, numbered, number-lt, verdict-lt, passes-front, passes-changed}
 use Rattle.flows.specs.Engine.{Engine, room, run, consumed, ended, feed}
 use Rattle.flows.specs.Flow.{flowLayout, frontierOf, offsetOf, mostOffset, badFlow, otherStart, tooLong, feedRules}
 use Rattle.flows.proofs.Runs.{consumed-most, consumed-again, length-take-most}
@@ -24,7 +24,7 @@ use Rattle.flows.proofs.Moves.{no-refusal}
 use Rattle.flows.proofs.Looping.{feed-passes}
 use Rattle.plain.specs.Plain.{plain, openRules, openRefusal, openSaved}
 use Rattle.plain.proofs.Plain.{plain-refusal}
-use Rattle.tables.specs.Table.{Table, sizeRules}
+use Rattle.tables.specs.Table.{Table, sizeRules, tableRules}
 use Rattle.tables.proofs.Checked.{table-exactly}
 use Rattle.splits.specs.Split.{stuck, split, splitRules, splitFeed}
 use Rattle.demands.specs.Demands.{Unchanged, Same, Demand1}
@@ -170,6 +170,14 @@ kept L b T R at piece out e =
 pub demand-1 : Demand1
 demand-1 =
     record {
+      lowest =
+          λ L b T R at piece. (
+            rises 0 (listRules L) refl,
+            rises 0 (openRules L R) refl,
+            rises 0 (feedRules L R at piece) refl,
+            rises 0 (tableRules L b T) refl,
+            rises 0 (splitRules L b T R at piece) refl,
+          );
       lists = list-refuses;
       opens = λ L R. refuses (openRules L R) refl;
       opens-not = open-refused;

@@ -6,7 +6,7 @@ use mathlib.Core.Logic.{_⊎_, _↔_}
 use mathlib.Core.Path.{_≡_}
 use lib.ListN.{length, take}
 use Rattle.sets.specs.Set.{signatures, holds}
-use Rattle.lists.specs.Scan.{verdict, number, Given, Refuses}
+use Rattle.lists.specs.Scan.{verdict, number, Given, Rises, Refuses}
 use Rattle.lists.specs.List.{listRules, listRefusal}
 use Rattle.lists.specs.Automaton.{start, accepted}
 use Rattle.flows.specs.Pairs.{Pair, Before}
@@ -37,6 +37,9 @@ pub record Same (o p : Outcome) : Type 0 where
   pub saved : o .saved ≡ p .saved
 
 pub record Demand1 : Type 0 where
+  -- in the rules of each entry point the numbers rise: of those that apply, the lowest is given
+  pub lowest : (L : List ℕ) (b : ℕ) (T : Table) (R : List ℕ) (at : ℕ) (piece : List ℕ)
+      → Rises (listRules L) × Rises (openRules L R) × Rises (feedRules L R at piece) × Rises (tableRules L b T) × Rises (splitRules L b T R at piece)
   -- the list check: 1 to 3
   pub lists : (L : List ℕ) → Refuses (listRules L) (listRefusal L)
   -- opening: 1 to 4; a refusal leaves the record

@@ -8,7 +8,7 @@ use native.Mathlib.Omega.{arith}
 use lib.ListN.{length}
 use lib.Dec.{eqb, ltb}
 use borrow.Author.Tests.{eqb-false, ltb-true, not-true}
-use Rattle.lists.specs.Scan.{Rule, verdict, number, applies, Given, Refuses}
+use Rattle.lists.specs.Scan.{Rule, verdict, number, applies, Given, Rises, Refuses}
 use Rattle.lists.proofs.Scanning.{both}
 
 -- n is the number of no row
@@ -75,6 +75,28 @@ exactly (r ∷ rs) d (suc i) h =
         → ((verdict rs ≡ number rs i) ↔ ((applies rs i ≡ true) × ((j : ℕ) → j < i → applies rs j ≡ false)))
         → cond (r .1) (r .0) (verdict rs) ≡ number rs i
     back g ih = rw (g .1 0 (omega arith)) (ih .1 (g .0, λ j l. g .1 (suc j) (omega arith)))
+
+-- ---- the numbers rise
+
+-- from a number over n on
+abbrev pub rising : ℕ → List Rule → Bool
+rising n [] = true
+rising n (r ∷ rs) = ltb n (r .0) && rising (r .0) rs
+
+over : (n : ℕ) (rs : List Rule) → rising n rs ≡ true → (i : ℕ) → i < length rs → n < number rs i
+over n [] e i h = absurd (omega arith)
+over n (r ∷ rs) e zero h = ltb-true n (r .0) (both (ltb n (r .0)) (rising (r .0) rs) e .0)
+over n (r ∷ rs) e (suc i) h =
+    let w = both (ltb n (r .0)) (rising (r .0) rs) e in
+    omega (arith, ltb-true n (r .0) (w .0), over (r .0) rs (w .1) i (omega arith))
+
+pub rises : (n : ℕ) (rs : List Rule) → rising n rs ≡ true → Rises rs
+rises n [] e i j l h = absurd (omega arith)
+rises n (r ∷ rs) e i zero l h = absurd (omega arith)
+rises n (r ∷ rs) e zero (suc j) l h = over (r .0) rs (both (ltb n (r .0)) (rising (r .0) rs) e .1) j (omega arith)
+rises n (r ∷ rs) e (suc i) (suc j) l h = rises (r .0) rs (both (ltb n (r .0)) (rising (r .0) rs) e .1) i j (omega arith) (omega arith)
+
+-- ---- what is given
 
 -- 0 is given exactly when no row applies
 pub passes-exactly : (rs : List Rule) → distinct rs ≡ true → (verdict rs ≡ 0) ↔ ((i : ℕ) → i < length rs → applies rs i ≡ false)

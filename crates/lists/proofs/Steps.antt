@@ -4,16 +4,16 @@ use mathlib.Core.Path.{_≡_, refl, sym, _∙_}
 use mathlib.Core.Bool.{Bool, true, false, _&&_, _||_}
 use mathlib.Core.List.{List}
 use mathlib.Core.Logic.{_↔_}
-use lib.Dec.{leb, ltb, eqb}
-use borrow.Author.Tests.{ltb-true, leb-true, le-leb, not-false}
+use lib.Dec.{leb}
+use borrow.Author.Tests.{leb-true, le-leb, not-false}
 use Rattle.sets.specs.Set.{states, signatures, holds, join}
 use Rattle.sets.proofs.Sets.{holds-empty, holds-join}
 use Rattle.lists.specs.Scan.{every, gather}
-use Rattle.lists.specs.List.{records, byteOf, isEdge, isStart, isAccept, low, high, from, target, zeros, goodRecord, badRecord, listRefusal}
+use Rattle.lists.specs.List.{records, isEdge, isStart, isAccept, low, high, from, target, goodRecord, badRecord, listRefusal}
 use Rattle.lists.specs.Automaton.{edge, leaves, start, step, accepted}
 use Rattle.lists.proofs.Scanning.{and-false, both, every-at, gather-exactly, gather-lt, gather-none, gather-join}
 use Rattle.lists.proofs.Rules.{passes}
-use Rattle.lists.proofs.Listed.{good-edge, good-accept}
+use Rattle.lists.proofs.Listed.{good-edge, good-accept, edge-good, accept-good}
 
 -- byte c takes edge record i
 pub record Takes (L : List ℕ) (c i : ℕ) : Type 0 where
@@ -113,15 +113,11 @@ pub step-checked : (L : List ℕ) → listRefusal L ≡ 0 → (F c t : ℕ) → 
 step-checked L e F c t = unlimited states (step L F c) t L F (Takes L c) (step-exactly L F c t) below
   where
     below : (i : ℕ) → i < records L → Takes L c i → target L i < states
-    below i h k =
-        ltb-true (target L i) states
-        (both (isEdge L i && leb (low L i) (high L i) && eqb (byteOf L i 3) 0 && ltb (from L i) states) (ltb (target L i) states) (sym (good-edge L i (k .kind)) ∙ good-at L e i h) .1)
+    below i h k = edge-good L i .0 (sym (good-edge L i (k .kind)) ∙ good-at L e i h) .4
 
 -- and g is accepted exactly when some accept record gives it
 pub accepted-checked : (L : List ℕ) → listRefusal L ≡ 0 → (F g : ℕ) → holds (accepted L F) g ≡ true ↔ Leads L F (λ i. isAccept L i ≡ true) g
 accepted-checked L e F g = unlimited signatures (accepted L F) g L F (λ i. isAccept L i ≡ true) (accepted-exactly L F g) below
   where
     below : (i : ℕ) → i < records L → isAccept L i ≡ true → target L i < signatures
-    below i h k =
-        ltb-true (target L i) signatures
-        (both (isAccept L i && zeros L i 3 && ltb (from L i) states) (ltb (target L i) signatures) (sym (good-accept L i k) ∙ good-at L e i h) .1)
+    below i h k = accept-good L i .0 (sym (good-accept L i k) ∙ good-at L e i h) .3

@@ -53,6 +53,10 @@ applies (r ∷ rs) (suc i) = applies rs i
 abbrev pub Given : List Rule → ℕ → Type 0
 Given rs i = (applies rs i ≡ true) × ((j : ℕ) → j < i → applies rs j ≡ false)
 
+-- the numbers of a table rise, so that the first row that applies has the lowest number that does
+abbrev pub Rises : List Rule → Type 0
+Rises rs = (i j : ℕ) → i < j → j < length rs → number rs i < number rs j
+
 -- a refusal is 0 exactly when no row applies, and a row's number exactly when that row is the first that does
 pub record Refuses (rs : List Rule) (refusal : ℕ) : Type 0 where
   pub passes : (refusal ≡ 0) ↔ ((i : ℕ) → i < length rs → applies rs i ≡ false)
