@@ -6,9 +6,9 @@ use native.Mathlib.Omega.{arith}
 use lib.ListN.{length}
 use Rattle.sets.specs.Set.{signatures}
 use Rattle.flows.specs.Flow.{flowLayout, feedRules}
-use Rattle.flows.specs.Fed.{Answers}
-use Rattle.flows.specs.declared.Fed.{Fed}
-use Rattle.flows.proofs.Moves.{feed-fits}
+use Rattle.feeds.specs.Fed.{Answers}
+use Rattle.feeds.specs.declared.Fed.{Fed}
+use Rattle.feeds.proofs.Moves.{feed-fits}
 use Rattle.plain.specs.Plain.{plain, plainFeed}
 use Rattle.plain.proofs.Progress.{progress}
 use Rattle.app.specs.App.{Step}

@@ -12,7 +12,7 @@ use lib.Dec.{ltb}
 use borrow.Author.Tests.{lt-ltb, le-ltb}
 use Rattle.io.specs.Digits.{digits, Fewest}
 use Rattle.sets.specs.Set.{placed}
-use Rattle.flows.proofs.Placing.{placed-fits, length-placed, placed-none, placed-one, placed-after}
+use Rattle.sets.proofs.Placing.{placed-fits, length-placed, placed-none, placed-one, placed-after}
 use Rattle.app.specs.Text.{mostDigits, lineSize, places, decimal, line, lines, Puts}
 
 -- the first two pairs of "abab": `7 2`, `7 4`

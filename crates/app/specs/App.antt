@@ -1,6 +1,6 @@
 -- What the program's loops count on: the size of its pairs buffer, and how far one feed moves the flow.
 use Prim.Native.Nat.{ℕ, _+_, _≤_, _<_}
-use Rattle.flows.specs.Flow.{mostOffset}
+use Rattle.feeds.specs.Engine.{mostOffset}
 
 -- words of the pairs buffer
 abbrev pub pairWords : ℕ

@@ -5,7 +5,7 @@ ghost use Prim.Native.Nat.{_+_, _*_, _≤_, _<_};
 ghost use mathlib.Core.List.{[], _∷_};
 ghost use lib.ListN.{length, take};
 ghost use Rattle.io.specs.Counts.{Counts};
-ghost use Rattle.flows.specs.Flow.{mostOffset};
+ghost use Rattle.feeds.specs.Engine.{mostOffset};
 ghost use Rattle.app.specs.App.{pairWords, Step};
 ghost use Rattle.app.specs.Text.{mostDigits, lineSize, decimal, line, lines, Puts};
 

@@ -6,10 +6,10 @@ use mathlib.Core.List.{List}
 use Rattle.sets.specs.Set.{states}
 use Rattle.lists.proofs.Steps.{start-lt, step-lt}
 use Rattle.flows.specs.Flow.{flowLayout, badFlow}
-use Rattle.flows.specs.Calls.{Bytes}
+use Rattle.feeds.specs.Calls.{Bytes}
 use Rattle.flows.proofs.Records.{frontier-lt, flow-again}
-use Rattle.flows.proofs.Whole.{flow-sound}
-use Rattle.flows.proofs.Cuts.{Equal, One, cuts}
+use Rattle.flows.proofs.Saved.{flow-sound}
+use Rattle.feeds.proofs.Cuts.{Equal, One, cuts}
 use Rattle.plain.specs.Plain.{plain, opened}
 use Rattle.plain.proofs.Plain.{plain-cheap, plain-kept}
 use Rattle.tables.specs.Table.{Table, isSplit, tableRefusal}

@@ -11,17 +11,17 @@ use lib.ListN.{length, take}
 use lib.Seq.{length-take-le, take-take}
 use lib.Dec.{ltb, lit<}
 use borrow.Author.Tests.{eq-eqb, ne-eqb, ltb-true, lt-ltb, le-ltb}
-use Rattle.lists.specs.Scan.{Rule, verdict, number, Given}
+use Rattle.rules.specs.Rules.{Rule, verdict, number, Given}
 use Rattle.lists.specs.List.{badLength, badRecord, noStart, listRules}
-use Rattle.lists.proofs.Scanning.{both}
+use Rattle.rules.proofs.Scanning.{both}
 use Rattle.lists.proofs.Listed.{list-refuses}
-use Rattle.lists.proofs.Rules.{refuses, rises, exactly, numbered, number-lt, verdict-lt, passes-front, passes-changed}
-use Rattle.flows.specs.Engine.{Engine, room, run, consumed, ended, feed}
-use Rattle.flows.specs.Flow.{flowLayout, frontierOf, offsetOf, mostOffset, badFlow, otherStart, tooLong, feedRules}
-use Rattle.flows.proofs.Runs.{consumed-most, consumed-again, length-take-most}
-use Rattle.flows.proofs.Going.{unfed}
-use Rattle.flows.proofs.Moves.{no-refusal}
-use Rattle.flows.proofs.Looping.{feed-passes}
+use Rattle.rules.proofs.Rules.{refuses, rises, exactly, numbered, number-lt, verdict-lt, passes-front, passes-changed}
+use Rattle.feeds.specs.Engine.{Engine, room, run, consumed, ended, feed, mostOffset}
+use Rattle.flows.specs.Flow.{flowLayout, frontierOf, offsetOf, badFlow, otherStart, tooLong, feedRules}
+use Rattle.feeds.proofs.Runs.{consumed-most, consumed-again, length-take-most}
+use Rattle.feeds.proofs.Going.{unfed}
+use Rattle.feeds.proofs.Moves.{no-refusal}
+use Rattle.flows.proofs.Passing.{feed-passes}
 use Rattle.plain.specs.Plain.{plain, openRules, openRefusal, openSaved}
 use Rattle.plain.proofs.Plain.{plain-refusal}
 use Rattle.tables.specs.Table.{Table, sizeRules, tableRules}
@@ -30,7 +30,7 @@ use Rattle.splits.specs.Split.{stuck, split, splitRules, splitFeed}
 use Rattle.demands.specs.Demands.{Unchanged, Same, Demand1}
 
 -- a feed that a rule refuses changes nothing
-pub refused-unchanged : {C : Type 0} (E : Engine C) (K : Rattle.flows.specs.Engine.Layout C) (R piece out : List ℕ) (rules : List Rule) → (verdict rules ≡ 0 → ⊥)
+pub refused-unchanged : {C : Type 0} (E : Engine C) (K : Rattle.feeds.specs.Engine.Layout C) (R piece out : List ℕ) (rules : List Rule) → (verdict rules ≡ 0 → ⊥)
     → Unchanged R out (feed rules E K R piece out)
 refused-unchanged E K R piece out rules v =
     rw (unfed E K R piece out rules v) (record { bytes = refl; pairs = refl; all = refl; words = refl; saved = refl })

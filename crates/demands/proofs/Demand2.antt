@@ -9,21 +9,22 @@ use native.Mathlib.Nat.{mul-add}
 use lib.ListN.{length, take}
 use borrow.Author.Tests.{eq-eqb}
 use Rattle.sets.specs.Set.{states, signatures, holds}
-use Rattle.lists.specs.Scan.{verdict}
+use Rattle.rules.specs.Rules.{verdict}
 use Rattle.lists.specs.Automaton.{accepted}
 use Rattle.lists.proofs.Steps.{accepted-exactly}
-use Rattle.flows.specs.Pairs.{Pair}
-use Rattle.flows.specs.Engine.{Engine, room, run, costs, told, consumed, ended, refused}
+use Rattle.feeds.specs.Pairs.{Pair}
+use Rattle.feeds.specs.Engine.{Engine, room, run, costs, told, consumed, ended, refused}
 use Rattle.flows.specs.Flow.{flowLayout, frontierOf, offsetOf, rowsOf, badFlow, otherStart}
-use Rattle.flows.specs.Calls.{Bytes, Asked, answer, Along}
-use Rattle.flows.proofs.Runs.{run-more, consumed-most, consumed-fits, consumed-longest, costs-most, bytes-take, length-take-most}
-use Rattle.flows.proofs.Told.{told-exactly, told-ordered}
-use Rattle.flows.proofs.Follows.{follows-within}
+use Rattle.feeds.specs.Calls.{Bytes, Asked, answer, Along}
+use Rattle.feeds.proofs.Runs.{run-more, consumed-most, consumed-fits, consumed-longest, costs-most, bytes-take, length-take-most}
+use Rattle.feeds.proofs.Told.{told-exactly, told-ordered}
+use Rattle.feeds.proofs.Follows.{follows-within}
 use Rattle.flows.proofs.Records.{frontier-lt, flow-good}
-use Rattle.flows.proofs.Moves.{feed-bytes, no-refusal, feed-moves}
-use Rattle.flows.proofs.Whole.{Sound, flow-sound, Pieces, Fair, whole, never-halts, one-engine, by-answer}
-use Rattle.flows.proofs.Cuts.{Equal, One}
-use Rattle.flows.proofs.Cuts as cut
+use Rattle.feeds.proofs.Moves.{feed-bytes, no-refusal, feed-moves}
+use Rattle.feeds.proofs.Whole.{Sound, Pieces, Fair, whole, never-halts, one-engine, by-answer}
+use Rattle.flows.proofs.Saved.{flow-sound}
+use Rattle.feeds.proofs.Cuts.{Equal, One}
+use Rattle.feeds.proofs.Cuts as cut
 use Rattle.plain.specs.Plain.{plain}
 use Rattle.plain.proofs.Plain.{plain-cheap, plain-kept}
 use Rattle.demands.specs.Calls.{Via, byList, Call, engineOf, asked, allAsked, outcome}

@@ -7,15 +7,16 @@ use lib.ListN.{length}
 use lib.Dec.{lit<}
 use lib.Pow.{pow-pos}
 use Rattle.sets.specs.Set.{states}
-use Rattle.lists.specs.Scan.{verdict}
+use Rattle.rules.specs.Rules.{verdict}
 use Rattle.lists.specs.Automaton.{start}
-use Rattle.lists.proofs.Rules.{verdict-lt}
+use Rattle.rules.proofs.Rules.{verdict-lt}
 use Rattle.lists.proofs.Steps.{start-lt}
-use Rattle.flows.specs.Engine.{Engine}
+use Rattle.feeds.specs.Engine.{Engine}
 use Rattle.flows.specs.Flow.{flowLayout, frontierOf, offsetOf, rowsOf}
-use Rattle.flows.specs.Calls.{answer, allRows}
+use Rattle.feeds.specs.Calls.{answer, allRows}
 use Rattle.flows.proofs.Records.{frontier-flow, offset-flow, rows-flow}
-use Rattle.flows.proofs.Whole.{Sound, flow-sound, Fair, whole, never-halts, ceiling, one-engine}
+use Rattle.feeds.proofs.Whole.{Sound, Fair, whole, never-halts, ceiling, one-engine}
+use Rattle.flows.proofs.Saved.{flow-sound}
 use Rattle.plain.specs.Plain.{plain, opened}
 use Rattle.tables.specs.Table.{Table, tableRefusal}
 use Rattle.tables.proofs.Accepted.{accepted}
@@ -77,7 +78,7 @@ module _ (L : List ℕ) (b : ℕ) (T : Table) (ok : tableRefusal L b T ≡ 0) wh
       let same = one-engine flowLayout (plain L) (AtSplit T) states sound (activeParts L T) refl (allAsked cs) R (start L) fair pieces at-start
       (each-along (Through L b T) (λ Q a. verdict (a .rules Q) ≡ 0 → (F G : ℕ) → AtSplit T F G → a .engine .cost F ≡ activeParts L T .cost G)
       (λ Q c f v F G r. ap (λ (E : Engine ℕ). E .cost F) (through-engine L b T c (f v .0) (f v .1)) ∙ ap (λ (H : ℕ). length (taken T H)) (r .0)) R cs h) in
-      let n : rowsOf (Rattle.flows.specs.Calls.recordAfter flowLayout R (allAsked cs)) ≡ allRows flowLayout R (allAsked cs) = w .rows ∙ rw (opened-rows L) (omega arith) in
+      let n : rowsOf (Rattle.feeds.specs.Calls.recordAfter flowLayout R (allAsked cs)) ≡ allRows flowLayout R (allAsked cs) = w .rows ∙ rw (opened-rows L) (omega arith) in
       record {
         never-14 =
             along-each (λ Q c. outcome Q c .refusal ≡ 14 → ⊥) (λ Q a. answer flowLayout Q a .refusal ≡ verdict (a .rules Q))

@@ -6,14 +6,15 @@ use mathlib.Core.List.{List}
 use native.Mathlib.Omega.{arith}
 use lib.ListN.{length}
 use Rattle.sets.specs.Set.{states}
-use Rattle.lists.specs.Scan.{verdict}
+use Rattle.rules.specs.Rules.{verdict}
 use Rattle.lists.specs.Automaton.{step, accepted}
-use Rattle.lists.proofs.Rules.{passes-front}
+use Rattle.rules.proofs.Rules.{passes-front}
 use Rattle.lists.proofs.Steps.{step-lt}
-use Rattle.flows.specs.Flow.{offsetOf, rowsOf, badFlow, mostOffset, feedRules}
-use Rattle.flows.specs.Calls.{Follows}
+use Rattle.feeds.specs.Engine.{mostOffset}
+use Rattle.flows.specs.Flow.{offsetOf, rowsOf, badFlow, feedRules}
+use Rattle.feeds.specs.Calls.{Follows}
 use Rattle.flows.proofs.Records.{good-flow}
-use Rattle.flows.proofs.Looping.{feed-passes}
+use Rattle.flows.proofs.Passing.{feed-passes}
 use Rattle.plain.specs.Plain.{plain}
 use Rattle.plain.proofs.Plain.{plain-cheap}
 use Rattle.tables.specs.Table.{Table, isSplit, sizeRules, tableRefusal}

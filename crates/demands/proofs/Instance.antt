@@ -5,8 +5,8 @@ use mathlib.Core.List.{List, [], _∷_}
 use native.Mathlib.Omega.{arith}
 use lib.Dec.{lit<}
 use Rattle.lists.specs.List.{badLength}
-use Rattle.lists.proofs.Rules.{stop}
-use Rattle.flows.specs.Calls.{Bytes}
+use Rattle.rules.proofs.Rules.{stop}
+use Rattle.feeds.specs.Calls.{Bytes}
 use Rattle.tables.specs.Table.{tableRefusal}
 use Rattle.demands.specs.Calls.{Call, byTable}
 use Rattle.demands.specs.Demands.{Through, Demand3}

@@ -3,9 +3,9 @@ use Prim.Native.Nat.{ℕ, _*_}
 use mathlib.Core.Path.{_≡_, refl, ap, _∙_}
 use mathlib.Core.List.{List, [], _∷_, _++_}
 use lib.ListN.{take}
-use Rattle.flows.specs.Calls.{recordAfter, allTold, allBytes}
-use Rattle.flows.specs.Fed.{Answers}
-use Rattle.flows.specs.declared.Fed.{Fed}
+use Rattle.feeds.specs.Calls.{recordAfter, allTold, allBytes}
+use Rattle.feeds.specs.Fed.{Answers}
+use Rattle.feeds.specs.declared.Fed.{Fed}
 use Rattle.plain.specs.Plain.{plainFeed}
 use Rattle.splits.specs.Split.{splitFeed}
 use Rattle.tables.specs.Table.{Table}

@@ -1,10 +1,10 @@
 -- Calls on a flow as a caller makes them: each has its own list, engine, stated start, piece and words.
 use Prim.Native.Nat.{ℕ}
 use mathlib.Core.List.{List, [], _∷_}
-use Rattle.lists.specs.Scan.{Rule}
-use Rattle.flows.specs.Engine.{Engine, Outcome}
+use Rattle.rules.specs.Rules.{Rule}
+use Rattle.feeds.specs.Engine.{Engine, Outcome}
 use Rattle.flows.specs.Flow.{flowLayout, feedRules}
-use Rattle.flows.specs.Calls.{Asked, answer}
+use Rattle.feeds.specs.Calls.{Asked, answer}
 use Rattle.plain.specs.Plain.{plain}
 use Rattle.tables.specs.Table.{Table}
 use Rattle.splits.specs.Split.{split, splitRules}

@@ -6,13 +6,13 @@ use mathlib.Core.Logic.{_⊎_, _↔_}
 use mathlib.Core.Path.{_≡_}
 use lib.ListN.{length, take}
 use Rattle.sets.specs.Set.{signatures, holds}
-use Rattle.lists.specs.Scan.{verdict, number, Given, Rises, Refuses}
+use Rattle.rules.specs.Rules.{verdict, number, Given, Rises, Refuses}
 use Rattle.lists.specs.List.{listRules, listRefusal}
 use Rattle.lists.specs.Automaton.{start, accepted}
-use Rattle.flows.specs.Pairs.{Pair, Before}
-use Rattle.flows.specs.Engine.{Engine, Outcome, run, costs, told, amount, room}
+use Rattle.feeds.specs.Pairs.{Pair, Before}
+use Rattle.feeds.specs.Engine.{Engine, Outcome, run, costs, told, amount, room}
 use Rattle.flows.specs.Flow.{flowLayout, frontierOf, offsetOf, rowsOf, badFlow, otherStart, feedRules}
-use Rattle.flows.specs.Calls.{Bytes, recordAfter, allTold, allBytes}
+use Rattle.feeds.specs.Calls.{Bytes, recordAfter, allTold, allBytes}
 use Rattle.plain.specs.Plain.{plain, opened, openPairs, pairsOf, openRules, openRefusal, openSaved, plainFeed}
 use Rattle.tables.specs.Table.{Table, tableRules, tableRefusal}
 use Rattle.splits.specs.Split.{taken, stuck, split, splitRules, splitFeed}

@@ -6,8 +6,8 @@ use mathlib.Core.Path.{_≡_}
 use lib.ListN.{replicate}
 use Rattle.sets.specs.Set.{states, signatures, setSize, digits, setBytes}
 use Rattle.lists.specs.List.{mostRecords, listRefusal}
-use Rattle.flows.specs.Engine.{Outcome}
-use Rattle.flows.specs.Flow.{mostOffset, flow, rowsOf}
+use Rattle.feeds.specs.Engine.{Outcome, mostOffset}
+use Rattle.flows.specs.Flow.{flow, rowsOf}
 use Rattle.plain.specs.Plain.{opened}
 use Rattle.tables.specs.Table.{Table, mostClass, mostParts, mostSplits, mostBound, tableRefusal}
 use Rattle.demands.specs.Calls.{Via, byList, byTable, outcome}

@@ -2,8 +2,8 @@
 use Prim.Native.Nat.{ℕ, _*_}
 use mathlib.Core.List.{List, [], _∷_, _++_}
 use lib.ListN.{take}
-use Rattle.flows.specs.declared.Fed.{Fed}
-use Rattle.flows.specs.Fed.{Answers}
+use Rattle.feeds.specs.declared.Fed.{Fed}
+use Rattle.feeds.specs.Fed.{Answers}
 use Rattle.demands.specs.Calls.{Call, outcome}
 
 -- a call, what the function answered, and the words and the record at its exit

@@ -1,13 +1,5 @@
-pub mod Runs
-pub mod Told
-pub mod Follows
 pub mod Records
 pub mod Refused
-pub mod Going
-pub mod Moves
-pub mod Whole
-pub mod Cuts
-pub mod Placing
-pub mod Telling
-pub mod Looping
+pub mod Passing
+pub mod Saved
 pub mod Unique

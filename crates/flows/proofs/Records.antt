@@ -2,20 +2,22 @@
 use Prim.Native.Nat.{ℕ, _+_, _*_, _^_, _≤_, _<_}
 use mathlib.Core.Path.{_≡_, sym, ap, ap₂, _∙_}
 use mathlib.Core.Bool.{false, _||_, not}
-use mathlib.Core.List.{List, _++_}
+use mathlib.Core.List.{List, _++_, append-assoc}
 use native.Mathlib.Omega.{arith}
 use lib.ListN.{length, take, drop, length-append, length-drop, take-append-drop}
 use lib.Seq.{take-at, drop-at, drop-drop, take-all, length-take-le}
 use lib.Dec.{eqb, ltb}
 use lib.Pow.{pow-pos}
 use borrow.Author.Tests.{eqb-true, eq-eqb, ltb-false, le-ltb, not-false}
-use Rattle.sets.specs.Set.{states, setSize, num, digits, setBytes, setAt}
+use Rattle.sets.specs.Set.{states, setSize, num, digits, setBytes, setAt, placed}
+use Rattle.sets.proofs.Placing.{placed-after, placed-all}
 use Rattle.sets.proofs.Laws.{num-digits, length-digits, digits-num, num-take-lt}
 use Rattle.sets.proofs.Sets.{set-at-lt}
-use Rattle.lists.proofs.Scanning.{neither}
-use Rattle.flows.specs.Flow.{flowSize, mostOffset, frontierOf, offsetOf, reservedOf, rowsOf, flow, wrongSize, badFlow}
-use Rattle.flows.specs.Calls.{Bytes}
-use Rattle.flows.proofs.Runs.{bytes-take, bytes-drop}
+use Rattle.rules.proofs.Scanning.{neither}
+use Rattle.feeds.specs.Engine.{mostOffset}
+use Rattle.flows.specs.Flow.{flowSize, frontierOf, offsetOf, reservedOf, rowsOf, flow, wrongSize, badFlow}
+use Rattle.feeds.specs.Calls.{Bytes}
+use Rattle.feeds.proofs.Runs.{bytes-take, bytes-drop}
 
 -- ---- written, then read
 
@@ -102,3 +104,23 @@ module _ (R : List ℕ) (h : Bytes R) where
     where
       join : (n at : ℕ) → take n (drop at R) ++ drop (at + n) R ≡ drop at R
       join n at = ap (λ (x : List ℕ). take n (drop at R) ++ x) (sym (drop-drop n at R)) ∙ take-append-drop n (drop at R)
+
+-- ---- written over an old one, its four fields one after the other
+
+pub placed-flow : (R : List ℕ) (F k n : ℕ) → length R ≡ flowSize
+    → placed (placed (placed (placed R 0 (setBytes F)) setSize (digits 8 4 k)) (setSize + 4) (digits 8 4 0)) (setSize + 8) (digits 8 8 n) ≡ flow F k n
+unfolding flow
+placed-flow R F k n e =
+    let a : length (setBytes F) ≡ setSize = length-digits 8 setSize F in
+    let b : length (digits 8 4 k) ≡ 4 = length-digits 8 4 k in
+    let c : length (digits 8 4 0) ≡ 4 = length-digits 8 4 0 in
+    let d : length (digits 8 8 n) ≡ 8 = length-digits 8 8 n in
+    let ab : length (setBytes F ++ digits 8 4 k) ≡ setSize + 4 = simp length-append (omega arith) in
+    let abc : length (setBytes F ++ digits 8 4 k ++ digits 8 4 0) ≡ setSize + 8 = simp length-append (omega arith) in
+    let abcd : length (setBytes F ++ digits 8 4 k ++ digits 8 4 0 ++ digits 8 8 n) ≡ length R = simp length-append (omega arith) in
+    rw (
+      placed-after R 0 (setBytes F) (digits 8 4 k) setSize (omega arith) (omega arith),
+      placed-after R 0 (setBytes F ++ digits 8 4 k) (digits 8 4 0) (setSize + 4) (omega arith) (omega arith),
+      placed-after R 0 (setBytes F ++ digits 8 4 k ++ digits 8 4 0) (digits 8 8 n) (setSize + 8) (omega arith) (omega arith),
+      placed-all R (setBytes F ++ digits 8 4 k ++ digits 8 4 0 ++ digits 8 8 n) abcd,
+    ) (simp append-assoc)

@@ -7,8 +7,9 @@ use mathlib.Core.Logic.{_⊎_, _↔_}
 use lib.ListN.{length}
 use lib.Dec.{eqb, ltb}
 use Rattle.sets.specs.Set.{states}
-use Rattle.lists.proofs.Scanning.{either-words, differ-words, over-words}
-use Rattle.flows.specs.Flow.{flowSize, mostOffset, offsetOf, reservedOf, rowsOf, wrongSize, badFlow, otherStart, tooLong}
+use Rattle.rules.proofs.Scanning.{either-words, differ-words, over-words}
+use Rattle.feeds.specs.Engine.{mostOffset}
+use Rattle.flows.specs.Flow.{flowSize, offsetOf, reservedOf, rowsOf, wrongSize, badFlow, otherStart, tooLong}
 
 module _ (R : List ℕ) where
   -- 4, at opening: the record has not the size of one

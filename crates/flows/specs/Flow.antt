@@ -5,16 +5,13 @@ use mathlib.Core.List.{List, [], _∷_, _++_}
 use lib.ListN.{length, take, drop}
 use lib.Dec.{ltb, eqb}
 use Rattle.sets.specs.Set.{states, setSize, num, digits, setBytes, setAt}
-use Rattle.lists.specs.Scan.{Rule}
+use Rattle.rules.specs.Rules.{Rule}
 use Rattle.lists.specs.List.{listRules}
-use Rattle.flows.specs.Engine.{Layout}
+use Rattle.feeds.specs.Engine.{Layout, mostOffset}
 
--- bytes of a record, and the largest offset
+-- bytes of a record
 abbrev pub flowSize : ℕ
 flowSize = setSize + 16
-
-abbrev pub mostOffset : ℕ
-mostOffset = 4294967295
 
 -- ---- its fields: frontier, offset (4 bytes), zero (4 bytes), rows read (8 bytes)
 

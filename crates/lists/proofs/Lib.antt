@@ -1,5 +1,3 @@
-pub mod Scanning
-pub mod Rules
 pub mod Listed
 pub mod Steps
 pub mod Frontier

@@ -11,10 +11,10 @@ use lib.Dec.{eqb}
 use borrow.Author.Tests.{eqb-true, eq-eqb, ltb-true, lt-ltb, leb-true, le-leb, not-true}
 use Rattle.sets.specs.Set.{states, signatures}
 use Rattle.sets.proofs.Sets.{or-false}
-use Rattle.lists.specs.Scan.{Refuses}
+use Rattle.rules.specs.Rules.{Refuses}
 use Rattle.lists.specs.List.{recordSize, mostRecords, records, byteOf, isEdge, isStart, isAccept, from, target, zeros, goodEdge, goodStart, goodAccept, goodRecord, badLength, badRecord, noStart, listRules, listRefusal}
-use Rattle.lists.proofs.Scanning.{both, every-at, every-all, length-words, some-none, none-some, refuses-exactly}
-use Rattle.lists.proofs.Rules.{refuses}
+use Rattle.rules.proofs.Scanning.{both, every-at, every-all, length-words, some-none, none-some, refuses-exactly}
+use Rattle.rules.proofs.Rules.{refuses}
 
 -- a row's number exactly when that row is the first that applies, 0 exactly when none applies
 pub list-refuses : (L : List ℕ) → Refuses (listRules L) (listRefusal L)

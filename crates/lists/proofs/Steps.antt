@@ -8,11 +8,11 @@ use lib.Dec.{leb}
 use borrow.Author.Tests.{leb-true, le-leb, not-false}
 use Rattle.sets.specs.Set.{states, signatures, holds, join}
 use Rattle.sets.proofs.Sets.{holds-empty, holds-join}
-use Rattle.lists.specs.Scan.{every, gather}
+use Rattle.rules.specs.Scan.{every, gather}
 use Rattle.lists.specs.List.{records, isEdge, isStart, isAccept, low, high, from, target, goodRecord, badRecord, listRefusal}
 use Rattle.lists.specs.Automaton.{edge, leaves, start, step, accepted}
-use Rattle.lists.proofs.Scanning.{and-false, both, every-at, gather-exactly, gather-lt, gather-none, gather-join}
-use Rattle.lists.proofs.Rules.{passes}
+use Rattle.rules.proofs.Scanning.{and-false, both, every-at, gather-exactly, gather-lt, gather-none, gather-join}
+use Rattle.rules.proofs.Rules.{passes}
 use Rattle.lists.proofs.Listed.{good-edge, good-accept, edge-good, accept-good}
 
 -- byte c takes edge record i

@@ -4,7 +4,7 @@ use mathlib.Core.Bool.{Bool, _&&_}
 use mathlib.Core.List.{List}
 use lib.Dec.{leb}
 use Rattle.sets.specs.Set.{states, signatures, holds}
-use Rattle.lists.specs.Scan.{gather}
+use Rattle.rules.specs.Scan.{gather}
 use Rattle.lists.specs.List.{records, isEdge, isStart, isAccept, low, high, from, target}
 
 -- record i is an edge that byte c takes: low ≤ c ≤ high

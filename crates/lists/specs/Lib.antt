@@ -1,3 +1,2 @@
-pub mod Scan
 pub mod List
 pub mod Automaton

@@ -5,7 +5,8 @@ use mathlib.Core.List.{List, [], _∷_}
 use lib.ListN.{length, getD}
 use lib.Dec.{leb, ltb, eqb}
 use Rattle.sets.specs.Set.{states, signatures}
-use Rattle.lists.specs.Scan.{some, every, Rule, verdict}
+use Rattle.rules.specs.Scan.{some, every}
+use Rattle.rules.specs.Rules.{Rule, verdict}
 
 -- ---- a record and its fields
 

@@ -15,9 +15,6 @@ pub const RECORD_SIZE: usize = 8;
 // The most records that a list may have.
 pub const MOST_RECORDS: usize = 4096;
 
-// The answer of the list check where no rule refuses.
-pub const PASSED: u32 = 0;
-
 // Byte 0 of a record, its kind: an edge, a start or an accept.
 const EDGE: u8 = 1;
 
@@ -198,7 +195,7 @@ pub fn check_list(l: &[u8]) -> u32
     if no_start(l) {
         return 3;
     }
-    PASSED
+    rules::PASSED
 }
 
 // Puts the target of record i into the words of a set, where the test holds.

@@ -8,7 +8,7 @@ use lib.Dec.{eqb}
 use borrow.Author.Tests.{eqb-true, eq-eqb, ne-eqb, not-false}
 use Rattle.lists.specs.List.{listRules}
 use Rattle.lists.specs.Automaton.{start}
-use Rattle.lists.proofs.Rules.{passes, passes-front, verdict-then}
+use Rattle.rules.proofs.Rules.{passes, passes-front, verdict-then}
 use Rattle.flows.specs.Flow.{flowSize, flow, wrongSize}
 use Rattle.plain.specs.Plain.{openRefusal, openSaved}
 

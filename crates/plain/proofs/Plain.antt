@@ -7,12 +7,12 @@ use lib.ListN.{length, take}
 use lib.Dec.{ltb}
 use Rattle.sets.specs.Set.{states}
 use Rattle.sets.proofs.Members.{members-size, members-most}
-use Rattle.lists.specs.Scan.{Rule, verdict}
+use Rattle.rules.specs.Rules.{Rule, verdict}
 use Rattle.lists.proofs.Steps.{step-lt}
-use Rattle.lists.proofs.Scanning.{and-false}
-use Rattle.flows.specs.Engine.{Layout, room, consumed, ended, feed}
+use Rattle.rules.proofs.Scanning.{and-false}
+use Rattle.feeds.specs.Engine.{Layout, room, consumed, ended, feed}
 use Rattle.flows.specs.Flow.{feedRules}
-use Rattle.flows.proofs.Moves.{feed-ends, feed-refused}
+use Rattle.feeds.proofs.Moves.{feed-ends, feed-refused}
 use Rattle.plain.specs.Plain.{plain, plainFeed}
 
 -- at most all states for a byte

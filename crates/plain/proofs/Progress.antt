@@ -5,11 +5,11 @@ use mathlib.Core.List.{List}
 use native.Mathlib.Omega.{arith}
 use lib.ListN.{length}
 use Rattle.sets.specs.Set.{signatures}
-use Rattle.flows.specs.Engine.{room}
-use Rattle.flows.specs.Flow.{offsetOf, mostOffset, feedRules}
-use Rattle.flows.proofs.Runs.{consumed-most}
-use Rattle.flows.proofs.Looping.{feed-passes}
-use Rattle.flows.proofs.Moves.{feed-bytes, no-refusal, feed-moves}
+use Rattle.feeds.specs.Engine.{room, mostOffset}
+use Rattle.flows.specs.Flow.{offsetOf, feedRules}
+use Rattle.feeds.proofs.Runs.{consumed-most}
+use Rattle.flows.proofs.Passing.{feed-passes}
+use Rattle.feeds.proofs.Moves.{feed-bytes, no-refusal, feed-moves}
 use Rattle.plain.specs.Plain.{plain, plainFeed}
 
 pub record Progress (L R : List ℕ) (at : ℕ) (piece out : List ℕ) : Type 0 where

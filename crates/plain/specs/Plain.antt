@@ -4,10 +4,10 @@ use mathlib.Core.Bool.{false, cond}
 use mathlib.Core.List.{List, [], _∷_, _++_}
 use lib.Dec.{eqb}
 use Rattle.sets.specs.Set.{states, size}
-use Rattle.lists.specs.Scan.{Rule, verdict}
+use Rattle.rules.specs.Rules.{Rule, verdict}
 use Rattle.lists.specs.List.{listRules}
 use Rattle.lists.specs.Automaton.{start, step, accepted}
-use Rattle.flows.specs.Engine.{Engine, told, Outcome, feed}
+use Rattle.feeds.specs.Engine.{Engine, told, Outcome, feed}
 use Rattle.flows.specs.Flow.{flow, flowLayout, wrongSize, feedRules}
 
 -- the automaton itself: a byte costs as many rows as the frontier before it has states, and nothing halts

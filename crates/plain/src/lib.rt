@@ -1,15 +1,15 @@
 // Opening a flow, and the plain feed: the automaton runs over a piece, byte by byte.
-use flows::Fed;
+use feeds::Fed;
 use sets::StateSet;
 ghost use mathlib.Core.Path.{_≡_};
 ghost use Prim.Native.Nat.{_+_, _≤_};
 ghost use lib.ListN.{length};
 ghost use Rattle.sets.specs.Set.{setOf};
-ghost use Rattle.lists.specs.Scan.{verdict};
-ghost use Rattle.flows.specs.Engine.{room, consumed};
-ghost use Rattle.flows.specs.Flow.{mostOffset, feedRules};
-ghost use Rattle.flows.specs.Fed.{Answers};
-ghost use Rattle.flows.proofs.Going.{Going};
+ghost use Rattle.rules.specs.Rules.{verdict};
+ghost use Rattle.feeds.specs.Engine.{room, consumed, mostOffset};
+ghost use Rattle.flows.specs.Flow.{feedRules};
+ghost use Rattle.feeds.specs.Fed.{Answers};
+ghost use Rattle.feeds.proofs.Going.{Going};
 ghost use Rattle.plain.specs.Plain.{plain, openRefusal, plainFeed};
 ghost use Rattle.plain.specs.Opens.{Opens};
 
@@ -26,13 +26,13 @@ fn open_refusal(l: &[u8], r: &[u8]) -> u32
     ensures { λ res. ⌜ res ≡ openRefusal (now (l .entry)) (now (r .entry)) ⌝ }
 {
     let listed = lists::check_list(l);
-    if listed != lists::PASSED {
+    if listed != rules::PASSED {
         return listed;
     }
     if r.len() != flows::FLOW_SIZE {
         return 4;
     }
-    lists::PASSED
+    rules::PASSED
 }
 
 // Opens a flow: its record then has the start states, offset 0 and no rows read. A refusal leaves it as it is.
@@ -40,11 +40,11 @@ pub fn open_flow(l: &[u8], r: &mut [u8]) -> u32
     ensures { λ res. ⌜ Opens (now (l .entry)) (now (r .entry)) res (now (r .exit)) ⌝ }
 {
     let refusal = open_refusal(l, r);
-    if refusal != lists::PASSED {
+    if refusal != rules::PASSED {
         return refusal;
     }
     flows::save(r, lists::start_set(l), 0, 0);
-    lists::PASSED
+    rules::PASSED
 }
 
 // The check of a feed: the number of the first of the rules 1 to 6 that refuses it, 0 where none does.
@@ -52,7 +52,7 @@ fn feed_refusal(l: &[u8], r: &[u8], at: u64, piece: &[u8]) -> u32
     ensures { λ res. ⌜ res ≡ verdict (feedRules (now (l .entry)) (now (r .entry)) at (now (piece .entry))) ⌝ }
 {
     let listed = lists::check_list(l);
-    if listed != lists::PASSED {
+    if listed != rules::PASSED {
         return listed;
     }
     flows::flow_refusal(r, at, piece)
@@ -79,7 +79,7 @@ fn feed_bytes(l: &[u8], first: StateSet, offset: u64, piece: &[u8], out: &mut [u
                 rows: rows,
             };
         }
-        flows::tell(out, words, g, (offset + i as u64 + 1) as u32);
+        feeds::tell(out, words, g, (offset + i as u64 + 1) as u32);
         words = words + 2 * n;
         rows = rows + f.count() as u64;
         f = next;
@@ -97,7 +97,7 @@ pub fn feed(l: &[u8], r: &mut [u8], at: u64, piece: &[u8], out: &mut [u32]) -> F
     ensures { λ res. ⌜ Answers (plainFeed (now (l .entry)) (now (r .entry)) at (now (piece .entry)) (now (out .entry))) res (now (out .exit)) (now (r .exit)) ⌝ }
 {
     let verdict = feed_refusal(l, r, at, piece);
-    if verdict != lists::PASSED {
+    if verdict != rules::PASSED {
         return Fed {
             refusal: verdict,
             bytes: 0,
@@ -110,7 +110,7 @@ pub fn feed(l: &[u8], r: &mut [u8], at: u64, piece: &[u8], out: &mut [u32]) -> F
     let ran = feed_bytes(l, StateSet::load(r, 0), offset, piece, out);
     flows::save(r, ran.frontier, offset + ran.bytes as u64, rows + ran.rows);
     Fed {
-        refusal: lists::PASSED,
+        refusal: rules::PASSED,
         bytes: ran.bytes,
         pairs: ran.words / 2,
         all: ran.bytes == piece.len(),

@@ -9,14 +9,15 @@ use lib.ListN.{length}
 use lib.Dec.{ltb}
 use borrow.Author.Tests.{lt-ltb, le-ltb}
 use Rattle.sets.specs.Set.{setSize}
-use Rattle.lists.specs.Scan.{verdict}
-use Rattle.lists.proofs.Scanning.{and-false}
-use Rattle.lists.proofs.Rules.{verdict-then, passes-front}
-use Rattle.flows.specs.Engine.{room, consumed}
-use Rattle.flows.specs.Flow.{mostOffset, offsetOf, badFlow, feedRules}
-use Rattle.flows.specs.Calls.{Bytes}
-use Rattle.flows.proofs.Going.{Going, stop}
-use Rattle.flows.proofs.Looping.{rows-most, feed-passes}
+use Rattle.rules.specs.Rules.{verdict}
+use Rattle.rules.proofs.Scanning.{and-false}
+use Rattle.rules.proofs.Rules.{verdict-then, passes-front}
+use Rattle.feeds.specs.Engine.{room, consumed, mostOffset}
+use Rattle.flows.specs.Flow.{offsetOf, badFlow, feedRules}
+use Rattle.feeds.specs.Calls.{Bytes}
+use Rattle.feeds.proofs.Going.{Going, stop}
+use Rattle.feeds.proofs.Looping.{rows-most}
+use Rattle.flows.proofs.Passing.{feed-passes}
 use Rattle.tables.specs.Table.{Table, classCount, partCount, sizeRules}
 use Rattle.tables.proofs.Ordered.{rows-there}
 use Rattle.splits.specs.Split.{stuck, split, splitRules}

@@ -8,8 +8,8 @@ use native.Mathlib.Omega.{arith}
 use lib.ListN.{length, getD}
 use lib.Dec.{leb, ltb, eqb}
 use borrow.Author.Tests.{leb-true, le-leb}
-use Rattle.lists.specs.Scan.{first}
-use Rattle.lists.proofs.Scanning.{either-words, over-words, first-found, first-none}
+use Rattle.rules.specs.Scan.{first}
+use Rattle.rules.proofs.Scanning.{either-words, over-words, first-found, first-none}
 use Rattle.tables.specs.Table.{Table, partCount, splitCount, splitSet, allBelow, isSplit}
 use Rattle.tables.proofs.Joined.{below-fails}
 use Rattle.tables.proofs.Checked.{no-split}

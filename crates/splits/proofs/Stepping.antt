@@ -8,8 +8,8 @@ use lib.ListN.{length}
 use lib.Dec.{ltb, leb, eqb}
 use borrow.Author.Tests.{eqb-true, le-leb, lt-leb}
 use Rattle.sets.specs.Set.{setOf}
-use Rattle.lists.specs.Scan.{some, first}
-use Rattle.lists.proofs.Scanning.{neither, first-at, first-none, first-found}
+use Rattle.rules.specs.Scan.{some, first}
+use Rattle.rules.proofs.Scanning.{neither, first-at, first-none, first-found}
 use Rattle.tables.specs.Table.{Table, partCount, splitCount, row, splitSet, slots, takenSlots, allBelow, joined, isSplit}
 use Rattle.splits.specs.Split.{splitOf, taken, stuck, splitStep}
 use Rattle.splits.specs.declared.Taken.{Taken}

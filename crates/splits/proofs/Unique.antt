@@ -2,9 +2,9 @@
 use Prim.Native.Nat.{ℕ}
 use mathlib.Core.Path.{_≡_}
 use mathlib.Core.List.{List}
-use Rattle.flows.specs.declared.Fed.{Fed}
-use Rattle.flows.specs.Fed.{Answers}
-use Rattle.flows.proofs.Unique.{unique-answers}
+use Rattle.feeds.specs.declared.Fed.{Fed}
+use Rattle.feeds.specs.Fed.{Answers}
+use Rattle.feeds.proofs.Unique.{unique-answers}
 use Rattle.tables.specs.Table.{Table}
 use Rattle.splits.specs.Split.{splitFeed}
 

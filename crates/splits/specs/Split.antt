@@ -4,9 +4,10 @@ use mathlib.Core.Bool.{Bool, _||_, not}
 use mathlib.Core.List.{List, _++_}
 use lib.ListN.{length}
 use lib.Dec.{leb, ltb, eqb}
-use Rattle.lists.specs.Scan.{first, Rule}
+use Rattle.rules.specs.Scan.{first}
+use Rattle.rules.specs.Rules.{Rule}
 use Rattle.lists.specs.Automaton.{accepted}
-use Rattle.flows.specs.Engine.{Engine, Outcome, feed}
+use Rattle.feeds.specs.Engine.{Engine, Outcome, feed}
 use Rattle.flows.specs.Flow.{flowLayout, feedRules}
 use Rattle.tables.specs.Table.{Table, partCount, splitCount, row, splitSet, slots, takenSlots, allBelow, joined, sizeRules}
 

@@ -1,5 +1,5 @@
 // The split feed: each byte is moved by the rows of the split that is the frontier, and the list gives the pairs.
-use flows::Fed;
+use feeds::Fed;
 use sets::StateSet;
 ghost use mathlib.Core.Path.{_≡_};
 ghost use mathlib.Core.Bool.{_&&_, cond};
@@ -7,11 +7,10 @@ ghost use Prim.Native.Nat.{_+_, _*_, _≤_, _<_};
 ghost use lib.ListN.{length};
 ghost use lib.Dec.{ltb};
 ghost use Rattle.sets.specs.Set.{setSize, setOf};
-ghost use Rattle.lists.specs.Scan.{verdict};
-ghost use Rattle.flows.specs.Engine.{room, consumed};
-ghost use Rattle.flows.specs.Flow.{mostOffset};
-ghost use Rattle.flows.specs.Fed.{Answers};
-ghost use Rattle.flows.proofs.Going.{Going};
+ghost use Rattle.rules.specs.Rules.{verdict};
+ghost use Rattle.feeds.specs.Engine.{room, consumed, mostOffset};
+ghost use Rattle.feeds.specs.Fed.{Answers};
+ghost use Rattle.feeds.proofs.Going.{Going};
 ghost use Rattle.tables.specs.Table.{classCount, partCount, splitCount, rowAt, slots, takenSlots};
 ghost use Rattle.splits.specs.Split.{splitOf, stuck, split, splitRules, splitFeed};
 ghost use Rattle.splits.specs.Taken.{TakesSlots, TakesStep};
@@ -127,11 +126,11 @@ fn feed_refusal(
     ensures { λ res. ⌜ res ≡ verdict (splitRules (now (l .entry)) bound (record { classes = now (classes .entry); parts = now (parts .entry); rows = now (rows .entry); splits = now (splits .entry) }) (now (r .entry)) at (now (piece .entry))) ⌝ }
 {
     let listed = lists::check_list(l);
-    if listed != lists::PASSED {
+    if listed != rules::PASSED {
         return listed;
     }
     let met = flows::flow_refusal(r, at, piece);
-    if met != lists::PASSED {
+    if met != rules::PASSED {
         return met;
     }
     tables::size_refusal(bound, classes, parts, rows, splits)
@@ -157,7 +156,7 @@ fn feed_bytes(
 {
     let k = tables::class_count(classes);
     let mut ran = Ran {
-        refusal: lists::PASSED,
+        refusal: rules::PASSED,
         frontier: first,
         bytes: 0,
         words: 0,
@@ -178,12 +177,12 @@ fn feed_bytes(
         if left < n {
             return ran;
         }
-        flows::tell(out, ran.words, g, (offset + i as u64 + 1) as u32);
+        feeds::tell(out, ran.words, g, (offset + i as u64 + 1) as u32);
         let words = ran.words + 2 * n;
         let spent = ran.rows + t.rows;
         let bytes = i + 1;
         ran = Ran {
-            refusal: lists::PASSED,
+            refusal: rules::PASSED,
             frontier: next,
             bytes: bytes,
             words: words,
@@ -209,7 +208,7 @@ pub fn feed(
     ensures { λ res. ⌜ Answers (splitFeed (now (l .entry)) bound (record { classes = now (classes .entry); parts = now (parts .entry); rows = now (rows .entry); splits = now (splits .entry) }) (now (r .entry)) at (now (piece .entry)) (now (out .entry))) res (now (out .exit)) (now (r .exit)) ⌝ }
 {
     let refusal = feed_refusal(l, bound, classes, parts, rows, splits, r, at, piece);
-    if refusal != lists::PASSED {
+    if refusal != rules::PASSED {
         return Fed {
             refusal: refusal,
             bytes: 0,

@@ -11,10 +11,11 @@ use lib.ListN.{length, getD}
 use lib.Dec.{eqb, ltb}
 use borrow.Author.Tests.{eqb-false, eq-eqb, ne-eqb, ltb-true, lt-ltb, le-ltb, le-leb, not-true}
 use Rattle.sets.specs.Set.{setSize}
-use Rattle.lists.specs.Scan.{every, Refuses}
+use Rattle.rules.specs.Scan.{every}
+use Rattle.rules.specs.Rules.{Refuses}
 use Rattle.lists.specs.Automaton.{start, step}
-use Rattle.lists.proofs.Scanning.{choose, either-words, equal-words, differ-words, over-words, length-words, some-none, none-some, refuses-exactly}
-use Rattle.lists.proofs.Rules.{refuses}
+use Rattle.rules.proofs.Scanning.{choose, either-words, equal-words, differ-words, over-words, length-words, some-none, none-some, refuses-exactly}
+use Rattle.rules.proofs.Rules.{refuses}
 use Rattle.tables.specs.Table.{Table, byteValues, mostClass, mostParts, mostSplits, mostBound, splitSize, largest, classCount, partCount, splitCount, part, row, splitSet, slots, usedSlots, takenSlots, joined, isSplit, badBound, badClasses, badCount, badRowsLength, badLengths, goodSlots, inOrder, badSplits, badRows, badUnion, noStartSplit, notClosed, tableRules, tableRefusal}
 use Rattle.tables.proofs.Entries.{largest-at}
 use Rattle.tables.proofs.Accepted.{Slots-good, slots-said, accepted, accepts}

@@ -11,8 +11,8 @@ use borrow.Author.Tests.{ne-eqb, lt-ltb, le-ltb}
 use Rattle.sets.specs.Set.{setBytes, bytesAt, before}
 use Rattle.sets.proofs.Laws.{Small}
 use Rattle.sets.proofs.Order.{before-irrefl, before-trans}
-use Rattle.lists.specs.Scan.{every}
-use Rattle.lists.proofs.Scanning.{below-suc, choose, some-intro, some-none, every-at}
+use Rattle.rules.specs.Scan.{every}
+use Rattle.rules.proofs.Scanning.{below-suc, choose, some-intro, some-none, every-at}
 use Rattle.tables.specs.Table.{splitSize, splitCount, splitSet, isSplit, inOrder}
 use Rattle.tables.proofs.Entries.{split-bytes}
 

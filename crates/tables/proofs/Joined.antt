@@ -12,7 +12,7 @@ use lib.Dec.{ltb, leb}
 use borrow.Author.Tests.{ltb-true, leb-true, le-leb, lt-ltb}
 use Rattle.sets.specs.Set.{join}
 use Rattle.lists.specs.Automaton.{step}
-use Rattle.lists.proofs.Scanning.{both}
+use Rattle.rules.proofs.Scanning.{both}
 use Rattle.lists.proofs.Steps.{step-join, step-empty}
 use Rattle.tables.specs.Table.{unusedSlot, usedSlots, takenSlots, allBelow, rising, joined}
 

@@ -8,11 +8,12 @@ use lib.ListN.{length}
 use lib.Dec.{ltb, eqb}
 use borrow.Author.Tests.{eqb-true, ltb-false, not-false}
 use Rattle.sets.specs.Set.{setSize}
-use Rattle.lists.specs.Scan.{every, verdict}
+use Rattle.rules.specs.Scan.{every}
+use Rattle.rules.specs.Rules.{verdict}
 use Rattle.lists.specs.List.{listRules, listRefusal}
 use Rattle.lists.specs.Automaton.{start, step}
-use Rattle.lists.proofs.Scanning.{both, neither, every-at, every-all, every-same}
-use Rattle.lists.proofs.Rules.{passes, skip, stop, last, verdict-first, verdict-then}
+use Rattle.rules.proofs.Scanning.{both, neither, every-at, every-all, every-same}
+use Rattle.rules.proofs.Rules.{passes, skip, stop, last, verdict-first, verdict-then}
 use Rattle.tables.specs.Table.{Table, byteValues, mostParts, classCount, partCount, splitCount, part, row, splitSet, slots, usedSlots, allBelow, joined, isSplit, badClasses, badCount, badRowsLength, badLengths, goodSlots, inOrder, badSplits, badRows, badUnion, noStartSplit, notClosed, sizeRules, tableRefusal, splitSize, mostSplits}
 use Rattle.tables.proofs.Joined.{step-joined, joined-same}
 use Rattle.tables.proofs.Accepted.{slots-said}

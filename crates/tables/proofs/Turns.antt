@@ -3,8 +3,8 @@ use Prim.Native.Nat.{ℕ, _+_, _<_}
 use mathlib.Core.Path.{_≡_, refl, sym, ap, _∙_}
 use mathlib.Core.Bool.{Bool, true, false}
 use native.Mathlib.Numerals.{add-one}
-use Rattle.lists.specs.Scan.{every}
-use Rattle.lists.proofs.Scanning.{every-fails}
+use Rattle.rules.specs.Scan.{every}
+use Rattle.rules.proofs.Scanning.{every-fails}
 
 pub every-none : (p : ℕ → Bool) → every 0 p ≡ true
 unfolding every

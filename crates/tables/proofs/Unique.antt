@@ -6,7 +6,7 @@ use lib.ListN.{getD}
 use Rattle.sets.specs.declared.StateSet.{StateSet}
 use Rattle.sets.specs.Set.{setWords, setOf}
 use Rattle.sets.proofs.Sets.{Words, set-one}
-use Rattle.lists.specs.Scan.{verdict}
+use Rattle.rules.specs.Rules.{verdict}
 use Rattle.tables.specs.Table.{Table, classCount, partCount, splitCount, rowAt, slots, sizeRules, tableRefusal}
 
 -- ---- numbers and answers

@@ -5,7 +5,8 @@ use mathlib.Core.List.{List, [], _∷_, _++_}
 use lib.ListN.{length, getD}
 use lib.Dec.{leb, ltb, eqb}
 use Rattle.sets.specs.Set.{setSize, bytesAt, setAt, before, join}
-use Rattle.lists.specs.Scan.{some, every, Rule, verdict}
+use Rattle.rules.specs.Scan.{some, every}
+use Rattle.rules.specs.Rules.{Rule, verdict}
 use Rattle.lists.specs.List.{word, listRules}
 use Rattle.lists.specs.Automaton.{start, step}
 

@@ -1,5 +1,5 @@
 // The program of the vectors: it replays the commands of standard input through the library, and writes a line for each that answers.
-use flows::Fed;
+use feeds::Fed;
 ghost use mathlib.Core.Path.{_≡_};
 ghost use Prim.Native.Nat.{_<_};
 ghost use lib.ListN.{length};

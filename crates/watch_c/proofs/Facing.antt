@@ -3,9 +3,9 @@ use Prim.Native.Nat.{ℕ}
 use mathlib.Core.Bool.{Bool}
 use mathlib.Core.Path.{_≡_, sym, ap, _∙_}
 use mathlib.Core.List.{List}
-use Rattle.flows.specs.Engine.{Outcome}
-use Rattle.flows.specs.declared.Fed.{Fed}
-use Rattle.flows.specs.Fed.{Answers}
+use Rattle.feeds.specs.Engine.{Outcome}
+use Rattle.feeds.specs.declared.Fed.{Fed}
+use Rattle.feeds.specs.Fed.{Answers}
 use Rattle.watch_c.specs.declared.WatchFed.{WatchFed}
 use Rattle.watch_c.specs.Face.{Faces, FaceAnswers}
 

@@ -2,8 +2,8 @@
 use Prim.Native.Nat.{ℕ}
 use mathlib.Core.Path.{_≡_}
 use mathlib.Core.List.{List}
-use Rattle.flows.specs.Engine.{Outcome}
-use Rattle.flows.specs.declared.Fed.{Fed}
+use Rattle.feeds.specs.Engine.{Outcome}
+use Rattle.feeds.specs.declared.Fed.{Fed}
 use Rattle.watch_c.specs.declared.WatchFed.{WatchFed}
 
 -- the same four values

@@ -1,5 +1,5 @@
 // The C face: the library's five functions under names of their own, over numbers and slices. Nothing else is here.
-use flows::Fed;
+use feeds::Fed;
 ghost use mathlib.Core.Path.{_≡_};
 ghost use Rattle.lists.specs.List.{listRefusal};
 ghost use Rattle.plain.specs.Plain.{plainFeed};

@@ -4,7 +4,7 @@ use native.Mathlib.Omega.{arith}
 use Prim.Native.Nat.{_≤_, _+_}
 use lib.ListN.{length}
 use mathlib.Core.Path.{_≡_}
-use Rattle.flows.specs.Flow.{mostOffset}
+use Rattle.feeds.specs.Engine.{mostOffset}
 use Rattle.app.proofs.feed_piece.Statement.{statement}
 use Rattle.app.proofs.feed_piece.Tie as tie
 

@@ -6,8 +6,9 @@ use Prim.Native.Nat.{_+_, _≤_}
 use native.Mathlib.Omega.{arith}
 use lib.ListN.{length}
 use borrow.Author.Tests.{eq-eqb, ne-eqb, lt-ltb, le-ltb}
-use Rattle.lists.proofs.Rules.{skip, stop, last}
-use Rattle.flows.specs.Flow.{mostOffset, offsetOf, badFlow, otherStart}
+use Rattle.rules.proofs.Rules.{skip, stop, last}
+use Rattle.feeds.specs.Engine.{mostOffset}
+use Rattle.flows.specs.Flow.{offsetOf, badFlow, otherStart}
 use Rattle.flows.proofs.Records.{offset-lt}
 use Rattle.flows.proofs.flow_refusal.Statement.{statement}
 use Rattle.flows.proofs.flow_refusal.Tie as tie

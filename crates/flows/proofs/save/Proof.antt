@@ -5,7 +5,7 @@ use lib.ListN.{length}
 use borrow.Author.Tests.{eq-eqb, ne-eqb}
 use Rattle.sets.specs.Set.{setOf}
 use Rattle.flows.specs.Flow.{flowSize}
-use Rattle.flows.proofs.Placing.{placed-flow}
+use Rattle.flows.proofs.Records.{placed-flow}
 use Rattle.flows.proofs.save.Statement.{statement}
 use Rattle.flows.proofs.save.Tie as tie
 

@@ -7,7 +7,7 @@ use native.Mathlib.Numerals.{add-one}
 use lib.ListN.{length}
 use Rattle.sets.specs.Set.{signatures, sigWords, num}
 use Rattle.sets.proofs.Sets.{empty-words}
-use Rattle.lists.specs.Scan.{gather}
+use Rattle.rules.specs.Scan.{gather}
 use Rattle.lists.specs.List.{records, isAccept, target}
 use Rattle.lists.specs.Automaton.{leaves, accepted}
 use Rattle.lists.proofs.accepted.Statement.{statement}

@@ -6,9 +6,9 @@ use Prim.Native.Nat.{_≤_, _-_}
 use native.Mathlib.Omega.{arith}
 use native.Mathlib.Numerals.{add-one}
 use borrow.Author.Tests.{not-true, not-false}
-use Rattle.lists.specs.Scan.{every}
+use Rattle.rules.specs.Scan.{every}
 use Rattle.lists.specs.List.{goodRecord, badRecord, records}
-use Rattle.lists.proofs.Scanning.{every-fails}
+use Rattle.rules.proofs.Scanning.{every-fails}
 use Rattle.lists.proofs.bad_record.Statement.{statement}
 use Rattle.lists.proofs.bad_record.Tie as tie
 

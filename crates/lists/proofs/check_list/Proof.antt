@@ -1,7 +1,7 @@
 -- `check_list` tests the rules in their order, so each return is the table's verdict. Assumes nothing.
 use borrow.Author.Needs.{needs}
 use mathlib.Core.Path.{sym, _∙_}
-use Rattle.lists.proofs.Rules.{skip, stop, last}
+use Rattle.rules.proofs.Rules.{skip, stop, last}
 use Rattle.lists.proofs.check_list.Statement.{statement}
 use Rattle.lists.proofs.check_list.Tie as tie
 

@@ -4,7 +4,7 @@ use lib.Dec.{eqb}
 use Rattle.sets.proofs.Sets.{holds-pow}
 use Rattle.lists.specs.List.{from}
 use Rattle.lists.specs.Automaton.{edge}
-use Rattle.lists.proofs.Scanning.{and-comm}
+use Rattle.rules.proofs.Scanning.{and-comm}
 use Rattle.lists.proofs.leaves.Statement.{statement}
 use Rattle.lists.proofs.leaves.Tie as tie
 

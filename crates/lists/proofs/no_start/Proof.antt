@@ -5,9 +5,9 @@ use mathlib.Core.Bool.{false, not}
 use Prim.Native.Nat.{_≤_, _-_}
 use native.Mathlib.Omega.{arith}
 use native.Mathlib.Numerals.{add-one}
-use Rattle.lists.specs.Scan.{some}
+use Rattle.rules.specs.Scan.{some}
 use Rattle.lists.specs.List.{isStart, noStart, records}
-use Rattle.lists.proofs.Scanning.{some-intro}
+use Rattle.rules.proofs.Scanning.{some-intro}
 use Rattle.lists.proofs.no_start.Statement.{statement}
 use Rattle.lists.proofs.no_start.Tie as tie
 

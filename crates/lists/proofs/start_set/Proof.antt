@@ -7,7 +7,7 @@ use native.Mathlib.Numerals.{add-one}
 use lib.ListN.{length}
 use Rattle.sets.specs.Set.{states, setWords, num}
 use Rattle.sets.proofs.Sets.{empty-words}
-use Rattle.lists.specs.Scan.{gather}
+use Rattle.rules.specs.Scan.{gather}
 use Rattle.lists.specs.List.{records, isStart, target}
 use Rattle.lists.specs.Automaton.{start}
 use Rattle.lists.proofs.start_set.Statement.{statement}

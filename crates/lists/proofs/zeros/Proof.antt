@@ -5,7 +5,7 @@ use Prim.Native.Nat.{_≤_, _-_, _+_}
 use native.Mathlib.Omega.{arith}
 use native.Mathlib.Numerals.{add-one}
 use lib.Dec.{eqb}
-use Rattle.lists.specs.Scan.{every}
+use Rattle.rules.specs.Scan.{every}
 use Rattle.lists.specs.List.{byteOf}
 use Rattle.lists.proofs.zeros.Statement.{statement}
 use Rattle.lists.proofs.zeros.Tie as tie

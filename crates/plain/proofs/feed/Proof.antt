@@ -8,11 +8,13 @@ use lib.ListN.{length}
 use lib.Dec.{ltb, eqb}
 use borrow.Author.Tests.{eq-eqb}
 use Rattle.sets.specs.Set.{states, setOf}
-use Rattle.lists.specs.Scan.{verdict}
-use Rattle.lists.proofs.Scanning.{and-false}
-use Rattle.flows.specs.Flow.{flowSize, mostOffset, frontierOf, offsetOf, badFlow, flowLayout, feedRules}
+use Rattle.rules.specs.Rules.{verdict}
+use Rattle.rules.proofs.Scanning.{and-false}
+use Rattle.feeds.specs.Engine.{mostOffset}
+use Rattle.flows.specs.Flow.{flowSize, frontierOf, offsetOf, badFlow, flowLayout, feedRules}
 use Rattle.flows.proofs.Records.{good-flow}
-use Rattle.flows.proofs.Looping.{rows-most, feed-passes, answers-fed, answers-refused}
+use Rattle.feeds.proofs.Looping.{rows-most, answers-fed, answers-refused}
+use Rattle.flows.proofs.Passing.{feed-passes}
 use Rattle.plain.specs.Plain.{plain}
 use Rattle.plain.proofs.Plain.{plain-cheap}
 use Rattle.plain.proofs.feed.Statement.{statement}

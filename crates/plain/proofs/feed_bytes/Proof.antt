@@ -6,8 +6,8 @@ use native.Mathlib.Omega.{arith}
 use lib.ListN.{length}
 use Rattle.sets.specs.Set.{states, setOf, sigsOf}
 use Rattle.lists.specs.Automaton.{accepted}
-use Rattle.flows.proofs.Going.{Going, start, finish, length-kept}
-use Rattle.flows.proofs.Looping.{words-fit, rows-most, more-by, stop-by}
+use Rattle.feeds.proofs.Going.{Going, start, finish, length-kept}
+use Rattle.feeds.proofs.Looping.{words-fit, rows-most, more-by, stop-by}
 use Rattle.plain.specs.Plain.{plain}
 use Rattle.plain.proofs.Plain.{plain-cheap}
 use Rattle.plain.proofs.feed_bytes.Statement.{statement}

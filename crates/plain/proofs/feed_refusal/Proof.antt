@@ -2,9 +2,8 @@
 use borrow.Author.Needs.{needs}
 use mathlib.Core.Path.{refl, sym, _∙_}
 use Rattle.lists.specs.List.{listRules}
-use Rattle.lists.proofs.Rules.{verdict-then}
+use Rattle.rules.proofs.Rules.{verdict-then, verdict-refused}
 use Rattle.flows.specs.Flow.{flowRules}
-use Rattle.flows.proofs.Looping.{verdict-refused}
 use Rattle.plain.proofs.feed_refusal.Statement.{statement}
 use Rattle.plain.proofs.feed_refusal.Tie as tie
 

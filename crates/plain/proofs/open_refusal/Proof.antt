@@ -4,11 +4,10 @@ use mathlib.Core.Path.{_≡_, refl, sym, ap, _∙_}
 use mathlib.Core.Bool.{not}
 use mathlib.Core.List.{[], _∷_}
 use borrow.Author.Tests.{eq-eqb, ne-eqb}
-use Rattle.lists.specs.Scan.{verdict}
+use Rattle.rules.specs.Rules.{verdict}
 use Rattle.lists.specs.List.{listRules}
-use Rattle.lists.proofs.Rules.{stop, last, verdict-then}
+use Rattle.rules.proofs.Rules.{stop, last, verdict-then, verdict-refused}
 use Rattle.flows.specs.Flow.{wrongSize}
-use Rattle.flows.proofs.Looping.{verdict-refused}
 use Rattle.plain.specs.Plain.{openRefusal}
 use Rattle.plain.proofs.open_refusal.Statement.{statement}
 use Rattle.plain.proofs.open_refusal.Tie as tie

@@ -7,10 +7,11 @@ use Prim.Native.Nat.{_+_, _*_, _≤_}
 use native.Mathlib.Omega.{arith}
 use lib.ListN.{length}
 use Rattle.sets.specs.Set.{setSize, setOf}
-use Rattle.lists.specs.Scan.{verdict}
-use Rattle.flows.specs.Flow.{flowSize, mostOffset, offsetOf, badFlow, flowLayout}
+use Rattle.rules.specs.Rules.{verdict}
+use Rattle.feeds.specs.Engine.{mostOffset}
+use Rattle.flows.specs.Flow.{flowSize, offsetOf, badFlow, flowLayout}
 use Rattle.flows.proofs.Records.{good-flow}
-use Rattle.flows.proofs.Looping.{answers-fed, answers-refused}
+use Rattle.feeds.proofs.Looping.{answers-fed, answers-refused}
 use Rattle.tables.specs.Table.{Table, classCount, partCount}
 use Rattle.splits.specs.Split.{split, splitRules}
 use Rattle.splits.proofs.Feeding.{split-passes, rows-few}

@@ -7,9 +7,9 @@ use native.Mathlib.Omega.{arith}
 use lib.ListN.{length}
 use Rattle.sets.specs.Set.{setOf, sigsOf}
 use Rattle.lists.specs.Automaton.{accepted}
-use Rattle.flows.specs.Flow.{mostOffset}
-use Rattle.flows.proofs.Going.{Going, start, finish, length-kept}
-use Rattle.flows.proofs.Looping.{words-fit, more-by, stop-by}
+use Rattle.feeds.specs.Engine.{mostOffset}
+use Rattle.feeds.proofs.Going.{Going, start, finish, length-kept}
+use Rattle.feeds.proofs.Looping.{words-fit, more-by, stop-by}
 use Rattle.tables.specs.Table.{Table}
 use Rattle.splits.specs.Split.{stuck, split}
 use Rattle.splits.proofs.Stepping.{split-cheap}

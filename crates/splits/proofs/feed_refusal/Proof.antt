@@ -1,11 +1,10 @@
 -- `feed_refusal` tests the list, the flow and the sizes, so each return is the verdict of their rules. Assumes nothing.
 use borrow.Author.Needs.{needs}
 use mathlib.Core.Path.{_≡_, refl, sym, _∙_}
-use Rattle.lists.specs.Scan.{verdict}
+use Rattle.rules.specs.Rules.{verdict}
 use Rattle.lists.specs.List.{listRules}
-use Rattle.lists.proofs.Rules.{verdict-then}
+use Rattle.rules.proofs.Rules.{verdict-then, verdict-refused}
 use Rattle.flows.specs.Flow.{flowRules, feedRules}
-use Rattle.flows.proofs.Looping.{verdict-refused}
 use Rattle.tables.specs.Table.{Table, sizeRules}
 use Rattle.splits.proofs.feed_refusal.Statement.{statement}
 use Rattle.splits.proofs.feed_refusal.Tie as tie

@@ -5,7 +5,7 @@ use mathlib.Core.Path.{_≡_, sym, ap, _∙_}
 use mathlib.Core.Bool.{true, _&&_}
 use Prim.Native.Nat.{ℕ}
 use Rattle.sets.specs.Set.{before}
-use Rattle.lists.specs.Scan.{every}
+use Rattle.rules.specs.Scan.{every}
 use Rattle.lists.specs.Automaton.{start}
 use Rattle.tables.specs.Table.{Table, splitCount, slots, isSplit, goodSlots, inOrder}
 use Rattle.tables.proofs.Ordered.{refused-9, refused-10, refused-11, refused-12, refused-13, passed, few-parts, splits-ordered, splits-below, rows-closed, goodSplits, goodRows, goodUnions, closed}

@@ -9,7 +9,7 @@ use native.Mathlib.Omega.{arith}
 use lib.ListN.{drop}
 use lib.Dec.{ltb, leb}
 use Rattle.sets.specs.Set.{before}
-use Rattle.lists.proofs.Scanning.{choose, both}
+use Rattle.rules.proofs.Scanning.{choose, both}
 use Rattle.tables.specs.Table.{slots, goodSlots}
 use Rattle.tables.proofs.Entries.{slots-cons, slots-end}
 use Rattle.tables.proofs.Slots.{rest, rest-start, rest-end, rest-unused, rest-bad, rest-good}

@@ -6,8 +6,8 @@ use mathlib.Core.Bool.{true}
 use Prim.Native.Nat.{_-_, _≤_}
 use native.Mathlib.Omega.{arith}
 use Rattle.sets.specs.Set.{before}
-use Rattle.lists.specs.Scan.{every}
-use Rattle.lists.proofs.Scanning.{every-at}
+use Rattle.rules.specs.Scan.{every}
+use Rattle.rules.proofs.Scanning.{every-at}
 use Rattle.tables.specs.Table.{byteValues, mostParts, splitCount, row, slots, usedSlots, allBelow, joined, isSplit}
 use Rattle.tables.proofs.Turns.{every-none, every-more, every-stops, every-ends}
 use Rattle.tables.proofs.leads.Statement.{statement}

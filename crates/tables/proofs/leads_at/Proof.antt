@@ -6,7 +6,7 @@ use mathlib.Core.Bool.{true}
 use Prim.Native.Nat.{_-_, _≤_}
 use native.Mathlib.Omega.{arith}
 use Rattle.sets.specs.Set.{before}
-use Rattle.lists.specs.Scan.{every}
+use Rattle.rules.specs.Scan.{every}
 use Rattle.tables.specs.Table.{byteValues, row, slots, usedSlots, joined, isSplit}
 use Rattle.tables.proofs.Turns.{every-none, every-more, every-stops, every-ends}
 use Rattle.tables.proofs.leads_at.Statement.{statement}

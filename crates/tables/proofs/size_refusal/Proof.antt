@@ -2,7 +2,7 @@
 use borrow.Author.Needs.{needs}
 use mathlib.Core.Path.{sym, _∙_}
 use Rattle.sets.specs.Set.{before}
-use Rattle.lists.proofs.Rules.{skip, stop, last}
+use Rattle.rules.proofs.Rules.{skip, stop, last}
 use Rattle.tables.proofs.size_refusal.Statement.{statement}
 use Rattle.tables.proofs.size_refusal.Tie as tie
 

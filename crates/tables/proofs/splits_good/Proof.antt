@@ -6,7 +6,7 @@ use mathlib.Core.Bool.{Bool, true, _&&_}
 use Prim.Native.Nat.{_-_, _≤_}
 use native.Mathlib.Omega.{arith}
 use Rattle.sets.specs.Set.{before}
-use Rattle.lists.specs.Scan.{every}
+use Rattle.rules.specs.Scan.{every}
 use Rattle.tables.specs.Table.{splitCount, slots, goodSlots, inOrder}
 use Rattle.tables.proofs.Turns.{every-none, every-more, every-stops, every-ends}
 use Rattle.tables.proofs.splits_good.Statement.{statement}

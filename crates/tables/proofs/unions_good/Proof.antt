@@ -7,7 +7,7 @@ use Prim.Native.Nat.{ℕ, _-_, _≤_}
 use native.Mathlib.Omega.{arith}
 use lib.Dec.{eqb}
 use Rattle.sets.specs.Set.{before}
-use Rattle.lists.specs.Scan.{every}
+use Rattle.rules.specs.Scan.{every}
 use Rattle.tables.specs.Table.{splitCount, part, splitSet, slots, usedSlots, joined}
 use Rattle.tables.proofs.Turns.{every-none, every-more, every-stops, every-ends}
 use Rattle.tables.proofs.unions_good.Statement.{statement}

@@ -1,0 +1,10 @@
+pub mod Runs
+pub mod Told
+pub mod Follows
+pub mod Going
+pub mod Moves
+pub mod Whole
+pub mod Cuts
+pub mod Telling
+pub mod Looping
+pub mod Unique

@@ -1,0 +1,81 @@
+-- What the code of any feed cites: a turn of its loop with the words that `tell` leaves, its two exits, and the answer. Assumes nothing.
+use Prim.Native.Nat.{ℕ, _+_, _*_, _-_, _/_, _≤_, _<_}
+use mathlib.Core.Path.{_≡_, refl, sym, ap, _∙_}
+use mathlib.Core.Bool.{false, _&&_, cond}
+use mathlib.Core.List.{List, _++_, append-assoc}
+use mathlib.Core.Logic.{inr}
+use native.Mathlib.Omega.{arith}
+use native.Mathlib.Numerals.{add-one}
+use lib.ListN.{length, getD, take, drop}
+use lib.Seq.{length-take-le}
+use lib.Dec.{ltb, eqb}
+use Rattle.sets.specs.Set.{signatures, size, members, placed}
+use Rattle.sets.proofs.Members.{members-size}
+use Rattle.rules.specs.Rules.{Rule, verdict}
+use Rattle.feeds.specs.declared.Fed.{Fed}
+use Rattle.feeds.specs.Engine.{Engine, Layout, room, feed, due, pairsAt, consumed}
+use Rattle.feeds.specs.Calls.{Bytes}
+use Rattle.feeds.specs.Fed.{Answers}
+use Rattle.feeds.proofs.Runs.{pairsAt-length, costs-most, bytes-take}
+use Rattle.feeds.proofs.Going.{Going, words-even, length-kept, more, stop, fed, unfed}
+use Rattle.sets.proofs.Placing.{placed-fits}
+
+module _ {C : Type 0} (E : Engine C) (x₀ : C) (k₀ : ℕ) (piece out₀ : List ℕ) (x : C) (out : List ℕ) (i w n : ℕ) (g : Going E x₀ k₀ piece out₀ x out i w n) where
+  -- the words written are among the words that are there
+  pub words-fit : w ≤ length out
+  words-fit = omega (arith, words-even E x₀ k₀ piece out₀ x out i w n g, length-kept E x₀ k₀ piece out₀ x out i w n g, g .fits)
+
+  -- at most b rows for each byte, where each configuration that is met keeps to b
+  pub rows-most : (P : C → Type 0) → ((y : C) (c : ℕ) → c < 256 → P y → P (E .next y c)) → (b : ℕ) → ((y : C) → P y → E .cost y ≤ b)
+      → P x₀ → Bytes piece → n ≤ b * i
+  rows-most P kept b cheap p h =
+      let e : b * length (take i piece) ≡ b * i = ap (λ (m : ℕ). b * m) (length-take-le i piece (g .short)) in
+      omega (arith, g .spent, costs-most E P kept b cheap x₀ (take i piece) p (bytes-take i piece h))
+
+  -- at a byte whose alerts are the d members of D
+  module _ (D d : ℕ) (l : i < length piece) (alerts : D ≡ E .alerts x (getD piece i 0)) (amount : d ≡ size signatures D) where
+    due-of : due E x (getD piece i 0) ≡ members signatures D
+    unfolding due
+    due-of = ap (members signatures) (sym alerts)
+
+    due-many : length (due E x (getD piece i 0)) ≡ d
+    due-many = ap (λ (gs : List ℕ). length gs) due-of ∙ members-size signatures D ∙ sym amount
+
+    -- where they fit, the byte is consumed
+    pub more-by : E .halts x ≡ false → d ≤ (length out - w) / 2 → (y : C) → y ≡ E .next x (getD piece i 0)
+        → (o : List ℕ) → o ≡ placed out w (pairsAt (k₀ + i + 1) (members signatures D)) → (r : ℕ) → r ≡ E .cost x
+        → Going E x₀ k₀ piece out₀ y o (i + 1) (w + 2 * d) (n + r)
+    more-by h f y ey o eo r er =
+        let v = words-even E x₀ k₀ piece out₀ x out i w n g in
+        let k = length-kept E x₀ k₀ piece out₀ x out i w n g in
+        let m = more E x₀ k₀ piece out₀ x out i w n g l h (omega (arith, due-many)) in
+        let ps = pairsAt (k₀ + i + 1) (members signatures D) in
+        let q : length (pairsAt (k₀ + i + 1) (members signatures D)) ≡ 2 * d = omega (arith, pairsAt-length (k₀ + i + 1) (members signatures D), members-size signatures D) in
+        let s : o ≡ take w out ++ (pairsAt (k₀ + i + 1) (due E x (getD piece i 0)) ++ drop (w + 2 * length (due E x (getD piece i 0))) out) =
+        eo ∙ placed-fits out w ps (omega (arith, words-fit)) ∙ append-assoc (take w out) ps (drop (w + length ps) out) ∙ rw (q, due-of, ← due-many, due-of) in
+        rw (ey, s, er, ← due-many, add-one i) m
+
+    -- where they do not, the loop ends
+    pub stop-by : (length out - w) / 2 < d → consumed E x₀ (room out₀) piece ≡ i
+    stop-by f =
+        stop E x₀ k₀ piece out₀ x out i w n g l
+        (inr (omega (arith, due-many, words-even E x₀ k₀ piece out₀ x out i w n g, length-kept E x₀ k₀ piece out₀ x out i w n g)))
+
+-- ---- the answer
+
+module _ {C : Type 0} (E : Engine C) (K : Layout C) (R piece out₀ : List ℕ) (rules : List Rule) (f : Fed) where
+  -- the loop stops where the definition does, and what it leaves is answered and saved
+  pub answers-fed : (x : C) (out : List ℕ) (i w n : ℕ) → Going E (K .config R) (K .offset R) piece out₀ x out i w n
+      → verdict rules ≡ 0 → consumed E (K .config R) (room out₀) piece ≡ i
+      → f .refusal ≡ cond (ltb i (length piece) && E .halts x) 14 0 → f .bytes ≡ i → f .pairs ≡ w / 2 → f .all ≡ eqb i (length piece)
+      → (sv : List ℕ) → sv ≡ K .save x (K .offset R + i) (K .rows R + n)
+      → Answers (feed rules E K R piece out₀) f out sv
+  answers-fed x out i w n g v e refusal bytes pairs all sv saved =
+      rw (fed E K R piece out₀ x out i w n g rules v e)
+      (record { refusal = refusal; bytes = bytes; pairs = pairs; all = all; words = refl; saved = saved })
+
+  -- a rule refuses: nothing is consumed, and nothing changes
+  pub answers-refused : (verdict rules ≡ 0 → ⊥) → f .refusal ≡ verdict rules → f .bytes ≡ 0 → f .pairs ≡ 0 → f .all ≡ false
+      → Answers (feed rules E K R piece out₀) f out₀ R
+  answers-refused v refusal bytes pairs all =
+      rw (unfed E K R piece out₀ rules v) (record { refusal = refusal; bytes = bytes; pairs = pairs; all = all; words = refl; saved = refl })

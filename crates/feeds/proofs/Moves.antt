@@ -1,0 +1,76 @@
+-- A feed that gives no refusal consumes a front of its piece, and with room for all signatures at least a byte. Assumes nothing.
+use Prim.Native.Nat.{ℕ, zero, suc, _≤_, _<_}
+use mathlib.Core.Path.{_≡_, refl, sym, ap, _∙_}
+use mathlib.Core.Bool.{Bool, true, false}
+use mathlib.Core.List.{List, [], _∷_}
+use native.Mathlib.Omega.{arith}
+use native.Mathlib.Decide.{ℕ-discrete}
+use lib.ListN.{length, take}
+use lib.Seq.{length-take-le}
+use borrow.Author.Tests.{eq-eqb, lt-ltb}
+use Rattle.sets.specs.Set.{signatures}
+use Rattle.rules.specs.Rules.{Rule, verdict}
+use Rattle.feeds.specs.Engine.{Engine, Layout, Outcome, room, run, consumed, ended, feed}
+use Rattle.feeds.proofs.Runs.{told-length, consumed-most, consumed-fits, moves}
+use Rattle.feeds.proofs.Going.{unfed}
+
+module _ {C : Type 0} (E : Engine C) (K : Layout C) (R : List ℕ) where
+  -- an engine that halts at once consumes nothing, and the refusal is 14
+  halts-first : (n c : ℕ) (cs : List ℕ) → E .halts (K .config R) ≡ true → consumed E (K .config R) n (c ∷ cs) ≡ 0
+  unfolding consumed
+  halts-first n c cs h = rw h
+
+  halts-14 : (out : List ℕ) (c : ℕ) (cs : List ℕ) → E .halts (K .config R) ≡ true
+      → ended E K R (take (consumed E (K .config R) (room out) (c ∷ cs)) (c ∷ cs)) (suc (length cs)) out .refusal ≡ 14
+  unfolding ended run
+  halts-14 out c cs h = rw (halts-first (room out) c cs h, lt-ltb 0 (suc (length cs)) (omega arith), h)
+
+  -- so one that ends without a refusal does not
+  ends-free : (out piece : List ℕ) → zero < length piece
+      → ended E K R (take (consumed E (K .config R) (room out) piece) piece) (length piece) out .refusal ≡ 0 → E .halts (K .config R) ≡ false
+  ends-free out [] l z = absurd (omega arith)
+  ends-free out (c ∷ cs) l z = go (E .halts (K .config R)) refl
+    where
+      go : (t : Bool) → E .halts (K .config R) ≡ t → t ≡ false
+      go true e = absurd (omega (arith, z, halts-14 out c cs e))
+      go false e = refl
+
+  moves-on : (n : ℕ) (piece : List ℕ) → zero < length piece → signatures ≤ n → E .halts (K .config R) ≡ false → zero < consumed E (K .config R) n piece
+  moves-on n [] l r h = absurd (omega arith)
+  moves-on n (c ∷ cs) l r h = moves E (K .config R) n c cs r h
+
+  module _ (rules : List Rule) (piece out : List ℕ) where
+    -- where no rule refuses, the front consumed is the longest
+    pub feed-ends : verdict rules ≡ 0 → feed rules E K R piece out ≡ ended E K R (take (consumed E (K .config R) (room out) piece) piece) (length piece) out
+    unfolding feed
+    feed-ends v = rw (eq-eqb (verdict rules) 0 v)
+
+    pub feed-bytes : verdict rules ≡ 0 → feed rules E K R piece out .bytes ≡ consumed E (K .config R) (room out) piece
+    unfolding ended
+    feed-bytes v =
+        rw (feed-ends v) (length-take-le (consumed E (K .config R) (room out) piece) piece (consumed-most E (K .config R) (room out) piece))
+
+    -- the pairs fit the room, also where a rule refuses
+    pub feed-fits : feed rules E K R piece out .pairs ≤ room out
+    unfolding ended
+    feed-fits =
+        elim (ℕ-discrete (verdict rules) 0) [
+          | yes v ↦ rw (feed-ends v, told-length E (K .config R) (K .offset R) (take (consumed E (K .config R) (room out) piece) piece))
+              (omega (arith, consumed-fits E (K .config R) (room out) piece))
+          | no n ↦ rw (unfed E K R piece out rules n) (omega arith)
+        ]
+
+    -- where one does, the refusal is its number
+    pub feed-refused : (verdict rules ≡ 0 → ⊥) → feed rules E K R piece out .refusal ≡ verdict rules
+    feed-refused v = rw (unfed E K R piece out rules v)
+
+    -- no refusal: no rule applies
+    pub no-refusal : feed rules E K R piece out .refusal ≡ 0 → verdict rules ≡ 0
+    no-refusal z = elim (ℕ-discrete (verdict rules) 0) [ yes v ↦ v | no n ↦ absurd (n (sym (feed-refused n) ∙ z)) ]
+
+    -- no refusal, room for all signatures, and a byte to feed: at least a byte
+    pub feed-moves : feed rules E K R piece out .refusal ≡ 0 → zero < length piece → signatures ≤ room out → zero < feed rules E K R piece out .bytes
+    feed-moves z l r =
+        let v = no-refusal z in
+        rw (feed-bytes v)
+        (moves-on (room out) piece l r (ends-free out piece l (sym (ap (λ (o : Outcome). o .refusal) (feed-ends v)) ∙ z)))

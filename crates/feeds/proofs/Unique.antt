@@ -1,0 +1,30 @@
+-- Each promise of the public functions determines the outcome: two outcomes that meet it are equal. Assumes nothing.
+use mathlib.Core.Path.{_≡_, sym, ap, _∙_}
+use mathlib.Core.List.{List}
+use mathlib.Core.Bool.{Bool}
+use Prim.Native.Nat.{ℕ}
+use Rattle.sets.specs.Set.{signatures, members, placed}
+use Rattle.feeds.specs.declared.Fed.{Fed}
+use Rattle.feeds.specs.Engine.{Outcome, pairsAt}
+use Rattle.feeds.specs.Fed.{Answers}
+
+-- telling leaves one list of words
+pub unique-tell : (r q out : List ℕ) (at k G : ℕ)
+    → r ≡ placed out at (pairsAt k (members signatures G)) → q ≡ placed out at (pairsAt k (members signatures G)) → r ≡ q
+unique-tell r q out at k G e f = e ∙ sym f
+
+-- answers with the same fields are the same
+fed-one : (f g : Fed) → f .refusal ≡ g .refusal → f .bytes ≡ g .bytes → f .pairs ≡ g .pairs → f .all ≡ g .all → f ≡ g
+fed-one f g a b c d =
+    ap {B = Fed} (λ (x : ℕ). record { refusal = x; bytes = f .bytes; pairs = f .pairs; all = f .all }) a
+    ∙ ap {B = Fed} (λ (x : ℕ). record { refusal = g .refusal; bytes = x; pairs = f .pairs; all = f .all }) b
+    ∙ ap {B = Fed} (λ (x : ℕ). record { refusal = g .refusal; bytes = g .bytes; pairs = x; all = f .all }) c
+    ∙ ap {B = Fed} (λ (x : Bool). record { refusal = g .refusal; bytes = g .bytes; pairs = g .pairs; all = x }) d
+
+-- what answers one outcome is one answer, and leaves the same words and the same record
+pub unique-answers : (o : Outcome) (f g : Fed) (ws vs sv tv : List ℕ) → Answers o f ws sv → Answers o g vs tv → (f ≡ g) × (ws ≡ vs) × (sv ≡ tv)
+unique-answers o f g ws vs sv tv a b = (
+  fed-one f g (a .refusal ∙ sym (b .refusal)) (a .bytes ∙ sym (b .bytes)) (a .pairs ∙ sym (b .pairs)) (a .all ∙ sym (b .all)),
+  a .words ∙ sym (b .words),
+  a .saved ∙ sym (b .saved),
+)

@@ -1,0 +1,37 @@
+-- `tell_word` goes through the bytes of the word, the lowest first; the invariant is that what it told and what is left are all. Assumes nothing.
+use borrow.Author.Needs.{needs}
+use Prim.Native.Nat.{_*_, _^_}
+use native.Mathlib.Omega.{arith}
+use Rattle.feeds.proofs.Telling.{Left, left-all, left-at, left-low, left-more, left-none}
+use Rattle.feeds.proofs.tell_word.Statement.{statement}
+use Rattle.feeds.proofs.tell_word.Tie as tie
+
+abbrev Inv-loop : tie.InvT-loop
+Inv-loop out₀ at word base offset w₀ rest₀ s₀ out w rest s = Left out₀ at offset (word * 2 ^ base) out w rest s
+
+abbrev μ-loop : tie.MeasureT-loop
+μ-loop out₀ at word base offset w₀ rest₀ s₀ out w rest s = rest
+
+loop-holds : tie.Need-loop-holds Inv-loop μ-loop
+loop-holds c = let a = c .before .args in left-all (a .out .now) (a .at) (a .offset) (a .word) (a .base) (c .before .pre .0)
+
+tell-byte-requires : tie.Need-tell-byte-requires Inv-loop μ-loop
+tell-byte-requires c κs = left-low (c .before .before .loop .inv) (c .before .before .before .before .pre .1) 8
+
+add-s : tie.Need-add-s Inv-loop μ-loop
+add-s c = omega (arith, left-at (c .before .before .before .before .before .loop .inv) (c .before .before .before .before .loop-test .taken))
+
+loop-less : tie.Need-loop-less Inv-loop μ-loop
+loop-less c = search needs
+
+loop-again : tie.Need-loop-again Inv-loop μ-loop
+loop-again c = left-more (c .before .before .before .before .before .loop .inv) (c .before .before .before .before .before .before .before .pre .1) 8 _ _ (c .before .before .tell-byte .ensures)
+
+same-length : tie.Need-same-length Inv-loop μ-loop
+same-length c = c .before .loop .inv .kept
+
+returns : tie.Need-returns Inv-loop μ-loop
+returns c = left-none (c .before .loop .inv) (c .before .before .before .pre .1) (c .loop-test .left)
+
+pub tell-word-spec : {M : Type 1} → statement M
+tell-word-spec = tie.close (tie.spec Inv-loop μ-loop loop-holds tell-byte-requires add-s loop-less loop-again same-length returns)

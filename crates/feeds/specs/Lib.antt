@@ -1,0 +1,4 @@
+pub mod Pairs
+pub mod Engine
+pub mod Calls
+pub mod Fed

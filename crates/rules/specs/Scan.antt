@@ -1,0 +1,24 @@
+-- The words in which every rule scans: some, every, first, gather.
+use Prim.Native.Nat.{ℕ, zero, suc}
+use mathlib.Core.Bool.{Bool, true, false, _&&_, _||_, cond}
+use Rattle.sets.specs.Set.{insert}
+
+-- p holds of some number below n
+unfoldable pub some : ℕ → (ℕ → Bool) → Bool
+some zero p = false
+some (suc n) p = some n p || p n
+
+-- p holds of every number below n
+unfoldable pub every : ℕ → (ℕ → Bool) → Bool
+every zero p = true
+every (suc n) p = every n p && p n
+
+-- the first number below n of which p holds; n where there is none
+unfoldable pub first : ℕ → (ℕ → Bool) → ℕ
+first zero p = zero
+first (suc n) p = cond (some n p) (first n p) (cond (p n) n (suc n))
+
+-- the set of the numbers `to i` below m, for each i below n of which p holds
+unfoldable pub gather : ℕ → (ℕ → Bool) → (ℕ → ℕ) → ℕ → ℕ
+gather m p to zero = 0
+gather m p to (suc n) = cond (p n) (insert m (gather m p to n) (to n)) (gather m p to n)
