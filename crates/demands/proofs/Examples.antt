@@ -11,7 +11,7 @@ use Rattle.rules.specs.Rules.{verdict}
 use Rattle.lists.specs.List.{goodRecord, badLength, badRecord, noStart}
 use Rattle.lists.specs.Automaton.{start, step, accepted}
 use Rattle.feeds.specs.Engine.{run, costs, due, pairsAt, told, consumed, ended, feed}
-use Rattle.flows.specs.Flow.{flow, badFlow}
+use Rattle.flows.specs.Flow.{flowBytes, badFlow}
 use Rattle.tables.specs.Table.{largest, part, row, splitSet, slots, usedSlots, takenSlots, allBelow, rising, joined, badClasses, badCount, badRowsLength, badLengths, goodSlots, inOrder, badSplits, badRows, badUnion, noStartSplit, notClosed, tableRefusal}
 use Rattle.splits.specs.Split.{splitOf, taken, stuck, splitStep}
 use Rattle.demands.specs.Examples.{Row, Agree, feedRows, acceptedRow, boundRow, closedRow, startRow, examples}
@@ -47,23 +47,23 @@ agree-sound (r ∷ rs) t =
 
 -- each row that runs the table check is computed by itself, and the feeds' rows together
 accepted-holds : T (same (acceptedRow .0) (acceptedRow .1))
-unfolding num digits holds join insert size onesIn members setAt before some every first gather verdict goodRecord badLength badRecord noStart start step accepted run costs due pairsAt told consumed ended feed flow badFlow largest part row splitSet slots usedSlots takenSlots allBelow rising joined badClasses badCount badRowsLength badLengths goodSlots inOrder badSplits badRows badUnion noStartSplit notClosed tableRefusal splitOf taken stuck splitStep
+unfolding num digits holds join insert size onesIn members setAt before some every first gather verdict goodRecord badLength badRecord noStart start step accepted run costs due pairsAt told consumed ended feed flowBytes badFlow largest part row splitSet slots usedSlots takenSlots allBelow rising joined badClasses badCount badRowsLength badLengths goodSlots inOrder badSplits badRows badUnion noStartSplit notClosed tableRefusal splitOf taken stuck splitStep
 accepted-holds = tt
 
 bound-holds : T (same (boundRow .0) (boundRow .1))
-unfolding num digits holds join insert size onesIn members setAt before some every first gather verdict goodRecord badLength badRecord noStart start step accepted run costs due pairsAt told consumed ended feed flow badFlow largest part row splitSet slots usedSlots takenSlots allBelow rising joined badClasses badCount badRowsLength badLengths goodSlots inOrder badSplits badRows badUnion noStartSplit notClosed tableRefusal splitOf taken stuck splitStep
+unfolding num digits holds join insert size onesIn members setAt before some every first gather verdict goodRecord badLength badRecord noStart start step accepted run costs due pairsAt told consumed ended feed flowBytes badFlow largest part row splitSet slots usedSlots takenSlots allBelow rising joined badClasses badCount badRowsLength badLengths goodSlots inOrder badSplits badRows badUnion noStartSplit notClosed tableRefusal splitOf taken stuck splitStep
 bound-holds = tt
 
 closed-holds : T (same (closedRow .0) (closedRow .1))
-unfolding num digits holds join insert size onesIn members setAt before some every first gather verdict goodRecord badLength badRecord noStart start step accepted run costs due pairsAt told consumed ended feed flow badFlow largest part row splitSet slots usedSlots takenSlots allBelow rising joined badClasses badCount badRowsLength badLengths goodSlots inOrder badSplits badRows badUnion noStartSplit notClosed tableRefusal splitOf taken stuck splitStep
+unfolding num digits holds join insert size onesIn members setAt before some every first gather verdict goodRecord badLength badRecord noStart start step accepted run costs due pairsAt told consumed ended feed flowBytes badFlow largest part row splitSet slots usedSlots takenSlots allBelow rising joined badClasses badCount badRowsLength badLengths goodSlots inOrder badSplits badRows badUnion noStartSplit notClosed tableRefusal splitOf taken stuck splitStep
 closed-holds = tt
 
 start-holds : T (same (startRow .0) (startRow .1))
-unfolding num digits holds join insert size onesIn members setAt before some every first gather verdict goodRecord badLength badRecord noStart start step accepted run costs due pairsAt told consumed ended feed flow badFlow largest part row splitSet slots usedSlots takenSlots allBelow rising joined badClasses badCount badRowsLength badLengths goodSlots inOrder badSplits badRows badUnion noStartSplit notClosed tableRefusal splitOf taken stuck splitStep
+unfolding num digits holds join insert size onesIn members setAt before some every first gather verdict goodRecord badLength badRecord noStart start step accepted run costs due pairsAt told consumed ended feed flowBytes badFlow largest part row splitSet slots usedSlots takenSlots allBelow rising joined badClasses badCount badRowsLength badLengths goodSlots inOrder badSplits badRows badUnion noStartSplit notClosed tableRefusal splitOf taken stuck splitStep
 start-holds = tt
 
 feeds-hold : T (agree feedRows)
-unfolding num digits holds join insert size onesIn members setAt before some every first gather verdict goodRecord badLength badRecord noStart start step accepted run costs due pairsAt told consumed ended feed flow badFlow largest part row splitSet slots usedSlots takenSlots allBelow rising joined badClasses badCount badRowsLength badLengths goodSlots inOrder badSplits badRows badUnion noStartSplit notClosed tableRefusal splitOf taken stuck splitStep
+unfolding num digits holds join insert size onesIn members setAt before some every first gather verdict goodRecord badLength badRecord noStart start step accepted run costs due pairsAt told consumed ended feed flowBytes badFlow largest part row splitSet slots usedSlots takenSlots allBelow rising joined badClasses badCount badRowsLength badLengths goodSlots inOrder badSplits badRows badUnion noStartSplit notClosed tableRefusal splitOf taken stuck splitStep
 feeds-hold = tt
 
 pub examples-hold : Agree examples

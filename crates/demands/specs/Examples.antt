@@ -7,7 +7,7 @@ use lib.ListN.{replicate}
 use Rattle.sets.specs.Set.{states, signatures, setSize, digits, setBytes}
 use Rattle.lists.specs.List.{mostRecords, listRefusal}
 use Rattle.feeds.specs.Engine.{Outcome, mostOffset}
-use Rattle.flows.specs.Flow.{flow, rowsOf}
+use Rattle.flows.specs.Flow.{flowBytes, rowsOf}
 use Rattle.plain.specs.Plain.{opened}
 use Rattle.tables.specs.Table.{Table, mostClass, mostParts, mostSplits, mostBound, tableRefusal}
 use Rattle.demands.specs.Calls.{Via, byList, byTable, outcome}
@@ -141,7 +141,7 @@ feedRows =
     -- T without its split {0,2}, fed "abab": 14 at the third byte, after the pair (7, 2); with room 0 the pause comes first
     ∷ (answered (splitABAB 2 (s0 ++ s01) 4), 14 ∷ 2 ∷ 1 ∷ 0 ∷ [])
     ∷ (splitABAB 2 (s0 ++ s01) 4 .words, 7 ∷ 2 ∷ 0 ∷ 0 ∷ 0 ∷ 0 ∷ 0 ∷ 0 ∷ [])
-    ∷ (splitABAB 2 (s0 ++ s01) 4 .saved, flow 5 2 3)
+    ∷ (splitABAB 2 (s0 ++ s01) 4 .saved, flowBytes 5 2 3)
     ∷ (answered (splitABAB 2 (s0 ++ s01) 0), 0 ∷ 1 ∷ 0 ∷ 0 ∷ [])
     -- T at bound 1, fed "abab": 14 at the second byte
     ∷ (answered (splitABAB 1 (s0 ++ (s01 ++ s02)) 4), 14 ∷ 1 ∷ 0 ∷ 0 ∷ [])

@@ -19,29 +19,29 @@ pub struct Fed {
 }
 
 // Writes signature s and the offset at word w, where the bit is 1; answers the word after.
-fn tell_one(out: &mut [u32], w: usize, bit: u64, s: usize, offset: u32) -> usize
-    requires { ⌜ (bit < 2) × (bit * 2 ^ s < 2 ^ signatures) × (w + 2 * size signatures (bit * 2 ^ s) ≤ length (now out)) ⌝ }
-    ensures { λ res. ⌜ Tells (bit * 2 ^ s) (now (out .entry)) w offset res (now (out .exit)) ⌝ }
+fn tell_one(pairs: &mut [u32], w: usize, bit: u64, s: usize, offset: u32) -> usize
+    requires { ⌜ (bit < 2) × (bit * 2 ^ s < 2 ^ signatures) × (w + 2 * size signatures (bit * 2 ^ s) ≤ length (now pairs)) ⌝ }
+    ensures { λ r. ⌜ Tells (bit * 2 ^ s) (now (pairs .entry)) w offset r (now (pairs .exit)) ⌝ }
 {
     if bit == 1 {
         let signature = s as u32;
-        out[w] = signature;
-        out[w + 1] = offset;
+        pairs[w] = signature;
+        pairs[w + 1] = offset;
         return w + 2;
     }
     w
 }
 
 // Writes signature and offset for each bit of a byte that is 1, from word `at` on; its lowest bit is signature `base`. Answers the word after.
-fn tell_byte(out: &mut [u32], at: usize, byte: u64, base: usize, offset: u32) -> usize
-    requires { ⌜ (byte * 2 ^ base < 2 ^ signatures) × (at + 2 * size signatures (byte * 2 ^ base) ≤ length (now out)) ⌝ }
-    ensures { λ res. ⌜ Tells (byte * 2 ^ base) (now (out .entry)) at offset res (now (out .exit)) ⌝ }
+fn tell_byte(pairs: &mut [u32], at: usize, byte: u64, base: usize, offset: u32) -> usize
+    requires { ⌜ (byte * 2 ^ base < 2 ^ signatures) × (at + 2 * size signatures (byte * 2 ^ base) ≤ length (now pairs)) ⌝ }
+    ensures { λ r. ⌜ Tells (byte * 2 ^ base) (now (pairs .entry)) at offset r (now (pairs .exit)) ⌝ }
 {
     let mut w = at;
     let mut rest = byte;
     let mut s = base;
     while rest != 0 {
-        w = tell_one(out, w, rest % 2, s, offset);
+        w = tell_one(pairs, w, rest % 2, s, offset);
         rest = rest / 2;
         s = s + 1;
     }
@@ -49,15 +49,15 @@ fn tell_byte(out: &mut [u32], at: usize, byte: u64, base: usize, offset: u32) ->
 }
 
 // Writes signature and offset for each bit of a word that is 1, from word `at` on; its lowest bit is signature `base`. Answers the word after.
-fn tell_word(out: &mut [u32], at: usize, word: u64, base: usize, offset: u32) -> usize
-    requires { ⌜ (word * 2 ^ base < 2 ^ signatures) × (at + 2 * size signatures (word * 2 ^ base) ≤ length (now out)) ⌝ }
-    ensures { λ res. ⌜ Tells (word * 2 ^ base) (now (out .entry)) at offset res (now (out .exit)) ⌝ }
+fn tell_word(pairs: &mut [u32], at: usize, word: u64, base: usize, offset: u32) -> usize
+    requires { ⌜ (word * 2 ^ base < 2 ^ signatures) × (at + 2 * size signatures (word * 2 ^ base) ≤ length (now pairs)) ⌝ }
+    ensures { λ r. ⌜ Tells (word * 2 ^ base) (now (pairs .entry)) at offset r (now (pairs .exit)) ⌝ }
 {
     let mut w = at;
     let mut rest = word;
     let mut s = base;
     while rest != 0 {
-        w = tell_byte(out, w, rest % 256, s, offset);
+        w = tell_byte(pairs, w, rest % 256, s, offset);
         rest = rest / 256;
         s = s + 8;
     }
@@ -65,13 +65,13 @@ fn tell_word(out: &mut [u32], at: usize, word: u64, base: usize, offset: u32) ->
 }
 
 // Writes signature and offset for each member of the set, from word `at` on, where there is room for all of them.
-pub fn tell(out: &mut [u32], at: usize, g: SigSet, offset: u32)
-    requires { ⌜ at + 2 * size signatures (sigsOf g) ≤ length (now out) ⌝ }
-    ensures { λ res. ⌜ now (out .exit) ≡ placed (now (out .entry)) at (pairsAt offset (members signatures (sigsOf g))) ⌝ }
+pub fn tell(pairs: &mut [u32], at: usize, g: SigSet, offset: u32)
+    requires { ⌜ at + 2 * size signatures (sigsOf g) ≤ length (now pairs) ⌝ }
+    ensures { λ r. ⌜ now (pairs .exit) ≡ placed (now (pairs .entry)) at (pairsAt offset (members signatures (sigsOf g))) ⌝ }
 {
     let words = g.words;
     let mut w = at;
     for i in 0..sets::SIG_WORDS {
-        w = tell_word(out, w, words[i], 64 * i, offset);
+        w = tell_word(pairs, w, words[i], 64 * i, offset);
     }
 }

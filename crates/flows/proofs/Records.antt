@@ -15,52 +15,52 @@ use Rattle.sets.proofs.Laws.{num-digits, length-digits, digits-num, num-take-lt
 use Rattle.sets.proofs.Sets.{set-at-lt}
 use Rattle.rules.proofs.Scanning.{neither}
 use Rattle.feeds.specs.Engine.{mostOffset}
-use Rattle.flows.specs.Flow.{flowSize, frontierOf, offsetOf, reservedOf, rowsOf, flow, wrongSize, badFlow}
+use Rattle.flows.specs.Flow.{flowSize, frontierOf, offsetOf, reservedOf, rowsOf, flowBytes, wrongSize, badFlow}
 use Rattle.feeds.specs.Calls.{Bytes}
 use Rattle.feeds.proofs.Runs.{bytes-take, bytes-drop}
 
 -- ---- written, then read
 
 module _ (F k n : ℕ) where
-  offset-at : drop setSize (flow F k n) ≡ digits 8 4 k ++ (digits 8 4 0 ++ digits 8 8 n)
-  unfolding flow
+  offset-at : drop setSize (flowBytes F k n) ≡ digits 8 4 k ++ (digits 8 4 0 ++ digits 8 8 n)
+  unfolding flowBytes
   offset-at = drop-at (setBytes F) (digits 8 4 k ++ (digits 8 4 0 ++ digits 8 8 n)) setSize (length-digits 8 setSize F)
 
-  reserved-at : drop (setSize + 4) (flow F k n) ≡ digits 8 4 0 ++ digits 8 8 n
+  reserved-at : drop (setSize + 4) (flowBytes F k n) ≡ digits 8 4 0 ++ digits 8 8 n
   reserved-at =
-      sym (drop-drop 4 setSize (flow F k n)) ∙ ap (drop 4) offset-at ∙ drop-at (digits 8 4 k) (digits 8 4 0 ++ digits 8 8 n) 4 (length-digits 8 4 k)
+      sym (drop-drop 4 setSize (flowBytes F k n)) ∙ ap (drop 4) offset-at ∙ drop-at (digits 8 4 k) (digits 8 4 0 ++ digits 8 8 n) 4 (length-digits 8 4 k)
 
-  rows-at : drop (setSize + 8) (flow F k n) ≡ digits 8 8 n
+  rows-at : drop (setSize + 8) (flowBytes F k n) ≡ digits 8 8 n
   rows-at =
-      sym (drop-drop 4 (setSize + 4) (flow F k n)) ∙ ap (drop 4) reserved-at ∙ drop-at (digits 8 4 0) (digits 8 8 n) 4 (length-digits 8 4 0)
+      sym (drop-drop 4 (setSize + 4) (flowBytes F k n)) ∙ ap (drop 4) reserved-at ∙ drop-at (digits 8 4 0) (digits 8 8 n) 4 (length-digits 8 4 0)
 
   -- each of its fields is read again
-  pub frontier-flow : F < 2 ^ states → frontierOf (flow F k n) ≡ F
-  unfolding setAt flow
+  pub frontier-flow : F < 2 ^ states → frontierOf (flowBytes F k n) ≡ F
+  unfolding setAt flowBytes
   frontier-flow h =
       rw (take-at (setBytes F) (digits 8 4 k ++ (digits 8 4 0 ++ digits 8 8 n)) setSize (length-digits 8 setSize F)) (num-digits 8 setSize F h)
 
-  pub offset-flow : k ≤ mostOffset → offsetOf (flow F k n) ≡ k
+  pub offset-flow : k ≤ mostOffset → offsetOf (flowBytes F k n) ≡ k
   offset-flow h = rw (offset-at, take-at (digits 8 4 k) (digits 8 4 0 ++ digits 8 8 n) 4 (length-digits 8 4 k)) (num-digits 8 4 k (omega arith))
 
-  pub reserved-flow : reservedOf (flow F k n) ≡ 0
+  pub reserved-flow : reservedOf (flowBytes F k n) ≡ 0
   reserved-flow = rw (reserved-at, take-at (digits 8 4 0) (digits 8 8 n) 4 (length-digits 8 4 0)) (num-digits 8 4 0 (pow-pos (8 * 4)))
 
-  pub rows-flow : n < 2 ^ 64 → rowsOf (flow F k n) ≡ n
+  pub rows-flow : n < 2 ^ 64 → rowsOf (flowBytes F k n) ≡ n
   rows-flow h =
       let l : length (digits 8 8 n) ≤ 8 = omega (arith, length-digits 8 8 n) in
       rw (rows-at, take-all 8 (digits 8 8 n) l) (num-digits 8 8 n h)
 
   -- it has the size of a record
-  pub length-flow : length (flow F k n) ≡ flowSize
-  unfolding flow
+  pub length-flow : length (flowBytes F k n) ≡ flowSize
+  unfolding flowBytes
   length-flow = simp (length-append, length-digits)
 
   -- rule 4 takes a record of at most all states as rows for each byte
-  pub flow-good : k ≤ mostOffset → n ≤ states * k → badFlow (flow F k n) ≡ false
+  pub flow-good : k ≤ mostOffset → n ≤ states * k → badFlow (flowBytes F k n) ≡ false
   unfolding badFlow
   flow-good hk hn =
-      rw (eq-eqb (length (flow F k n)) flowSize length-flow, reserved-flow, offset-flow hk, rows-flow (omega arith), le-ltb (states * k) n hn)
+      rw (eq-eqb (length (flowBytes F k n)) flowSize length-flow, reserved-flow, offset-flow hk, rows-flow (omega arith), le-ltb (states * k) n hn)
 
 -- ---- read, then written
 
@@ -91,8 +91,8 @@ module _ (R : List ℕ) (h : Bytes R) where
       ap (λ (k : ℕ). digits 8 k (num 8 (take n (drop at R)))) (sym e) ∙ digits-num 8 (take n (drop at R)) (bytes-take n (drop at R) (bytes-drop at R h))
 
   -- a record that rule 4 takes is what is written of its frontier, offset and rows
-  pub flow-again : badFlow R ≡ false → flow (frontierOf R) (offsetOf R) (rowsOf R) ≡ R
-  unfolding setAt flow
+  pub flow-again : badFlow R ≡ false → flowBytes (frontierOf R) (offsetOf R) (rowsOf R) ≡ R
+  unfolding setAt flowBytes
   flow-again e =
       let q = good-flow R e in
       let l : length R ≡ flowSize = q .0 in
@@ -108,8 +108,8 @@ module _ (R : List ℕ) (h : Bytes R) where
 -- ---- written over an old one, its four fields one after the other
 
 pub placed-flow : (R : List ℕ) (F k n : ℕ) → length R ≡ flowSize
-    → placed (placed (placed (placed R 0 (setBytes F)) setSize (digits 8 4 k)) (setSize + 4) (digits 8 4 0)) (setSize + 8) (digits 8 8 n) ≡ flow F k n
-unfolding flow
+    → placed (placed (placed (placed R 0 (setBytes F)) setSize (digits 8 4 k)) (setSize + 4) (digits 8 4 0)) (setSize + 8) (digits 8 8 n) ≡ flowBytes F k n
+unfolding flowBytes
 placed-flow R F k n e =
     let a : length (setBytes F) ≡ setSize = length-digits 8 setSize F in
     let b : length (digits 8 4 k) ≡ 4 = length-digits 8 4 k in

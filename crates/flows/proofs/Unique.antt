@@ -6,7 +6,7 @@ use Prim.Native.Nat.{ℕ}
 use lib.ListN.{length}
 use lib.Dec.{eqb}
 use Rattle.rules.specs.Rules.{verdict}
-use Rattle.flows.specs.Flow.{flowSize, offsetOf, rowsOf, flow, flowRules}
+use Rattle.flows.specs.Flow.{flowSize, offsetOf, rowsOf, flowBytes, flowRules}
 
 module _ (r q : ℕ) (R : List ℕ) where
   pub unique-offset-of : r ≡ offsetOf R → q ≡ offsetOf R → r ≡ q
@@ -18,5 +18,5 @@ module _ (r q : ℕ) (R : List ℕ) where
   pub unique-flow-refusal : (at : ℕ) (piece : List ℕ) → r ≡ verdict (flowRules R at piece) → q ≡ verdict (flowRules R at piece) → r ≡ q
   unique-flow-refusal at piece e f = e ∙ sym f
 
-pub unique-save : (r q R : List ℕ) (F k n : ℕ) → r ≡ cond (eqb (length R) flowSize) (flow F k n) R → q ≡ cond (eqb (length R) flowSize) (flow F k n) R → r ≡ q
+pub unique-save : (r q R : List ℕ) (F k n : ℕ) → r ≡ cond (eqb (length R) flowSize) (flowBytes F k n) R → q ≡ cond (eqb (length R) flowSize) (flowBytes F k n) R → r ≡ q
 unique-save r q R F k n e f = e ∙ sym f

@@ -28,12 +28,12 @@ abbrev pub rowsOf : List ℕ → ℕ
 rowsOf R = num 8 (take 8 (drop (setSize + 8) R))
 
 -- the record of frontier F, offset k and n rows read
-unfoldable pub flow : ℕ → ℕ → ℕ → List ℕ
-flow F k n = setBytes F ++ (digits 8 4 k ++ (digits 8 4 0 ++ digits 8 8 n))
+unfoldable pub flowBytes : ℕ → ℕ → ℕ → List ℕ
+flowBytes F k n = setBytes F ++ (digits 8 4 k ++ (digits 8 4 0 ++ digits 8 8 n))
 
 -- so a feed over a list reads and writes it
 abbrev pub flowLayout : Layout ℕ
-flowLayout = record { config = frontierOf; offset = offsetOf; rows = rowsOf; save = flow }
+flowLayout = record { config = frontierOf; offset = offsetOf; rows = rowsOf; save = flowBytes }
 
 -- ---- what each rule refuses
 

@@ -6,7 +6,7 @@ ghost use lib.ListN.{length};
 ghost use lib.Dec.{eqb};
 ghost use Rattle.sets.specs.Set.{setOf};
 ghost use Rattle.rules.specs.Rules.{verdict};
-ghost use Rattle.flows.specs.Flow.{flowSize, offsetOf, reservedOf, rowsOf, flow, badFlow, flowRules};
+ghost use Rattle.flows.specs.Flow.{flowSize, offsetOf, reservedOf, rowsOf, flowBytes, badFlow, flowRules};
 
 // Bytes in a flow record.
 pub const FLOW_SIZE: usize = sets::BYTES + 16;
@@ -22,45 +22,45 @@ const ROWS_AT: usize = sets::BYTES + 8;
 const MOST_ROWS: u64 = sets::STATES as u64;
 
 // The offset of a record.
-pub fn offset_of(r: &[u8]) -> u64
-    ensures { λ res. ⌜ res ≡ offsetOf (now (r .entry)) ⌝ }
+pub fn offset_of(flow: &[u8]) -> u64
+    ensures { λ r. ⌜ r ≡ offsetOf (now (flow .entry)) ⌝ }
 {
-    sets::number_at(r, OFFSET_AT, 4)
+    sets::number_at(flow, OFFSET_AT, 4)
 }
 
 // The reserved bytes of a record, as a number.
-fn reserved_of(r: &[u8]) -> u64
-    ensures { λ res. ⌜ res ≡ reservedOf (now (r .entry)) ⌝ }
+fn reserved_of(flow: &[u8]) -> u64
+    ensures { λ r. ⌜ r ≡ reservedOf (now (flow .entry)) ⌝ }
 {
-    sets::number_at(r, RESERVED_AT, 4)
+    sets::number_at(flow, RESERVED_AT, 4)
 }
 
 // The rows read of a record.
-pub fn rows_of(r: &[u8]) -> u64
-    ensures { λ res. ⌜ res ≡ rowsOf (now (r .entry)) ⌝ }
+pub fn rows_of(flow: &[u8]) -> u64
+    ensures { λ r. ⌜ r ≡ rowsOf (now (flow .entry)) ⌝ }
 {
-    sets::number_at(r, ROWS_AT, 8)
+    sets::number_at(flow, ROWS_AT, 8)
 }
 
 // Says whether rule 4 refuses the record.
-fn bad_flow(r: &[u8]) -> bool
-    ensures { λ res. ⌜ res ≡ badFlow (now (r .entry)) ⌝ }
+fn bad_flow(flow: &[u8]) -> bool
+    ensures { λ r. ⌜ r ≡ badFlow (now (flow .entry)) ⌝ }
 {
-    if r.len() != FLOW_SIZE {
+    if flow.len() != FLOW_SIZE {
         return true;
     }
-    (reserved_of(r) != 0) | (MOST_ROWS * offset_of(r) < rows_of(r))
+    (reserved_of(flow) != 0) | (MOST_ROWS * offset_of(flow) < rows_of(flow))
 }
 
 // The flow check: the number of the first of the rules 4 to 6 that refuses the piece, 0 where none does.
-pub fn flow_refusal(r: &[u8], at: u64, piece: &[u8]) -> u32
-    ensures { λ res. ⌜ res ≡ verdict (flowRules (now (r .entry)) at (now (piece .entry))) ⌝ }
+pub fn flow_refusal(flow: &[u8], start: u64, piece: &[u8]) -> u32
+    ensures { λ r. ⌜ r ≡ verdict (flowRules (now (flow .entry)) start (now (piece .entry))) ⌝ }
 {
-    if bad_flow(r) {
+    if bad_flow(flow) {
         return 4;
     }
-    let offset = offset_of(r);
-    if at != offset {
+    let offset = offset_of(flow);
+    if start != offset {
         return 5;
     }
     if piece.len() as u64 > feeds::MOST_OFFSET - offset {
@@ -70,13 +70,13 @@ pub fn flow_refusal(r: &[u8], at: u64, piece: &[u8]) -> u32
 }
 
 // Writes a record in place; what has not the size of one stays as it is.
-pub fn save(r: &mut [u8], f: StateSet, offset: u64, rows: u64)
-    ensures { λ res. ⌜ now (r .exit) ≡ cond (eqb (length (now (r .entry))) flowSize) (flow (setOf f) offset rows) (now (r .entry)) ⌝ }
+pub fn save(flow: &mut [u8], f: StateSet, offset: u64, rows: u64)
+    ensures { λ r. ⌜ now (flow .exit) ≡ cond (eqb (length (now (flow .entry))) flowSize) (flowBytes (setOf f) offset rows) (now (flow .entry)) ⌝ }
 {
-    if r.len() == FLOW_SIZE {
-        f.store(r, 0);
-        sets::put_number(r, OFFSET_AT, 4, offset);
-        sets::put_number(r, RESERVED_AT, 4, 0);
-        sets::put_number(r, ROWS_AT, 8, rows);
+    if flow.len() == FLOW_SIZE {
+        f.store(flow, 0);
+        sets::put_number(flow, OFFSET_AT, 4, offset);
+        sets::put_number(flow, RESERVED_AT, 4, 0);
+        sets::put_number(flow, ROWS_AT, 8, rows);
     }
 }

@@ -30,139 +30,139 @@ pub fn byte_at(b: &[u8], at: usize) -> u8
 }
 
 // How many records the list has.
-fn records(l: &[u8]) -> usize
-    ensures { λ r. ⌜ r ≡ records (now (l .entry)) ⌝ }
+fn records(list: &[u8]) -> usize
+    ensures { λ r. ⌜ r ≡ records (now (list .entry)) ⌝ }
 {
-    l.len() / RECORD_SIZE
+    list.len() / RECORD_SIZE
 }
 
 // Byte k of record i.
-fn byte_of(l: &[u8], i: usize, k: usize) -> u8
-    requires { ⌜ (i < records (now l)) × (k < recordSize) ⌝ }
-    ensures { λ r. ⌜ r ≡ byteOf (now (l .entry)) i k ⌝ }
+fn byte_of(list: &[u8], i: usize, k: usize) -> u8
+    requires { ⌜ (i < records (now list)) × (k < recordSize) ⌝ }
+    ensures { λ r. ⌜ r ≡ byteOf (now (list .entry)) i k ⌝ }
 {
-    l[RECORD_SIZE * i + k]
+    list[RECORD_SIZE * i + k]
 }
 
 // The number at bytes k and k + 1 of record i.
-fn word_of(l: &[u8], i: usize, k: usize) -> usize
-    requires { ⌜ (i < records (now l)) × (k + 1 < recordSize) ⌝ }
-    ensures { λ r. ⌜ r ≡ wordOf (now (l .entry)) i k ⌝ }
+fn word_of(list: &[u8], i: usize, k: usize) -> usize
+    requires { ⌜ (i < records (now list)) × (k + 1 < recordSize) ⌝ }
+    ensures { λ r. ⌜ r ≡ wordOf (now (list .entry)) i k ⌝ }
 {
-    byte_of(l, i, k) as usize + 256 * (byte_of(l, i, k + 1) as usize)
+    byte_of(list, i, k) as usize + 256 * (byte_of(list, i, k + 1) as usize)
 }
 
 // Says whether record i is an edge.
-fn is_edge(l: &[u8], i: usize) -> bool
-    requires { ⌜ i < records (now l) ⌝ }
-    ensures { λ r. ⌜ r ≡ isEdge (now (l .entry)) i ⌝ }
+fn is_edge(list: &[u8], i: usize) -> bool
+    requires { ⌜ i < records (now list) ⌝ }
+    ensures { λ r. ⌜ r ≡ isEdge (now (list .entry)) i ⌝ }
 {
-    byte_of(l, i, 0) == EDGE
+    byte_of(list, i, 0) == EDGE
 }
 
 // Says whether record i is a start.
-fn is_start(l: &[u8], i: usize) -> bool
-    requires { ⌜ i < records (now l) ⌝ }
-    ensures { λ r. ⌜ r ≡ isStart (now (l .entry)) i ⌝ }
+fn is_start(list: &[u8], i: usize) -> bool
+    requires { ⌜ i < records (now list) ⌝ }
+    ensures { λ r. ⌜ r ≡ isStart (now (list .entry)) i ⌝ }
 {
-    byte_of(l, i, 0) == START
+    byte_of(list, i, 0) == START
 }
 
 // Says whether record i is an accept.
-fn is_accept(l: &[u8], i: usize) -> bool
-    requires { ⌜ i < records (now l) ⌝ }
-    ensures { λ r. ⌜ r ≡ isAccept (now (l .entry)) i ⌝ }
+fn is_accept(list: &[u8], i: usize) -> bool
+    requires { ⌜ i < records (now list) ⌝ }
+    ensures { λ r. ⌜ r ≡ isAccept (now (list .entry)) i ⌝ }
 {
-    byte_of(l, i, 0) == ACCEPT
+    byte_of(list, i, 0) == ACCEPT
 }
 
 // The state that record i leaves or names.
-fn from(l: &[u8], i: usize) -> usize
-    requires { ⌜ i < records (now l) ⌝ }
-    ensures { λ r. ⌜ r ≡ from (now (l .entry)) i ⌝ }
+fn from(list: &[u8], i: usize) -> usize
+    requires { ⌜ i < records (now list) ⌝ }
+    ensures { λ r. ⌜ r ≡ from (now (list .entry)) i ⌝ }
 {
-    word_of(l, i, 4)
+    word_of(list, i, 4)
 }
 
 // The state that record i leads to, or the signature that it gives.
-fn target(l: &[u8], i: usize) -> usize
-    requires { ⌜ i < records (now l) ⌝ }
-    ensures { λ r. ⌜ r ≡ target (now (l .entry)) i ⌝ }
+fn target(list: &[u8], i: usize) -> usize
+    requires { ⌜ i < records (now list) ⌝ }
+    ensures { λ r. ⌜ r ≡ target (now (list .entry)) i ⌝ }
 {
-    word_of(l, i, 6)
+    word_of(list, i, 6)
 }
 
 // Says whether bytes 1 to n of record i are zero.
-fn zeros(l: &[u8], i: usize, n: usize) -> bool
-    requires { ⌜ (i < records (now l)) × (n < recordSize) ⌝ }
-    ensures { λ r. ⌜ r ≡ zeros (now (l .entry)) i n ⌝ }
+fn zeros(list: &[u8], i: usize, n: usize) -> bool
+    requires { ⌜ (i < records (now list)) × (n < recordSize) ⌝ }
+    ensures { λ r. ⌜ r ≡ zeros (now (list .entry)) i n ⌝ }
 {
     let mut all = true;
     for k in 0..n {
-        all = all & (byte_of(l, i, k + 1) == 0);
+        all = all & (byte_of(list, i, k + 1) == 0);
     }
     all
 }
 
 // Says whether record i is a good edge.
-fn good_edge(l: &[u8], i: usize) -> bool
-    requires { ⌜ i < records (now l) ⌝ }
-    ensures { λ r. ⌜ r ≡ goodEdge (now (l .entry)) i ⌝ }
+fn good_edge(list: &[u8], i: usize) -> bool
+    requires { ⌜ i < records (now list) ⌝ }
+    ensures { λ r. ⌜ r ≡ goodEdge (now (list .entry)) i ⌝ }
 {
-    is_edge(l, i)
-        & (byte_of(l, i, 1) <= byte_of(l, i, 2))
-        & (byte_of(l, i, 3) == 0)
-        & (from(l, i) < sets::STATES)
-        & (target(l, i) < sets::STATES)
+    is_edge(list, i)
+        & (byte_of(list, i, 1) <= byte_of(list, i, 2))
+        & (byte_of(list, i, 3) == 0)
+        & (from(list, i) < sets::STATES)
+        & (target(list, i) < sets::STATES)
 }
 
 // Says whether record i is a good start.
-fn good_start(l: &[u8], i: usize) -> bool
-    requires { ⌜ i < records (now l) ⌝ }
-    ensures { λ r. ⌜ r ≡ goodStart (now (l .entry)) i ⌝ }
+fn good_start(list: &[u8], i: usize) -> bool
+    requires { ⌜ i < records (now list) ⌝ }
+    ensures { λ r. ⌜ r ≡ goodStart (now (list .entry)) i ⌝ }
 {
-    is_start(l, i) & zeros(l, i, 5) & (target(l, i) < sets::STATES)
+    is_start(list, i) & zeros(list, i, 5) & (target(list, i) < sets::STATES)
 }
 
 // Says whether record i is a good accept.
-fn good_accept(l: &[u8], i: usize) -> bool
-    requires { ⌜ i < records (now l) ⌝ }
-    ensures { λ r. ⌜ r ≡ goodAccept (now (l .entry)) i ⌝ }
+fn good_accept(list: &[u8], i: usize) -> bool
+    requires { ⌜ i < records (now list) ⌝ }
+    ensures { λ r. ⌜ r ≡ goodAccept (now (list .entry)) i ⌝ }
 {
-    is_accept(l, i)
-        & zeros(l, i, 3)
-        & (from(l, i) < sets::STATES)
-        & (target(l, i) < sets::SIGNATURES)
+    is_accept(list, i)
+        & zeros(list, i, 3)
+        & (from(list, i) < sets::STATES)
+        & (target(list, i) < sets::SIGNATURES)
 }
 
 // Says whether record i is good.
-fn good_record(l: &[u8], i: usize) -> bool
-    requires { ⌜ i < records (now l) ⌝ }
-    ensures { λ r. ⌜ r ≡ goodRecord (now (l .entry)) i ⌝ }
+fn good_record(list: &[u8], i: usize) -> bool
+    requires { ⌜ i < records (now list) ⌝ }
+    ensures { λ r. ⌜ r ≡ goodRecord (now (list .entry)) i ⌝ }
 {
-    if is_edge(l, i) {
-        return good_edge(l, i);
+    if is_edge(list, i) {
+        return good_edge(list, i);
     }
-    if is_start(l, i) {
-        return good_start(l, i);
+    if is_start(list, i) {
+        return good_start(list, i);
     }
-    good_accept(l, i)
+    good_accept(list, i)
 }
 
 // Says whether rule 1 refuses the list.
-fn bad_length(l: &[u8]) -> bool
-    ensures { λ r. ⌜ r ≡ badLength (now (l .entry)) ⌝ }
+fn bad_length(list: &[u8]) -> bool
+    ensures { λ r. ⌜ r ≡ badLength (now (list .entry)) ⌝ }
 {
-    (l.len() == 0) | (RECORD_SIZE * MOST_RECORDS < l.len()) | (l.len() % RECORD_SIZE != 0)
+    (list.len() == 0) | (RECORD_SIZE * MOST_RECORDS < list.len()) | (list.len() % RECORD_SIZE != 0)
 }
 
 // Says whether rule 2 refuses the list.
-fn bad_record(l: &[u8]) -> bool
-    ensures { λ r. ⌜ r ≡ badRecord (now (l .entry)) ⌝ }
+fn bad_record(list: &[u8]) -> bool
+    ensures { λ r. ⌜ r ≡ badRecord (now (list .entry)) ⌝ }
 {
-    let n = records(l);
+    let n = records(list);
     for i in 0..n {
-        if !good_record(l, i) {
+        if !good_record(list, i) {
             return true;
         }
     }
@@ -170,12 +170,12 @@ fn bad_record(l: &[u8]) -> bool
 }
 
 // Says whether rule 3 refuses the list.
-fn no_start(l: &[u8]) -> bool
-    ensures { λ r. ⌜ r ≡ noStart (now (l .entry)) ⌝ }
+fn no_start(list: &[u8]) -> bool
+    ensures { λ r. ⌜ r ≡ noStart (now (list .entry)) ⌝ }
 {
-    let n = records(l);
+    let n = records(list);
     for i in 0..n {
-        if is_start(l, i) {
+        if is_start(list, i) {
             return false;
         }
     }
@@ -183,94 +183,94 @@ fn no_start(l: &[u8]) -> bool
 }
 
 // The list check: the number of the first rule that refuses the list, 0 where none does.
-pub fn check_list(l: &[u8]) -> u32
-    ensures { λ r. ⌜ r ≡ listRefusal (now (l .entry)) ⌝ }
+pub fn check_list(list: &[u8]) -> u32
+    ensures { λ r. ⌜ r ≡ listRefusal (now (list .entry)) ⌝ }
 {
-    if bad_length(l) {
+    if bad_length(list) {
         return 1;
     }
-    if bad_record(l) {
+    if bad_record(list) {
         return 2;
     }
-    if no_start(l) {
+    if no_start(list) {
         return 3;
     }
     rules::PASSED
 }
 
 // Puts the target of record i into the words of a set, where the test holds.
-fn put_target(l: &[u8], i: usize, test: bool, w: &mut [u64])
-    requires { ⌜ i < records (now l) ⌝ }
-    ensures { λ r. ⌜ num 64 (now (w .exit)) ≡ cond test (insert (64 * length (now (w .entry))) (num 64 (now (w .entry))) (target (now (l .entry)) i)) (num 64 (now (w .entry))) ⌝ }
+fn put_target(list: &[u8], i: usize, test: bool, w: &mut [u64])
+    requires { ⌜ i < records (now list) ⌝ }
+    ensures { λ r. ⌜ num 64 (now (w .exit)) ≡ cond test (insert (64 * length (now (w .entry))) (num 64 (now (w .entry))) (target (now (list .entry)) i)) (num 64 (now (w .entry))) ⌝ }
 {
     if test {
-        sets::put_bit(w, target(l, i));
+        sets::put_bit(w, target(list, i));
     }
 }
 
 // The states of the start records.
-pub fn start_set(l: &[u8]) -> StateSet
-    ensures { λ r. ⌜ setOf r ≡ start (now (l .entry)) ⌝ }
+pub fn start_set(list: &[u8]) -> StateSet
+    ensures { λ r. ⌜ setOf r ≡ start (now (list .entry)) ⌝ }
 {
-    let n = records(l);
+    let n = records(list);
     let none = StateSet::EMPTY;
     let mut w = none.words;
     for i in 0..n {
-        put_target(l, i, is_start(l, i), &mut w);
+        put_target(list, i, is_start(list, i), &mut w);
     }
     StateSet::of_words(w)
 }
 
 // Says whether record i is an edge that byte c takes.
-fn edge(l: &[u8], c: u8, i: usize) -> bool
-    requires { ⌜ i < records (now l) ⌝ }
-    ensures { λ r. ⌜ r ≡ edge (now (l .entry)) c i ⌝ }
+fn edge(list: &[u8], c: u8, i: usize) -> bool
+    requires { ⌜ i < records (now list) ⌝ }
+    ensures { λ r. ⌜ r ≡ edge (now (list .entry)) c i ⌝ }
 {
-    is_edge(l, i) & (byte_of(l, i, 1) <= c) & (c <= byte_of(l, i, 2))
+    is_edge(list, i) & (byte_of(list, i, 1) <= c) & (c <= byte_of(list, i, 2))
 }
 
 // Says whether record i is an edge that byte c takes from state s.
-fn leaves(l: &[u8], s: usize, c: u8, i: usize) -> bool
-    requires { ⌜ i < records (now l) ⌝ }
-    ensures { λ r. ⌜ r ≡ leaves (now (l .entry)) (2 ^ s) (edge (now (l .entry)) c) i ⌝ }
+fn leaves(list: &[u8], s: usize, c: u8, i: usize) -> bool
+    requires { ⌜ i < records (now list) ⌝ }
+    ensures { λ r. ⌜ r ≡ leaves (now (list .entry)) (2 ^ s) (edge (now (list .entry)) c) i ⌝ }
 {
-    (from(l, i) == s) & edge(l, c, i)
+    (from(list, i) == s) & edge(list, c, i)
 }
 
 // The targets of state s on byte c.
-fn targets(l: &[u8], s: usize, c: u8) -> StateSet
-    ensures { λ r. ⌜ setOf r ≡ step (now (l .entry)) (2 ^ s) c ⌝ }
+fn targets(list: &[u8], s: usize, c: u8) -> StateSet
+    ensures { λ r. ⌜ setOf r ≡ step (now (list .entry)) (2 ^ s) c ⌝ }
 {
-    let n = records(l);
+    let n = records(list);
     let none = StateSet::EMPTY;
     let mut w = none.words;
     for i in 0..n {
-        put_target(l, i, leaves(l, s, c, i), &mut w);
+        put_target(list, i, leaves(list, s, c, i), &mut w);
     }
     StateSet::of_words(w)
 }
 
 // The states with the targets of state s on byte c, where the test holds.
-fn join_targets(l: &[u8], test: bool, s: usize, c: u8, next: StateSet) -> StateSet
-    ensures { λ r. ⌜ setOf r ≡ join (setOf next) (step (now (l .entry)) (cond test (2 ^ s) 0) c) ⌝ }
+fn join_targets(list: &[u8], test: bool, s: usize, c: u8, next: StateSet) -> StateSet
+    ensures { λ r. ⌜ setOf r ≡ join (setOf next) (step (now (list .entry)) (cond test (2 ^ s) 0) c) ⌝ }
 {
     if test {
-        next.union(targets(l, s, c))
+        next.union(targets(list, s, c))
     } else {
         next
     }
 }
 
 // The states with the targets of a word of the frontier on byte c; the word's lowest bit is state `base`.
-fn join_word(l: &[u8], word: u64, base: usize, c: u8, next: StateSet) -> StateSet
+fn join_word(list: &[u8], word: u64, base: usize, c: u8, next: StateSet) -> StateSet
     requires { ⌜ word * 2 ^ base < 2 ^ states ⌝ }
-    ensures { λ r. ⌜ setOf r ≡ join (setOf next) (step (now (l .entry)) (word * 2 ^ base) c) ⌝ }
+    ensures { λ r. ⌜ setOf r ≡ join (setOf next) (step (now (list .entry)) (word * 2 ^ base) c) ⌝ }
 {
     let mut all = next;
     let mut rest = word;
     let mut s = base;
     while rest != 0 {
-        all = join_targets(l, rest % 2 == 1, s, c, all);
+        all = join_targets(list, rest % 2 == 1, s, c, all);
         rest = rest / 2;
         s = s + 1;
     }
@@ -278,39 +278,39 @@ fn join_word(l: &[u8], word: u64, base: usize, c: u8, next: StateSet) -> StateSe
 }
 
 // The frontier after byte c: the targets of all its states.
-pub fn step(l: &[u8], f: StateSet, c: u8) -> StateSet
-    ensures { λ r. ⌜ setOf r ≡ step (now (l .entry)) (setOf f) c ⌝ }
+pub fn step(list: &[u8], f: StateSet, c: u8) -> StateSet
+    ensures { λ r. ⌜ setOf r ≡ step (now (list .entry)) (setOf f) c ⌝ }
 {
     let words = f.words;
     let mut next = StateSet::EMPTY;
     for i in 0..sets::WORDS {
-        next = join_word(l, words[i], 64 * i, c, next);
+        next = join_word(list, words[i], 64 * i, c, next);
     }
     next
 }
 
 // Says whether record i is an accept at a state of the frontier that the words hold.
-fn accepts(l: &[u8], frontier: &[u64], i: usize) -> bool
-    requires { ⌜ i < records (now l) ⌝ }
-    ensures { λ r. ⌜ r ≡ leaves (now (l .entry)) (num 64 (now (frontier .entry))) (isAccept (now (l .entry))) i ⌝ }
+fn accepts(list: &[u8], frontier: &[u64], i: usize) -> bool
+    requires { ⌜ i < records (now list) ⌝ }
+    ensures { λ r. ⌜ r ≡ leaves (now (list .entry)) (num 64 (now (frontier .entry))) (isAccept (now (list .entry))) i ⌝ }
 {
-    if is_accept(l, i) {
-        sets::bit_of(frontier, from(l, i))
+    if is_accept(list, i) {
+        sets::bit_of(frontier, from(list, i))
     } else {
         false
     }
 }
 
 // The signatures that the frontier accepts.
-pub fn accepted(l: &[u8], f: StateSet) -> SigSet
-    ensures { λ r. ⌜ sigsOf r ≡ accepted (now (l .entry)) (setOf f) ⌝ }
+pub fn accepted(list: &[u8], f: StateSet) -> SigSet
+    ensures { λ r. ⌜ sigsOf r ≡ accepted (now (list .entry)) (setOf f) ⌝ }
 {
-    let n = records(l);
+    let n = records(list);
     let frontier = f.words;
     let none = SigSet::EMPTY;
     let mut w = none.words;
     for i in 0..n {
-        put_target(l, i, accepts(l, &frontier, i), &mut w);
+        put_target(list, i, accepts(list, &frontier, i), &mut w);
     }
     SigSet::of_words(w)
 }

@@ -9,7 +9,7 @@ use borrow.Author.Tests.{eqb-true, eq-eqb, ne-eqb, not-false}
 use Rattle.lists.specs.List.{listRules}
 use Rattle.lists.specs.Automaton.{start}
 use Rattle.rules.proofs.Rules.{passes, passes-front, verdict-then}
-use Rattle.flows.specs.Flow.{flowSize, flow, wrongSize}
+use Rattle.flows.specs.Flow.{flowSize, flowBytes, wrongSize}
 use Rattle.plain.specs.Plain.{openRefusal, openSaved}
 
 module _ (L R : List ℕ) where
@@ -20,7 +20,7 @@ module _ (L R : List ℕ) where
       eqb-true (length R) flowSize (not-false (eqb (length R) flowSize) (passes 3 (wrongSize R) [] (sym w ∙ v) .0))
 
   -- what is saved of the start states is what opening leaves
-  pub open-saves : (F : ℕ) → openRefusal L R ≡ 0 → F ≡ start L → cond (eqb (length R) flowSize) (flow F 0 0) R ≡ openSaved L R
+  pub open-saves : (F : ℕ) → openRefusal L R ≡ 0 → F ≡ start L → cond (eqb (length R) flowSize) (flowBytes F 0 0) R ≡ openSaved L R
   open-saves F v e = rw (eq-eqb (openRefusal L R) 0 v, eq-eqb (length R) flowSize (open-size v), e)
 
   -- a refusal leaves the record

@@ -8,7 +8,7 @@ use Rattle.rules.specs.Rules.{Rule, verdict}
 use Rattle.lists.specs.List.{listRules}
 use Rattle.lists.specs.Automaton.{start, step, accepted}
 use Rattle.feeds.specs.Engine.{Engine, told, Outcome, feed}
-use Rattle.flows.specs.Flow.{flow, flowLayout, wrongSize, feedRules}
+use Rattle.flows.specs.Flow.{flowBytes, flowLayout, wrongSize, feedRules}
 
 -- the automaton itself: a byte costs as many rows as the frontier before it has states, and nothing halts
 abbrev pub plain : List ℕ → Engine ℕ
@@ -24,7 +24,7 @@ openRefusal L R = verdict (openRules L R)
 
 -- the record that opening leaves: the start states, offset 0, no rows read
 abbrev pub opened : List ℕ → List ℕ
-opened L = flow (start L) 0 0
+opened L = flowBytes (start L) 0 0
 
 -- the record at exit; a refusal leaves it
 abbrev pub openSaved : List ℕ → List ℕ → List ℕ

@@ -22,56 +22,56 @@ struct Ran {
 }
 
 // The check of opening: the number of the first of the rules 1 to 4 that refuses it, 0 where none does.
-fn open_refusal(l: &[u8], r: &[u8]) -> u32
-    ensures { λ res. ⌜ res ≡ openRefusal (now (l .entry)) (now (r .entry)) ⌝ }
+fn open_refusal(list: &[u8], flow: &[u8]) -> u32
+    ensures { λ r. ⌜ r ≡ openRefusal (now (list .entry)) (now (flow .entry)) ⌝ }
 {
-    let listed = lists::check_list(l);
+    let listed = lists::check_list(list);
     if listed != rules::PASSED {
         return listed;
     }
-    if r.len() != flows::FLOW_SIZE {
+    if flow.len() != flows::FLOW_SIZE {
         return 4;
     }
     rules::PASSED
 }
 
 // Opens a flow: its record then has the start states, offset 0 and no rows read. A refusal leaves it as it is.
-pub fn open_flow(l: &[u8], r: &mut [u8]) -> u32
-    ensures { λ res. ⌜ Opens (now (l .entry)) (now (r .entry)) res (now (r .exit)) ⌝ }
+pub fn open_flow(list: &[u8], flow: &mut [u8]) -> u32
+    ensures { λ r. ⌜ Opens (now (list .entry)) (now (flow .entry)) r (now (flow .exit)) ⌝ }
 {
-    let refusal = open_refusal(l, r);
+    let refusal = open_refusal(list, flow);
     if refusal != rules::PASSED {
         return refusal;
     }
-    flows::save(r, lists::start_set(l), 0, 0);
+    flows::save(flow, lists::start_set(list), 0, 0);
     rules::PASSED
 }
 
 // The check of a feed: the number of the first of the rules 1 to 6 that refuses it, 0 where none does.
-fn feed_refusal(l: &[u8], r: &[u8], at: u64, piece: &[u8]) -> u32
-    ensures { λ res. ⌜ res ≡ verdict (feedRules (now (l .entry)) (now (r .entry)) at (now (piece .entry))) ⌝ }
+fn feed_refusal(list: &[u8], flow: &[u8], start: u64, piece: &[u8]) -> u32
+    ensures { λ r. ⌜ r ≡ verdict (feedRules (now (list .entry)) (now (flow .entry)) start (now (piece .entry))) ⌝ }
 {
-    let listed = lists::check_list(l);
+    let listed = lists::check_list(list);
     if listed != rules::PASSED {
         return listed;
     }
-    flows::flow_refusal(r, at, piece)
+    flows::flow_refusal(flow, start, piece)
 }
 
 // Runs the automaton from a frontier at an offset over the bytes whose pairs all fit the words.
-fn feed_bytes(l: &[u8], first: StateSet, offset: u64, piece: &[u8], out: &mut [u32]) -> Ran
+fn feed_bytes(list: &[u8], first: StateSet, offset: u64, piece: &[u8], pairs: &mut [u32]) -> Ran
     requires { ⌜ offset + length (now piece) ≤ mostOffset ⌝ }
-    ensures going { λ res. ⌜ Going (plain (now (l .entry))) (setOf first) offset (now (piece .entry)) (now (out .entry)) (setOf (res .frontier)) (now (out .exit)) (res .bytes) (res .words) (res .rows) ⌝ }
-    ensures longest { λ res. ⌜ consumed (plain (now (l .entry))) (setOf first) (room (now (out .entry))) (now (piece .entry)) ≡ res .bytes ⌝ }
+    ensures going { λ r. ⌜ Going (plain (now (list .entry))) (setOf first) offset (now (piece .entry)) (now (pairs .entry)) (setOf (r .frontier)) (now (pairs .exit)) (r .bytes) (r .words) (r .rows) ⌝ }
+    ensures longest { λ r. ⌜ consumed (plain (now (list .entry))) (setOf first) (room (now (pairs .entry))) (now (piece .entry)) ≡ r .bytes ⌝ }
 {
     let mut f = first;
     let mut words = 0usize;
     let mut rows = 0u64;
     for i in 0..piece.len() {
-        let next = lists::step(l, f, piece[i]);
-        let g = lists::accepted(l, next);
+        let next = lists::step(list, f, piece[i]);
+        let g = lists::accepted(list, next);
         let n = g.count() as usize;
-        if (out.len() - words) / 2 < n {
+        if (pairs.len() - words) / 2 < n {
             return Ran {
                 frontier: f,
                 bytes: i,
@@ -79,7 +79,7 @@ fn feed_bytes(l: &[u8], first: StateSet, offset: u64, piece: &[u8], out: &mut [u
                 rows: rows,
             };
         }
-        feeds::tell(out, words, g, (offset + i as u64 + 1) as u32);
+        feeds::tell(pairs, words, g, (offset + i as u64 + 1) as u32);
         words = words + 2 * n;
         rows = rows + f.count() as u64;
         f = next;
@@ -93,10 +93,10 @@ fn feed_bytes(l: &[u8], first: StateSet, offset: u64, piece: &[u8], out: &mut [u
 }
 
 // Feeds a piece to a flow by its list alone. A refusal changes nothing.
-pub fn feed(l: &[u8], r: &mut [u8], at: u64, piece: &[u8], out: &mut [u32]) -> Fed
-    ensures { λ res. ⌜ Answers (plainFeed (now (l .entry)) (now (r .entry)) at (now (piece .entry)) (now (out .entry))) res (now (out .exit)) (now (r .exit)) ⌝ }
+pub fn feed(list: &[u8], flow: &mut [u8], start: u64, piece: &[u8], pairs: &mut [u32]) -> Fed
+    ensures { λ r. ⌜ Answers (plainFeed (now (list .entry)) (now (flow .entry)) start (now (piece .entry)) (now (pairs .entry))) r (now (pairs .exit)) (now (flow .exit)) ⌝ }
 {
-    let verdict = feed_refusal(l, r, at, piece);
+    let verdict = feed_refusal(list, flow, start, piece);
     if verdict != rules::PASSED {
         return Fed {
             refusal: verdict,
@@ -105,10 +105,15 @@ pub fn feed(l: &[u8], r: &mut [u8], at: u64, piece: &[u8], out: &mut [u32]) -> F
             all: false,
         };
     }
-    let offset = flows::offset_of(r);
-    let rows = flows::rows_of(r);
-    let ran = feed_bytes(l, StateSet::load(r, 0), offset, piece, out);
-    flows::save(r, ran.frontier, offset + ran.bytes as u64, rows + ran.rows);
+    let offset = flows::offset_of(flow);
+    let rows = flows::rows_of(flow);
+    let ran = feed_bytes(list, StateSet::load(flow, 0), offset, piece, pairs);
+    flows::save(
+        flow,
+        ran.frontier,
+        offset + ran.bytes as u64,
+        rows + ran.rows,
+    );
     Fed {
         refusal: rules::PASSED,
         bytes: ran.bytes,

@@ -11,7 +11,7 @@ ghost use Rattle.rules.specs.Rules.{verdict};
 ghost use Rattle.feeds.specs.Engine.{room, consumed, mostOffset};
 ghost use Rattle.feeds.specs.Fed.{Answers};
 ghost use Rattle.feeds.proofs.Going.{Going};
-ghost use Rattle.tables.specs.Table.{classCount, partCount, splitCount, rowAt, slots, takenSlots};
+ghost use Rattle.tables.specs.Table.{table, classCount, partCount, splitCount, rowAt, slots, takenSlots};
 ghost use Rattle.splits.specs.Split.{splitOf, stuck, split, splitRules, splitFeed};
 ghost use Rattle.splits.specs.Taken.{TakesSlots, TakesStep};
 
@@ -90,7 +90,7 @@ fn split_step(
     c: u8,
 ) -> Taken
     requires { ⌜ (k ≡ classCount (now classes)) × (setSize * (partCount (now parts) * classCount (now classes)) ≤ length (now rows)) ⌝ }
-    ensures { λ t. ⌜ TakesStep bound (record { classes = now (classes .entry); parts = now (parts .entry); rows = now (rows .entry); splits = now (splits .entry) }) (setOf f) c t ⌝ }
+    ensures { λ t. ⌜ TakesStep bound (table (now (classes .entry)) (now (parts .entry)) (now (rows .entry)) (now (splits .entry))) (setOf f) c t ⌝ }
 {
     let i = find(splits, f);
     if tables::split_count(splits) <= i {
@@ -113,23 +113,23 @@ fn split_step(
 
 // The check of a feed: the number of the first of the rules 1 to 8 that refuses it, 0 where none does.
 fn feed_refusal(
-    l: &[u8],
+    list: &[u8],
     bound: u64,
     classes: &[u8],
     parts: &[u8],
     rows: &[u8],
     splits: &[u8],
-    r: &[u8],
-    at: u64,
+    flow: &[u8],
+    start: u64,
     piece: &[u8],
 ) -> u32
-    ensures { λ res. ⌜ res ≡ verdict (splitRules (now (l .entry)) bound (record { classes = now (classes .entry); parts = now (parts .entry); rows = now (rows .entry); splits = now (splits .entry) }) (now (r .entry)) at (now (piece .entry))) ⌝ }
+    ensures { λ r. ⌜ r ≡ verdict (splitRules (now (list .entry)) bound (table (now (classes .entry)) (now (parts .entry)) (now (rows .entry)) (now (splits .entry))) (now (flow .entry)) start (now (piece .entry))) ⌝ }
 {
-    let listed = lists::check_list(l);
+    let listed = lists::check_list(list);
     if listed != rules::PASSED {
         return listed;
     }
-    let met = flows::flow_refusal(r, at, piece);
+    let met = flows::flow_refusal(flow, start, piece);
     if met != rules::PASSED {
         return met;
     }
@@ -138,7 +138,7 @@ fn feed_refusal(
 
 // Runs the split step from a frontier at an offset over the bytes that it moves and whose pairs all fit the words.
 fn feed_bytes(
-    l: &[u8],
+    list: &[u8],
     bound: u64,
     classes: &[u8],
     parts: &[u8],
@@ -147,12 +147,12 @@ fn feed_bytes(
     first: StateSet,
     offset: u64,
     piece: &[u8],
-    out: &mut [u32],
+    pairs: &mut [u32],
 ) -> Ran
     requires { ⌜ (offset + length (now piece) ≤ mostOffset) × (setSize * (partCount (now parts) * classCount (now classes)) ≤ length (now rows)) ⌝ }
-    ensures going { λ res. ⌜ Going (split (now (l .entry)) bound (record { classes = now (classes .entry); parts = now (parts .entry); rows = now (rows .entry); splits = now (splits .entry) })) (setOf first) offset (now (piece .entry)) (now (out .entry)) (setOf (res .frontier)) (now (out .exit)) (res .bytes) (res .words) (res .rows) ⌝ }
-    ensures longest { λ res. ⌜ consumed (split (now (l .entry)) bound (record { classes = now (classes .entry); parts = now (parts .entry); rows = now (rows .entry); splits = now (splits .entry) })) (setOf first) (room (now (out .entry))) (now (piece .entry)) ≡ res .bytes ⌝ }
-    ensures refused { λ res. ⌜ res .refusal ≡ cond (ltb (res .bytes) (length (now (piece .entry))) && stuck bound (record { classes = now (classes .entry); parts = now (parts .entry); rows = now (rows .entry); splits = now (splits .entry) }) (setOf (res .frontier))) 14 0 ⌝ }
+    ensures going { λ r. ⌜ Going (split (now (list .entry)) bound (table (now (classes .entry)) (now (parts .entry)) (now (rows .entry)) (now (splits .entry)))) (setOf first) offset (now (piece .entry)) (now (pairs .entry)) (setOf (r .frontier)) (now (pairs .exit)) (r .bytes) (r .words) (r .rows) ⌝ }
+    ensures longest { λ r. ⌜ consumed (split (now (list .entry)) bound (table (now (classes .entry)) (now (parts .entry)) (now (rows .entry)) (now (splits .entry)))) (setOf first) (room (now (pairs .entry))) (now (piece .entry)) ≡ r .bytes ⌝ }
+    ensures refused { λ r. ⌜ r .refusal ≡ cond (ltb (r .bytes) (length (now (piece .entry))) && stuck bound (table (now (classes .entry)) (now (parts .entry)) (now (rows .entry)) (now (splits .entry))) (setOf (r .frontier))) 14 0 ⌝ }
 {
     let k = tables::class_count(classes);
     let mut ran = Ran {
@@ -163,7 +163,7 @@ fn feed_bytes(
         rows: 0,
     };
     for i in 0..piece.len() {
-        let left = (out.len() - ran.words) / 2;
+        let left = (pairs.len() - ran.words) / 2;
         let f = ran.frontier;
         let t = split_step(classes, parts, rows, splits, k, bound, f, piece[i]);
         let halts = t.halts;
@@ -172,12 +172,12 @@ fn feed_bytes(
             return ran;
         }
         let next = t.next;
-        let g = lists::accepted(l, next);
+        let g = lists::accepted(list, next);
         let n = g.count() as usize;
         if left < n {
             return ran;
         }
-        feeds::tell(out, ran.words, g, (offset + i as u64 + 1) as u32);
+        feeds::tell(pairs, ran.words, g, (offset + i as u64 + 1) as u32);
         let words = ran.words + 2 * n;
         let spent = ran.rows + t.rows;
         let bytes = i + 1;
@@ -194,20 +194,32 @@ fn feed_bytes(
 
 // Feeds a piece to a flow by its table. A refusal before the first byte changes nothing; one at a later byte keeps what the bytes before it leave.
 pub fn feed(
-    l: &[u8],
+    list: &[u8],
     bound: u64,
     classes: &[u8],
     parts: &[u8],
     rows: &[u8],
     splits: &[u8],
-    r: &mut [u8],
-    at: u64,
+    flow: &mut [u8],
+    start: u64,
     piece: &[u8],
-    out: &mut [u32],
+    pairs: &mut [u32],
 ) -> Fed
-    ensures { λ res. ⌜ Answers (splitFeed (now (l .entry)) bound (record { classes = now (classes .entry); parts = now (parts .entry); rows = now (rows .entry); splits = now (splits .entry) }) (now (r .entry)) at (now (piece .entry)) (now (out .entry))) res (now (out .exit)) (now (r .exit)) ⌝ }
+    ensures { λ r. ⌜ Answers (splitFeed (now (list .entry)) bound
+        (table (now (classes .entry)) (now (parts .entry)) (now (rows .entry)) (now (splits .entry)))
+        (now (flow .entry)) start (now (piece .entry)) (now (pairs .entry))) r (now (pairs .exit)) (now (flow .exit)) ⌝ }
 {
-    let refusal = feed_refusal(l, bound, classes, parts, rows, splits, r, at, piece);
+    let refusal = feed_refusal(
+        list,
+        bound,
+        classes,
+        parts,
+        rows,
+        splits,
+        flow,
+        start,
+        piece,
+    );
     if refusal != rules::PASSED {
         return Fed {
             refusal: refusal,
@@ -216,11 +228,27 @@ pub fn feed(
             all: false,
         };
     }
-    let f = StateSet::load(r, 0);
-    let from = flows::offset_of(r);
-    let spent = flows::rows_of(r);
-    let ran = feed_bytes(l, bound, classes, parts, rows, splits, f, from, piece, out);
-    flows::save(r, ran.frontier, from + ran.bytes as u64, spent + ran.rows);
+    let f = StateSet::load(flow, 0);
+    let from = flows::offset_of(flow);
+    let spent = flows::rows_of(flow);
+    let ran = feed_bytes(
+        list,
+        bound,
+        classes,
+        parts,
+        rows,
+        splits,
+        f,
+        from,
+        piece,
+        pairs,
+    );
+    flows::save(
+        flow,
+        ran.frontier,
+        from + ran.bytes as u64,
+        spent + ran.rows,
+    );
     Fed {
         refusal: ran.refusal,
         bytes: ran.bytes,

@@ -16,6 +16,10 @@ pub record Table : Type 0 where
   pub rows : List ℕ
   pub splits : List ℕ
 
+-- the table of these lists
+abbrev pub table : List ℕ → List ℕ → List ℕ → List ℕ → Table
+table C P W S = record { classes = C; parts = P; rows = W; splits = S }
+
 -- ---- what the lists hold
 
 -- bytes that a piece may have, one class for each; the largest class; the most parts and splits; the largest bound

@@ -10,7 +10,7 @@ ghost use Rattle.rules.specs.Scan.{every};
 ghost use Rattle.rules.specs.Rules.{verdict};
 ghost use Rattle.lists.specs.List.{listRefusal};
 ghost use Rattle.lists.specs.Automaton.{step};
-ghost use Rattle.tables.specs.Table.{byteValues, mostParts, largest, classCount, partCount, splitCount, part, rowAt, row, splitSet, slots, unusedSlot, usedSlots, allBelow, joined, isSplit, badClasses, badCount, badRowsLength, badLengths, goodSlots, inOrder, sizeRules, tableRefusal};
+ghost use Rattle.tables.specs.Table.{table, byteValues, mostParts, largest, classCount, partCount, splitCount, part, rowAt, row, splitSet, slots, unusedSlot, usedSlots, allBelow, joined, isSplit, badClasses, badCount, badRowsLength, badLengths, goodSlots, inOrder, sizeRules, tableRefusal};
 
 // Bytes that a piece may have; each has a class.
 pub const BYTE_VALUES: usize = 256;
@@ -139,14 +139,14 @@ fn bad_count(entry: usize, most: usize, xs: &[u8]) -> bool
 // Says whether the list of rows has another length than parts and classes ask for.
 fn bad_rows_length(classes: &[u8], parts: &[u8], rows: &[u8], splits: &[u8]) -> bool
     requires { ⌜ partCount (now parts) ≤ mostParts ⌝ }
-    ensures { λ r. ⌜ r ≡ badRowsLength (record { classes = now (classes .entry); parts = now (parts .entry); rows = now (rows .entry); splits = now (splits .entry) }) ⌝ }
+    ensures { λ r. ⌜ r ≡ badRowsLength (table (now (classes .entry)) (now (parts .entry)) (now (rows .entry)) (now (splits .entry))) ⌝ }
 {
     rows.len() != sets::BYTES * (part_count(parts) * class_count(classes))
 }
 
 // Says whether rule 8 refuses the table.
 fn bad_lengths(classes: &[u8], parts: &[u8], rows: &[u8], splits: &[u8]) -> bool
-    ensures { λ r. ⌜ r ≡ badLengths (record { classes = now (classes .entry); parts = now (parts .entry); rows = now (rows .entry); splits = now (splits .entry) }) ⌝ }
+    ensures { λ r. ⌜ r ≡ badLengths (table (now (classes .entry)) (now (parts .entry)) (now (rows .entry)) (now (splits .entry))) ⌝ }
 {
     if bad_classes(classes) {
         return true;
@@ -162,7 +162,7 @@ fn bad_lengths(classes: &[u8], parts: &[u8], rows: &[u8], splits: &[u8]) -> bool
 
 // The size rules: 7 where the bound refuses, 8 where a list does, 0 where neither does.
 pub fn size_refusal(bound: u64, classes: &[u8], parts: &[u8], rows: &[u8], splits: &[u8]) -> u32
-    ensures { λ r. ⌜ r ≡ verdict (sizeRules bound (record { classes = now (classes .entry); parts = now (parts .entry); rows = now (rows .entry); splits = now (splits .entry) })) ⌝ }
+    ensures { λ r. ⌜ r ≡ verdict (sizeRules bound (table (now (classes .entry)) (now (parts .entry)) (now (rows .entry)) (now (splits .entry)))) ⌝ }
 {
     if (bound == 0) | (MOST_BOUND < bound) {
         return 7;
@@ -224,12 +224,12 @@ fn splits_good(splits: &[u8], n: usize, bound: u64) -> bool
 }
 
 // Says whether rule 10 passes the rows of part p, whose set is f.
-fn rows_at(l: &[u8], classes: &[u8], rows: &[u8], k: usize, p: usize, f: StateSet) -> bool
+fn rows_at(list: &[u8], classes: &[u8], rows: &[u8], k: usize, p: usize, f: StateSet) -> bool
     requires { ⌜ (k ≡ classCount (now classes)) × (p < mostParts) ⌝ }
-    ensures { λ r. ⌜ r ≡ every byteValues (λ c. eqb (row (now (classes .entry)) (now (rows .entry)) p c) (step (now (l .entry)) (setOf f) c)) ⌝ }
+    ensures { λ r. ⌜ r ≡ every byteValues (λ c. eqb (row (now (classes .entry)) (now (rows .entry)) p c) (step (now (list .entry)) (setOf f) c)) ⌝ }
 {
     for c in 0..BYTE_VALUES {
-        if !row_set(classes, rows, k, p, c as u8).same(lists::step(l, f, c as u8)) {
+        if !row_set(classes, rows, k, p, c as u8).same(lists::step(list, f, c as u8)) {
             return false;
         }
     }
@@ -237,13 +237,13 @@ fn rows_at(l: &[u8], classes: &[u8], rows: &[u8], k: usize, p: usize, f: StateSe
 }
 
 // Says whether rule 10 passes the rows.
-fn rows_good(l: &[u8], classes: &[u8], parts: &[u8], rows: &[u8], k: usize) -> bool
+fn rows_good(list: &[u8], classes: &[u8], parts: &[u8], rows: &[u8], k: usize) -> bool
     requires { ⌜ (k ≡ classCount (now classes)) × (partCount (now parts) ≤ mostParts) ⌝ }
-    ensures { λ r. ⌜ r ≡ every (partCount (now (parts .entry))) (λ p. every byteValues (λ c. eqb (row (now (classes .entry)) (now (rows .entry)) p c) (step (now (l .entry)) (part (now (parts .entry)) p) c))) ⌝ }
+    ensures { λ r. ⌜ r ≡ every (partCount (now (parts .entry))) (λ p. every byteValues (λ c. eqb (row (now (classes .entry)) (now (rows .entry)) p c) (step (now (list .entry)) (part (now (parts .entry)) p) c))) ⌝ }
 {
     let n = part_count(parts);
     for p in 0..n {
-        if !rows_at(l, classes, rows, k, p, part_set(parts, p)) {
+        if !rows_at(list, classes, rows, k, p, part_set(parts, p)) {
             return false;
         }
     }
@@ -358,27 +358,27 @@ fn leads(classes: &[u8], rows: &[u8], splits: &[u8], k: usize) -> bool
 
 // Rules 9 to 13, for a table that the rules before them pass.
 fn entries_refusal(
-    l: &[u8],
+    list: &[u8],
     bound: u64,
     classes: &[u8],
     parts: &[u8],
     rows: &[u8],
     splits: &[u8],
 ) -> u32
-    requires { ⌜ (listRefusal (now l) ≡ 0) × (verdict (sizeRules bound (record { classes = now classes; parts = now parts; rows = now rows; splits = now splits })) ≡ 0) ⌝ }
-    ensures { λ r. ⌜ r ≡ tableRefusal (now (l .entry)) bound (record { classes = now (classes .entry); parts = now (parts .entry); rows = now (rows .entry); splits = now (splits .entry) }) ⌝ }
+    requires { ⌜ (listRefusal (now list) ≡ 0) × (verdict (sizeRules bound (table (now classes) (now parts) (now rows) (now splits))) ≡ 0) ⌝ }
+    ensures { λ r. ⌜ r ≡ tableRefusal (now (list .entry)) bound (table (now (classes .entry)) (now (parts .entry)) (now (rows .entry)) (now (splits .entry))) ⌝ }
 {
     let k = class_count(classes);
     if !splits_good(splits, part_count(parts), bound) {
         return 9;
     }
-    if !rows_good(l, classes, parts, rows, k) {
+    if !rows_good(list, classes, parts, rows, k) {
         return 10;
     }
     if !unions_good(parts, splits) {
         return 11;
     }
-    if !is_split_sorted(splits, lists::start_set(l)) {
+    if !is_split_sorted(splits, lists::start_set(list)) {
         return 12;
     }
     if !leads(classes, rows, splits, k) {
@@ -389,16 +389,16 @@ fn entries_refusal(
 
 // The table check: the number of the first rule that refuses the table, 0 where none does.
 pub fn check_table(
-    l: &[u8],
+    list: &[u8],
     bound: u64,
     classes: &[u8],
     parts: &[u8],
     rows: &[u8],
     splits: &[u8],
 ) -> u32
-    ensures { λ r. ⌜ r ≡ tableRefusal (now (l .entry)) bound (record { classes = now (classes .entry); parts = now (parts .entry); rows = now (rows .entry); splits = now (splits .entry) }) ⌝ }
+    ensures { λ r. ⌜ r ≡ tableRefusal (now (list .entry)) bound (table (now (classes .entry)) (now (parts .entry)) (now (rows .entry)) (now (splits .entry))) ⌝ }
 {
-    let listed = lists::check_list(l);
+    let listed = lists::check_list(list);
     if listed != 0 {
         return listed;
     }
@@ -406,5 +406,5 @@ pub fn check_table(
     if sized != 0 {
         return sized;
     }
-    entries_refusal(l, bound, classes, parts, rows, splits)
+    entries_refusal(list, bound, classes, parts, rows, splits)
 }

@@ -4,7 +4,7 @@ ghost use mathlib.Core.Path.{_≡_};
 ghost use Rattle.lists.specs.List.{listRefusal};
 ghost use Rattle.plain.specs.Plain.{plainFeed};
 ghost use Rattle.plain.specs.Opens.{Opens};
-ghost use Rattle.tables.specs.Table.{tableRefusal};
+ghost use Rattle.tables.specs.Table.{table, tableRefusal};
 ghost use Rattle.splits.specs.Split.{splitFeed};
 ghost use Rattle.watch_c.specs.Face.{Faces, FaceAnswers};
 
@@ -70,7 +70,7 @@ pub extern "C" fn watch_check_table(
     rows: &[u8],
     splits: &[u8],
 ) -> u32
-    ensures { λ r. ⌜ r ≡ tableRefusal (now (list .entry)) bound (record { classes = now (classes .entry); parts = now (parts .entry); rows = now (rows .entry); splits = now (splits .entry) }) ⌝ }
+    ensures { λ r. ⌜ r ≡ tableRefusal (now (list .entry)) bound (table (now (classes .entry)) (now (parts .entry)) (now (rows .entry)) (now (splits .entry))) ⌝ }
 {
     tables::check_table(list, bound, classes, parts, rows, splits)
 }
@@ -89,7 +89,7 @@ pub extern "C" fn watch_split_feed(
     piece: &[u8],
     pairs: &mut [u32],
 ) -> WatchFed
-    ensures { λ r. ⌜ FaceAnswers (splitFeed (now (list .entry)) bound (record { classes = now (classes .entry); parts = now (parts .entry); rows = now (rows .entry); splits = now (splits .entry) }) (now (flow .entry)) start (now (piece .entry)) (now (pairs .entry))) r (now (pairs .exit)) (now (flow .exit)) ⌝ }
+    ensures { λ r. ⌜ FaceAnswers (splitFeed (now (list .entry)) bound (table (now (classes .entry)) (now (parts .entry)) (now (rows .entry)) (now (splits .entry))) (now (flow .entry)) start (now (piece .entry)) (now (pairs .entry))) r (now (pairs .exit)) (now (flow .exit)) ⌝ }
 {
     let f = splits::feed(
         list,

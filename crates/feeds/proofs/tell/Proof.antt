@@ -10,10 +10,10 @@ use Rattle.feeds.proofs.tell.Statement.{statement}
 use Rattle.feeds.proofs.tell.Tie as tie
 
 abbrev Inv-loop : tie.InvT-loop
-Inv-loop out₀ at offset words w₀ i₀ out w i = (i ≤ sigWords) × Left out₀ at offset (num 64 words) out w (num 64 words / 2 ^ (64 * i)) (64 * i)
+Inv-loop pairs₀ at offset words w₀ i₀ pairs w i = (i ≤ sigWords) × Left pairs₀ at offset (num 64 words) pairs w (num 64 words / 2 ^ (64 * i)) (64 * i)
 
 abbrev μ-loop : tie.MeasureT-loop
-μ-loop out₀ at offset words w₀ i₀ out w i = sigWords - i
+μ-loop pairs₀ at offset words w₀ i₀ pairs w i = sigWords - i
 
 -- the set has its words, and each fits
 valid : (c : tie.Start Inv-loop μ-loop) → Words sigWords (c .args .g .words)
@@ -23,7 +23,7 @@ loop-holds : tie.Need-loop-holds Inv-loop μ-loop
 loop-holds c =
     let s = c .before .before in
     let a = s .args in
-    (search needs, words-all (a .g .words) (valid s) (a .out .now) (a .at) (a .offset) (s .pre))
+    (search needs, words-all (a .g .words) (valid s) (a .pairs .now) (a .at) (a .offset) (s .pre))
 
 mul-tell-word : tie.Need-mul-tell-word Inv-loop μ-loop
 mul-tell-word c = search needs
@@ -39,7 +39,7 @@ tell-word-requires c κs =
     let s = c .before .before .before .before .before in
     let a = s .args in
     let l = c .before .before .loop in
-    words-low (a .g .words) (valid s) (a .out .now) (a .at) (a .offset) (s .pre) (l .out) (l .w) (l .i) (l .inv .1) (omega arith)
+    words-low (a .g .words) (valid s) (a .pairs .now) (a .at) (a .offset) (s .pre) (l .pairs) (l .w) (l .i) (l .inv .1) (omega arith)
 
 add-i : tie.Need-add-i Inv-loop μ-loop
 add-i c = search needs
@@ -53,7 +53,7 @@ loop-again c =
     let a = s .args in
     let l = c .before .before .before .before .before .loop in (
       omega arith,
-      words-more (a .g .words) (valid s) (a .out .now) (a .at) (a .offset) (s .pre) (l .out) (l .w) (l .i) (l .inv .1) (omega arith) _ _ (c .before .before .tell-word .ensures),
+      words-more (a .g .words) (valid s) (a .pairs .now) (a .at) (a .offset) (s .pre) (l .pairs) (l .w) (l .i) (l .inv .1) (omega arith) _ _ (c .before .before .tell-word .ensures),
     )
 
 same-length : tie.Need-same-length Inv-loop μ-loop
@@ -64,7 +64,7 @@ returns c =
     let s = c .before .before .before .before in
     let a = s .args in
     let l = c .before .loop in
-    words-none (a .g .words) (valid s) (a .out .now) (a .at) (a .offset) (s .pre) (l .out) (l .w) (l .i) (l .inv .1) (omega arith)
+    words-none (a .g .words) (valid s) (a .pairs .now) (a .at) (a .offset) (s .pre) (l .pairs) (l .w) (l .i) (l .inv .1) (omega arith)
 
 pub tell-spec : {M : Type 1} → statement M
 tell-spec =

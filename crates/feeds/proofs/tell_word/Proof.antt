@@ -7,13 +7,13 @@ use Rattle.feeds.proofs.tell_word.Statement.{statement}
 use Rattle.feeds.proofs.tell_word.Tie as tie
 
 abbrev Inv-loop : tie.InvT-loop
-Inv-loop out₀ at word base offset w₀ rest₀ s₀ out w rest s = Left out₀ at offset (word * 2 ^ base) out w rest s
+Inv-loop pairs₀ at word base offset w₀ rest₀ s₀ pairs w rest s = Left pairs₀ at offset (word * 2 ^ base) pairs w rest s
 
 abbrev μ-loop : tie.MeasureT-loop
-μ-loop out₀ at word base offset w₀ rest₀ s₀ out w rest s = rest
+μ-loop pairs₀ at word base offset w₀ rest₀ s₀ pairs w rest s = rest
 
 loop-holds : tie.Need-loop-holds Inv-loop μ-loop
-loop-holds c = let a = c .before .args in left-all (a .out .now) (a .at) (a .offset) (a .word) (a .base) (c .before .pre .0)
+loop-holds c = let a = c .before .args in left-all (a .pairs .now) (a .at) (a .offset) (a .word) (a .base) (c .before .pre .0)
 
 tell-byte-requires : tie.Need-tell-byte-requires Inv-loop μ-loop
 tell-byte-requires c κs = left-low (c .before .before .loop .inv) (c .before .before .before .before .pre .1) 8

@@ -10,7 +10,7 @@ use Rattle.flows.proofs.bad_flow.Tie as tie
 
 returns : tie.Need-returns
 unfolding badFlow
-returns c = rw (ne-eqb (length (c .before .before .args .r .now)) flowSize (c .if1 .taken))
+returns c = rw (ne-eqb (length (c .before .before .args .flow .now)) flowSize (c .if1 .taken))
 
 reserved-of-requires : tie.Need-reserved-of-requires
 reserved-of-requires c κs = search needs
@@ -19,7 +19,7 @@ offset-of-requires : tie.Need-offset-of-requires
 offset-of-requires c κs = search needs
 
 mul-result : tie.Need-mul-result
-mul-result c = omega (arith, c .offset-of .ensures, offset-lt (c .before .before .before .before .args .r .now) (λ i. c .before .before .before .shared-slice-known .given i .fits))
+mul-result c = omega (arith, c .offset-of .ensures, offset-lt (c .before .before .before .before .args .flow .now) (λ i. c .before .before .before .shared-slice-known .given i .fits))
 
 rows-of-requires : tie.Need-rows-of-requires
 rows-of-requires c κs = search needs
@@ -31,7 +31,7 @@ returns-2 c =
       c .rows-of .ensures,
       c .before .offset-of .ensures,
       c .before .before .reserved-of .ensures,
-      eq-eqb (length (c .before .before .before .before .before .args .r .now)) flowSize (c .before .before .before .if1 .left),
+      eq-eqb (length (c .before .before .before .before .before .args .flow .now)) flowSize (c .before .before .before .if1 .left),
     )
 
 pub bad-flow-spec : {M : Type 1} → statement M

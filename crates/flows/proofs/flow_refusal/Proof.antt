@@ -14,16 +14,16 @@ use Rattle.flows.proofs.flow_refusal.Statement.{statement}
 use Rattle.flows.proofs.flow_refusal.Tie as tie
 
 -- rules 4 and 5 do not apply where the code has passed them
-good : (c : tie.Else1) → badFlow (c .before .before .before .before .args .r .now) ≡ false
+good : (c : tie.Else1) → badFlow (c .before .before .before .before .args .flow .now) ≡ false
 good c = sym (c .before .bad-flow .ensures) ∙ c .if1 .left
 
-at-offset : (c : tie.Else2) → otherStart (c .before .before .before .before .before .before .args .r .now) (c .before .before .before .before .before .before .args .at) ≡ false
+at-offset : (c : tie.Else2) → otherStart (c .before .before .before .before .before .before .args .flow .now) (c .before .before .before .before .before .before .args .start) ≡ false
 at-offset c = ap not (eq-eqb _ _ (c .if2 .left ∙ c .before .offset-of .ensures))
 
 -- the offset is at most the largest
-most : (c : tie.Else2) → offsetOf (c .before .before .before .before .before .before .args .r .now) ≤ mostOffset
+most : (c : tie.Else2) → offsetOf (c .before .before .before .before .before .before .args .flow .now) ≤ mostOffset
 most c =
-    offset-lt (c .before .before .before .before .before .before .args .r .now) (λ i. c .before .before .before .before .before .shared-slice-known .given i .fits)
+    offset-lt (c .before .before .before .before .before .before .args .flow .now) (λ i. c .before .before .before .before .before .shared-slice-known .given i .fits)
 
 bad-flow-requires : tie.Need-bad-flow-requires
 bad-flow-requires c κs = search needs
@@ -43,7 +43,7 @@ sub-if3 c = omega (arith, most c)
 returns-3 : tie.Need-returns-3
 returns-3 c =
     let a = c .before .before .before .before .before .before .before .args in
-    sym (skip 4 _ (good (c .before .before .before)) ∙ skip 5 _ (at-offset (c .before)) ∙ stop 6 _ (lt-ltb mostOffset (offsetOf (a .r .now) + length (a .piece .now)) (omega (arith, c .before .before .offset-of .ensures))))
+    sym (skip 4 _ (good (c .before .before .before)) ∙ skip 5 _ (at-offset (c .before)) ∙ stop 6 _ (lt-ltb mostOffset (offsetOf (a .flow .now) + length (a .piece .now)) (omega (arith, c .before .before .offset-of .ensures))))
 
 returns-4 : tie.Need-returns-4
 returns-4 c =
@@ -51,7 +51,7 @@ returns-4 c =
     sym (
     skip 4 _ (good (c .before .before .before))
     ∙ skip 5 _ (at-offset (c .before))
-    ∙ last 6 (le-ltb mostOffset (offsetOf (a .r .now) + length (a .piece .now)) (omega (arith, c .before .before .offset-of .ensures, most (c .before)))))
+    ∙ last 6 (le-ltb mostOffset (offsetOf (a .flow .now) + length (a .piece .now)) (omega (arith, c .before .before .offset-of .ensures, most (c .before)))))
 
 pub flow-refusal-spec : {M : Type 1} → statement M
 flow-refusal-spec = tie.close (tie.spec bad-flow-requires returns offset-of-requires returns-2 sub-if3 returns-3 returns-4)

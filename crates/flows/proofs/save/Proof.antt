@@ -32,12 +32,12 @@ returns c =
     let frontier = offset .before .before .before .before in
     let then = frontier .before .before in
     let a = then .before .before .args in
-    rw (eq-eqb (length (a .r .now)) flowSize (then .if1 .taken))
+    rw (eq-eqb (length (a .flow .now)) flowSize (then .if1 .taken))
     (rows .put-number3 .ensures
-    ∙ rw (reserved .put-number2 .ensures, offset .put-number .ensures, frontier .store .ensures) (placed-flow (a .r .now) (setOf (a .f)) (a .offset) (a .rows) (then .if1 .taken)))
+    ∙ rw (reserved .put-number2 .ensures, offset .put-number .ensures, frontier .store .ensures) (placed-flow (a .flow .now) (setOf (a .f)) (a .offset) (a .rows) (then .if1 .taken)))
 
 returns-2 : tie.Need-returns-2
-returns-2 c = rw (ne-eqb (length (c .before .before .args .r .now)) flowSize (c .if1 .left))
+returns-2 c = rw (ne-eqb (length (c .before .before .args .flow .now)) flowSize (c .if1 .left))
 
 pub save-spec : {M : Type 1} → statement M
 save-spec = tie.close (tie.spec store-requires put-number-requires put-number-requires-2 put-number-requires-3 same-length returns returns-2)

@@ -14,11 +14,11 @@ use Rattle.lists.proofs.accepted.Statement.{statement}
 use Rattle.lists.proofs.accepted.Tie as tie
 
 abbrev Inv-loop : tie.InvT-loop
-Inv-loop l n frontier w₀ i₀ w i =
-    (i ≤ n) × (length w ≡ sigWords) × (num 64 w ≡ gather signatures (leaves l (num 64 frontier) (isAccept l)) (target l) i)
+Inv-loop list n frontier w₀ i₀ w i =
+    (i ≤ n) × (length w ≡ sigWords) × (num 64 w ≡ gather signatures (leaves list (num 64 frontier) (isAccept list)) (target list) i)
 
 abbrev μ-loop : tie.MeasureT-loop
-μ-loop l n frontier w₀ i₀ w i = n - i
+μ-loop list n frontier w₀ i₀ w i = n - i
 
 records-requires : tie.Need-records-requires Inv-loop μ-loop
 records-requires c κs = search needs
@@ -56,7 +56,7 @@ of-words-requires c κs = search needs
 
 returns : tie.Need-returns Inv-loop μ-loop
 unfolding accepted
-returns c = let e : c .before .before .loop .i ≡ records (c .before .before .before .before .before .before .before .args .l .now) = omega arith in cc
+returns c = let e : c .before .before .loop .i ≡ records (c .before .before .before .before .before .before .before .args .list .now) = omega arith in cc
 
 pub accepted-spec : {M : Type 1} → statement M
 accepted-spec =

@@ -13,10 +13,10 @@ use Rattle.lists.proofs.bad_record.Statement.{statement}
 use Rattle.lists.proofs.bad_record.Tie as tie
 
 abbrev Inv-loop : tie.InvT-loop
-Inv-loop l n i₀ i = (i ≤ n) × (every i (goodRecord l) ≡ true)
+Inv-loop list n i₀ i = (i ≤ n) × (every i (goodRecord list) ≡ true)
 
 abbrev μ-loop : tie.MeasureT-loop
-μ-loop l n i₀ i = n - i
+μ-loop list n i₀ i = n - i
 
 records-requires : tie.Need-records-requires Inv-loop μ-loop
 records-requires c κs = search needs
@@ -33,7 +33,7 @@ unfolding badRecord
 returns c =
     let p = c .before .before .before .loop in
     let a = c .before .before .before .before .before .before .args in
-    sym (ap not (every-fails (records (a .l .now)) (goodRecord (a .l .now)) (p .i) (omega arith) (sym (c .before .good-record .ensures) ∙ not-true _ (c .if1 .taken))))
+    sym (ap not (every-fails (records (a .list .now)) (goodRecord (a .list .now)) (p .i) (omega arith) (sym (c .before .good-record .ensures) ∙ not-true _ (c .if1 .taken))))
 
 add-i : tie.Need-add-i Inv-loop μ-loop
 add-i c = search needs
@@ -47,7 +47,7 @@ loop-again c = (search needs, rw (add-one, c .before .before .before .loop .inv 
 
 returns-2 : tie.Need-returns-2 Inv-loop μ-loop
 unfolding badRecord
-returns-2 c = let e : c .before .loop .i ≡ records (c .before .before .before .before .args .l .now) = omega arith in rw (sym e, c .before .loop .inv .1)
+returns-2 c = let e : c .before .loop .i ≡ records (c .before .before .before .before .args .list .now) = omega arith in rw (sym e, c .before .loop .inv .1)
 
 pub bad-record-spec : {M : Type 1} → statement M
 bad-record-spec =

@@ -15,7 +15,7 @@ returns : tie.Need-returns
 returns c = rw (c .before .before .if1 .taken) (cc)
 
 returns-2 : tie.Need-returns-2
-returns-2 c = let a = c .before .before .args in adds-none (a .l .now) (a .c) (a .s) (setOf (a .next)) (a .test) (c .if1 .left)
+returns-2 c = let a = c .before .before .args in adds-none (a .list .now) (a .c) (a .s) (setOf (a .next)) (a .test) (c .if1 .left)
 
 pub join-targets-spec : {M : Type 1} → statement M
 join-targets-spec = tie.close (tie.spec targets-requires union-requires returns returns-2)

@@ -11,11 +11,11 @@ use Rattle.lists.proofs.join_word.Statement.{statement}
 use Rattle.lists.proofs.join_word.Tie as tie
 
 abbrev Inv-loop : tie.InvT-loop
-Inv-loop l word base c all₀ rest₀ s₀ all rest s =
-    (rest * 2 ^ s < 2 ^ states) × (join (setOf all) (step l (rest * 2 ^ s) c) ≡ join (setOf all₀) (step l (word * 2 ^ base) c))
+Inv-loop list word base c all₀ rest₀ s₀ all rest s =
+    (rest * 2 ^ s < 2 ^ states) × (join (setOf all) (step list (rest * 2 ^ s) c) ≡ join (setOf all₀) (step list (word * 2 ^ base) c))
 
 abbrev μ-loop : tie.MeasureT-loop
-μ-loop l word base c all₀ rest₀ s₀ all rest s = rest
+μ-loop list word base c all₀ rest₀ s₀ all rest s = rest
 
 loop-holds : tie.Need-loop-holds Inv-loop μ-loop
 loop-holds c = (c .before .pre, refl)
@@ -36,15 +36,15 @@ loop-again c =
     let a = c .before .before .before .before .args in
     let p = c .before .before .loop in (
       high-in states (p .rest) (p .s) 1 (p .inv .0),
-      rw (c .join-targets .ensures) (bit-read (a .l .now) (a .c) (p .rest) (p .s) (setOf (p .all)) ∙ p .inv .1),
+      rw (c .join-targets .ensures) (bit-read (a .list .now) (a .c) (p .rest) (p .s) (setOf (p .all)) ∙ p .inv .1),
     )
 
 returns : tie.Need-returns Inv-loop μ-loop
 returns c =
     let a = c .before .before .before .args in
     let p = c .before .loop in
-    sym (nothing-left (a .l .now) (a .c) (p .s) (setOf (p .all)))
-    ∙ ap (λ (n : ℕ). join (setOf (p .all)) (step (a .l .now) (n * 2 ^ p .s) (a .c))) (sym (c .loop-test .left))
+    sym (nothing-left (a .list .now) (a .c) (p .s) (setOf (p .all)))
+    ∙ ap (λ (n : ℕ). join (setOf (p .all)) (step (a .list .now) (n * 2 ^ p .s) (a .c))) (sym (c .loop-test .left))
     ∙ p .inv .1
 
 pub join-word-spec : {M : Type 1} → statement M

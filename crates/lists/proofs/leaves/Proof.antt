@@ -17,8 +17,8 @@ edge-requires c κs = search needs
 returns : tie.Need-returns
 returns c =
     let a = c .before .before .before .args in
-    let f = from (a .l .now) (a .i) in
-    rw (c .edge .ensures, c .before .from .ensures, holds-pow (a .s) f) (and-comm (eqb f (a .s)) (edge (a .l .now) (a .c) (a .i)))
+    let f = from (a .list .now) (a .i) in
+    rw (c .edge .ensures, c .before .from .ensures, holds-pow (a .s) f) (and-comm (eqb f (a .s)) (edge (a .list .now) (a .c) (a .i)))
 
 pub leaves-spec : {M : Type 1} → statement M
 leaves-spec = tie.close (tie.spec from-requires edge-requires returns)

@@ -12,10 +12,10 @@ use Rattle.lists.proofs.no_start.Statement.{statement}
 use Rattle.lists.proofs.no_start.Tie as tie
 
 abbrev Inv-loop : tie.InvT-loop
-Inv-loop l n i₀ i = (i ≤ n) × (some i (isStart l) ≡ false)
+Inv-loop list n i₀ i = (i ≤ n) × (some i (isStart list) ≡ false)
 
 abbrev μ-loop : tie.MeasureT-loop
-μ-loop l n i₀ i = n - i
+μ-loop list n i₀ i = n - i
 
 records-requires : tie.Need-records-requires Inv-loop μ-loop
 records-requires c κs = search needs
@@ -32,7 +32,7 @@ unfolding noStart
 returns c =
     let p = c .before .before .before .loop in
     let a = c .before .before .before .before .before .before .args in
-    sym (ap not (some-intro (records (a .l .now)) (isStart (a .l .now)) (p .i) (omega arith) (sym (c .before .is-start .ensures) ∙ c .if1 .taken)))
+    sym (ap not (some-intro (records (a .list .now)) (isStart (a .list .now)) (p .i) (omega arith) (sym (c .before .is-start .ensures) ∙ c .if1 .taken)))
 
 add-i : tie.Need-add-i Inv-loop μ-loop
 add-i c = search needs
@@ -46,7 +46,7 @@ loop-again c = (search needs, rw add-one (cc))
 
 returns-2 : tie.Need-returns-2 Inv-loop μ-loop
 unfolding noStart
-returns-2 c = let e : c .before .loop .i ≡ records (c .before .before .before .before .args .l .now) = omega arith in rw (sym e, c .before .loop .inv .1)
+returns-2 c = let e : c .before .loop .i ≡ records (c .before .before .before .before .args .list .now) = omega arith in rw (sym e, c .before .loop .inv .1)
 
 pub no-start-spec : {M : Type 1} → statement M
 no-start-spec =

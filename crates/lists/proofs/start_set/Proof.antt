@@ -14,10 +14,10 @@ use Rattle.lists.proofs.start_set.Statement.{statement}
 use Rattle.lists.proofs.start_set.Tie as tie
 
 abbrev Inv-loop : tie.InvT-loop
-Inv-loop l n w₀ i₀ w i = (i ≤ n) × (length w ≡ setWords) × (num 64 w ≡ gather states (isStart l) (target l) i)
+Inv-loop list n w₀ i₀ w i = (i ≤ n) × (length w ≡ setWords) × (num 64 w ≡ gather states (isStart list) (target list) i)
 
 abbrev μ-loop : tie.MeasureT-loop
-μ-loop l n w₀ i₀ w i = n - i
+μ-loop list n w₀ i₀ w i = n - i
 
 records-requires : tie.Need-records-requires Inv-loop μ-loop
 records-requires c κs = search needs
@@ -52,7 +52,7 @@ of-words-requires c κs = search needs
 
 returns : tie.Need-returns Inv-loop μ-loop
 unfolding start
-returns c = let e : c .before .before .loop .i ≡ records (c .before .before .before .before .before .before .args .l .now) = omega arith in cc
+returns c = let e : c .before .before .loop .i ≡ records (c .before .before .before .before .before .before .args .list .now) = omega arith in cc
 
 pub start-set-spec : {M : Type 1} → statement M
 start-set-spec =

@@ -14,15 +14,15 @@ use Rattle.lists.proofs.step.Statement.{statement}
 use Rattle.lists.proofs.step.Tie as tie
 
 abbrev Inv-loop : tie.InvT-loop
-Inv-loop l c words next₀ i₀ next i = (i ≤ setWords) × (setOf next ≡ step l (num 64 (take i words)) c)
+Inv-loop list c words next₀ i₀ next i = (i ≤ setWords) × (setOf next ≡ step list (num 64 (take i words)) c)
 
 abbrev μ-loop : tie.MeasureT-loop
-μ-loop l c words next₀ i₀ next i = setWords - i
+μ-loop list c words next₀ i₀ next i = setWords - i
 
 loop-holds : tie.Need-loop-holds Inv-loop μ-loop
 loop-holds c =
     let a = c .before .before .args in
-    (search needs, empty-words setWords ∙ sym (none-read (a .l .now) (a .f .words) (a .c)))
+    (search needs, empty-words setWords ∙ sym (none-read (a .list .now) (a .f .words) (a .c)))
 
 mul-join-word : tie.Need-mul-join-word Inv-loop μ-loop
 mul-join-word c = search needs
@@ -49,14 +49,14 @@ loop-again c =
     let s = c .before .before .before .before .before in
     let p = c .before .before .loop in (
       search needs,
-      cc (word-read (s .args .l .now) (s .args .f .words) (s .args .c) (p .i) (valid-of (s .args .f) _ (s .good .1 .0) .small)),
+      cc (word-read (s .args .list .now) (s .args .f .words) (s .args .c) (p .i) (valid-of (s .args .f) _ (s .good .1 .0) .small)),
     )
 
 returns : tie.Need-returns Inv-loop μ-loop
 returns c =
     let s = c .before .before .before .before in
     let p = c .before .loop in
-    p .inv .1 ∙ all-read (s .args .l .now) (s .args .f .words) (s .args .c) (p .i) (omega (arith, valid-of (s .args .f) _ (s .good .1 .0) .long))
+    p .inv .1 ∙ all-read (s .args .list .now) (s .args .f .words) (s .args .c) (p .i) (omega (arith, valid-of (s .args .f) _ (s .good .1 .0) .long))
 
 pub step-spec : {M : Type 1} → statement M
 step-spec =

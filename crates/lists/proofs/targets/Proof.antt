@@ -14,11 +14,11 @@ use Rattle.lists.proofs.targets.Statement.{statement}
 use Rattle.lists.proofs.targets.Tie as tie
 
 abbrev Inv-loop : tie.InvT-loop
-Inv-loop l s c n w₀ i₀ w i =
-    (i ≤ n) × (length w ≡ setWords) × (num 64 w ≡ gather states (leaves l (2 ^ s) (edge l c)) (target l) i)
+Inv-loop list s c n w₀ i₀ w i =
+    (i ≤ n) × (length w ≡ setWords) × (num 64 w ≡ gather states (leaves list (2 ^ s) (edge list c)) (target list) i)
 
 abbrev μ-loop : tie.MeasureT-loop
-μ-loop l s c n w₀ i₀ w i = n - i
+μ-loop list s c n w₀ i₀ w i = n - i
 
 records-requires : tie.Need-records-requires Inv-loop μ-loop
 records-requires c κs = search needs
@@ -53,7 +53,7 @@ of-words-requires c κs = search needs
 
 returns : tie.Need-returns Inv-loop μ-loop
 unfolding step
-returns c = let e : c .before .before .loop .i ≡ records (c .before .before .before .before .before .before .args .l .now) = omega arith in cc
+returns c = let e : c .before .before .loop .i ≡ records (c .before .before .before .before .before .before .args .list .now) = omega arith in cc
 
 pub targets-spec : {M : Type 1} → statement M
 targets-spec =

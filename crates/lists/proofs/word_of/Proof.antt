@@ -31,7 +31,7 @@ add-result c = search needs
 
 returns : tie.Need-returns
 returns c =
-    let l = c .before .before .before .args .l .now in
+    let l = c .before .before .before .args .list .now in
     let i = c .before .before .before .args .i in
     let k = c .before .before .before .args .k in
     let e : recordSize * i + (k + 1) ≡ recordSize * i + k + 1 = omega arith in

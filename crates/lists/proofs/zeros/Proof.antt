@@ -11,10 +11,10 @@ use Rattle.lists.proofs.zeros.Statement.{statement}
 use Rattle.lists.proofs.zeros.Tie as tie
 
 abbrev Inv-loop : tie.InvT-loop
-Inv-loop l i n all₀ k₀ all k = (k ≤ n) × (all ≡ every k (λ j. eqb (byteOf l i (j + 1)) 0))
+Inv-loop list i n all₀ k₀ all k = (k ≤ n) × (all ≡ every k (λ j. eqb (byteOf list i (j + 1)) 0))
 
 abbrev μ-loop : tie.MeasureT-loop
-μ-loop l i n all₀ k₀ all k = n - k
+μ-loop list i n all₀ k₀ all k = n - k
 
 loop-holds : tie.Need-loop-holds Inv-loop μ-loop
 unfolding every

@@ -29,27 +29,27 @@ passed c = c .before .before .before .before .before .before .before .before
 
 -- there no rule refuses, so the flow is good, and the piece ends at an offset
 verdict-0 : (c : tie.Else1)
-    → verdict (feedRules (entry (c .before) .args .l .now) (entry (c .before) .args .r .now) (entry (c .before) .args .at) (entry (c .before) .args .piece .now)) ≡ 0
+    → verdict (feedRules (entry (c .before) .args .list .now) (entry (c .before) .args .flow .now) (entry (c .before) .args .start) (entry (c .before) .args .piece .now)) ≡ 0
 verdict-0 c = sym (c .before .feed-refusal .ensures) ∙ c .if1 .left
 
 passes : (c : tie.Else1)
-    → (badFlow (entry (c .before) .args .r .now) ≡ false)
-    × (entry (c .before) .args .at ≡ offsetOf (entry (c .before) .args .r .now))
-    × (offsetOf (entry (c .before) .args .r .now) + length (entry (c .before) .args .piece .now) ≤ mostOffset)
+    → (badFlow (entry (c .before) .args .flow .now) ≡ false)
+    × (entry (c .before) .args .start ≡ offsetOf (entry (c .before) .args .flow .now))
+    × (offsetOf (entry (c .before) .args .flow .now) + length (entry (c .before) .args .piece .now) ≤ mostOffset)
 passes c =
     let a = entry (c .before) .args in
-    feed-passes (a .l .now) (a .r .now) (a .at) (a .piece .now) (verdict-0 c)
+    feed-passes (a .list .now) (a .flow .now) (a .start) (a .piece .now) (verdict-0 c)
 
 -- the rows of the loop are at most all states for each byte
 few : (c : tie.After-feed-bytes) → c .feed-bytes .result .rows ≤ states * c .feed-bytes .result .bytes
 few c =
     let s = passed c .before .before .before in
     let a = s .before .before .before .before .args in
-    rows-most (plain (a .l .now)) _ _ (a .piece .now) _ _ _ _ _ _ (c .feed-bytes .ensures .0)
-    (λ F. Unit {0}) (λ F b h p. tt) states (λ F p. plain-cheap (a .l .now) F) tt (λ i. s .before .shared-slice-known2 .given i .fits)
+    rows-most (plain (a .list .now)) _ _ (a .piece .now) _ _ _ _ _ _ (c .feed-bytes .ensures .0)
+    (λ F. Unit {0}) (λ F b h p. tt) states (λ F p. plain-cheap (a .list .now) F) tt (λ i. s .before .shared-slice-known2 .given i .fits)
 
 -- the loop begins at the frontier that the flow has saved
-began : (c : tie.After-feed-bytes) → setOf (c .before .before .load .result) ≡ frontierOf (entry (passed c .before) .args .r .now)
+began : (c : tie.After-feed-bytes) → setOf (c .before .before .load .result) ≡ frontierOf (entry (passed c .before) .args .flow .now)
 began c = c .before .before .load .ensures
 
 feed-refusal-requires : tie.Need-feed-refusal-requires
@@ -62,7 +62,7 @@ returns : tie.Need-returns
 returns c =
     let a = entry (c .before) .args in
     let e = c .before .feed-refusal .ensures in
-    answers-refused (plain (a .l .now)) flowLayout (a .r .now) (a .piece .now) (a .out .now) (feedRules (a .l .now) (a .r .now) (a .at) (a .piece .now)) _
+    answers-refused (plain (a .list .now)) flowLayout (a .flow .now) (a .piece .now) (a .pairs .now) (feedRules (a .list .now) (a .flow .now) (a .start) (a .piece .now)) _
     (λ z. c .if1 .taken (e ∙ z)) e refl refl refl
 
 offset-of-requires : tie.Need-offset-of-requires
@@ -93,7 +93,7 @@ add-save-2 c =
       ran .before .before .before .before .rows-of .ensures,
       few ran,
       passes (passed ran) .2,
-      good-flow (a .r .now) (passes (passed ran) .0) .2,
+      good-flow (a .flow .now) (passes (passed ran) .0) .2,
       ran .feed-bytes .ensures .0 .short,
     )
 
@@ -116,11 +116,11 @@ returns-2 c =
     let offset = ran .before .before .before .before .before .before .offset-of .ensures in
     let none : _≡_ {A = ℕ} 0 (cond (ltb (r .bytes) (length (a .piece .now)) && false) 14 0) = rw (and-false (ltb (r .bytes) (length (a .piece .now)))) in
     let o =
-    answers-fed (plain (a .l .now)) flowLayout (a .r .now) (a .piece .now) (a .out .now) (feedRules (a .l .now) (a .r .now) (a .at) (a .piece .now))
+    answers-fed (plain (a .list .now)) flowLayout (a .flow .now) (a .piece .now) (a .pairs .now) (feedRules (a .list .now) (a .flow .now) (a .start) (a .piece .now))
     (record { refusal = 0; bytes = r .bytes; pairs = r .words / 2; all = eqb (r .bytes) (length (a .piece .now)) })
     (setOf (r .frontier)) _ (r .bytes) (r .words) (r .rows) (rw (offset, began ran) at (ran .feed-bytes .ensures .0)) (verdict-0 (passed ran))
     (rw (began ran) at (ran .feed-bytes .ensures .1)) none refl refl refl _
-    (rw (eq-eqb (length (a .r .now)) flowSize (good-flow (a .r .now) (passes (passed ran) .0) .0), offset, rows) at (save .save .ensures)) in
+    (rw (eq-eqb (length (a .flow .now)) flowSize (good-flow (a .flow .now) (passes (passed ran) .0) .0), offset, rows) at (save .save .ensures)) in
     record { refusal = o .refusal; bytes = o .bytes; pairs = o .pairs; all = o .all; words = o .words; saved = o .saved }
 
 pub feed-spec : {M : Type 1} → statement M

@@ -14,35 +14,35 @@ use Rattle.plain.proofs.feed_bytes.Statement.{statement}
 use Rattle.plain.proofs.feed_bytes.Tie as tie
 
 abbrev Inv-loop : tie.InvT-loop
-Inv-loop l offset piece out₀ f₀ words₀ rows₀ i₀ i-end out f words rows i = Going (plain l) (setOf f₀) offset piece out₀ (setOf f) out i words rows
+Inv-loop list offset piece pairs₀ f₀ words₀ rows₀ i₀ i-end pairs f words rows i = Going (plain list) (setOf f₀) offset piece pairs₀ (setOf f) pairs i words rows
 
 abbrev μ-loop : tie.MeasureT-loop
-μ-loop l offset piece out₀ f₀ words₀ rows₀ i₀ i-end out f words rows i = length piece - i
+μ-loop list offset piece pairs₀ f₀ words₀ rows₀ i₀ i-end pairs f words rows i = length piece - i
 
 -- at the loop's head: the words stay as many, those written are among them, and the rows are at most all states for each byte
-kept : (c : tie.At-loop Inv-loop μ-loop) → length (c .loop .out) ≡ length (c .before .before .before .before .args .out .now)
+kept : (c : tie.At-loop Inv-loop μ-loop) → length (c .loop .pairs) ≡ length (c .before .before .before .before .args .pairs .now)
 kept c =
     let a = c .before .before .before .before .args in
     let l = c .loop in
-    length-kept (plain (a .l .now)) (setOf (a .first)) (a .offset) (a .piece .now) (a .out .now) (setOf (l .f)) (l .out) (l .i) (l .words) (l .rows) (l .inv)
+    length-kept (plain (a .list .now)) (setOf (a .first)) (a .offset) (a .piece .now) (a .pairs .now) (setOf (l .f)) (l .pairs) (l .i) (l .words) (l .rows) (l .inv)
 
-within : (c : tie.At-loop Inv-loop μ-loop) → c .loop .words ≤ length (c .loop .out)
+within : (c : tie.At-loop Inv-loop μ-loop) → c .loop .words ≤ length (c .loop .pairs)
 within c =
     let a = c .before .before .before .before .args in
     let l = c .loop in
-    words-fit (plain (a .l .now)) (setOf (a .first)) (a .offset) (a .piece .now) (a .out .now) (setOf (l .f)) (l .out) (l .i) (l .words) (l .rows) (l .inv)
+    words-fit (plain (a .list .now)) (setOf (a .first)) (a .offset) (a .piece .now) (a .pairs .now) (setOf (l .f)) (l .pairs) (l .i) (l .words) (l .rows) (l .inv)
 
 few : (c : tie.At-loop Inv-loop μ-loop) → c .loop .rows ≤ states * c .loop .i
 few c =
     let a = c .before .before .before .before .args in
     let l = c .loop in
-    rows-most (plain (a .l .now)) (setOf (a .first)) (a .offset) (a .piece .now) (a .out .now) (setOf (l .f)) (l .out) (l .i) (l .words) (l .rows) (l .inv)
-    (λ F. Unit {0}) (λ F b h p. tt) states (λ F p. plain-cheap (a .l .now) F) tt (λ i. c .before .before .shared-slice-known2 .given i .fits)
+    rows-most (plain (a .list .now)) (setOf (a .first)) (a .offset) (a .piece .now) (a .pairs .now) (setOf (l .f)) (l .pairs) (l .i) (l .words) (l .rows) (l .inv)
+    (λ F. Unit {0}) (λ F b h p. tt) states (λ F p. plain-cheap (a .list .now) F) tt (λ i. c .before .before .shared-slice-known2 .given i .fits)
 
 loop-holds : tie.Need-loop-holds Inv-loop μ-loop
 loop-holds c =
     let a = c .before .before .before .args in
-    start (plain (a .l .now)) (setOf (a .first)) (a .offset) (a .piece .now) (a .out .now)
+    start (plain (a .list .now)) (setOf (a .first)) (a .offset) (a .piece .now) (a .pairs .now)
 
 shared-slice-read-step : tie.Need-shared-slice-read-step Inv-loop μ-loop
 shared-slice-read-step c = search needs
@@ -74,9 +74,9 @@ returns c =
     let a = head .before .before .before .before .args in
     let l = head .loop in (
       l .inv,
-      stop-by (plain (a .l .now)) (setOf (a .first)) (a .offset) (a .piece .now) (a .out .now) (setOf (l .f)) (l .out) (l .i) (l .words) (l .rows) (l .inv)
+      stop-by (plain (a .list .now)) (setOf (a .first)) (a .offset) (a .piece .now) (a .pairs .now) (setOf (l .f)) (l .pairs) (l .i) (l .words) (l .rows) (l .inv)
           (sigsOf (told .accepted .result)) (count .count .result) (omega arith)
-          (told .accepted .ensures ∙ ap (accepted (a .l .now)) (stepped .step .ensures)) (count .count .ensures) (c .if1 .taken),
+          (told .accepted .ensures ∙ ap (accepted (a .list .now)) (stepped .step .ensures)) (count .count .ensures) (c .if1 .taken),
     )
 
 add-tell : tie.Need-add-tell Inv-loop μ-loop
@@ -111,7 +111,7 @@ add-rows : tie.Need-add-rows Inv-loop μ-loop
 add-rows c =
     let head = c .before .before .before .before .before .before .before .before .before .before .before in
     let a = head .before .before .before .before .args in
-    omega (arith, few head, c .count2 .ensures, plain-cheap (a .l .now) (setOf (head .loop .f)))
+    omega (arith, few head, c .count2 .ensures, plain-cheap (a .list .now) (setOf (head .loop .f)))
 
 add-i : tie.Need-add-i Inv-loop μ-loop
 add-i c = search needs
@@ -129,9 +129,9 @@ loop-again c =
     let head = stepped .before .before .before in
     let a = head .before .before .before .before .args in
     let l = head .loop in
-    more-by (plain (a .l .now)) (setOf (a .first)) (a .offset) (a .piece .now) (a .out .now) (setOf (l .f)) (l .out) (l .i) (l .words) (l .rows) (l .inv)
+    more-by (plain (a .list .now)) (setOf (a .first)) (a .offset) (a .piece .now) (a .pairs .now) (setOf (l .f)) (l .pairs) (l .i) (l .words) (l .rows) (l .inv)
     (sigsOf (told .accepted .result)) (count .count .result) (omega arith)
-    (told .accepted .ensures ∙ ap (accepted (a .l .now)) (stepped .step .ensures)) (count .count .ensures) refl (omega (arith, fits .if1 .left))
+    (told .accepted .ensures ∙ ap (accepted (a .list .now)) (stepped .step .ensures)) (count .count .ensures) refl (omega (arith, fits .if1 .left))
     (setOf (stepped .step .result)) (stepped .step .ensures) _ (wrote .tell .ensures) (c .count2 .result) (c .count2 .ensures)
 
 same-length-2 : tie.Need-same-length-2 Inv-loop μ-loop
@@ -143,7 +143,7 @@ returns-2 c =
     let l = c .before .loop in
     let e : l .i ≡ length (a .piece .now) = omega arith in (
       rw e at (l .inv),
-      finish (plain (a .l .now)) (setOf (a .first)) (a .offset) (a .piece .now) (a .out .now) (setOf (l .f)) (l .out) (l .i) (l .words) (l .rows) (l .inv) e ∙ e,
+      finish (plain (a .list .now)) (setOf (a .first)) (a .offset) (a .piece .now) (a .pairs .now) (setOf (l .f)) (l .pairs) (l .i) (l .words) (l .rows) (l .inv) e ∙ e,
     )
 
 pub feed-bytes-spec : {M : Type 1} → statement M

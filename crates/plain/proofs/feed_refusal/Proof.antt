@@ -14,7 +14,7 @@ returns : tie.Need-returns
 returns c =
     let a = c .before .before .before .before .before .args in
     let e = c .before .check-list .ensures in
-    e ∙ sym (verdict-refused (listRules (a .l .now)) (flowRules (a .r .now) (a .at) (a .piece .now)) (λ z. c .if1 .taken (e ∙ z)))
+    e ∙ sym (verdict-refused (listRules (a .list .now)) (flowRules (a .flow .now) (a .start) (a .piece .now)) (λ z. c .if1 .taken (e ∙ z)))
 
 flow-refusal-requires : tie.Need-flow-refusal-requires
 flow-refusal-requires c κs = search needs
@@ -23,7 +23,7 @@ returns-2 : tie.Need-returns-2
 returns-2 c =
     let a = c .before .before .before .before .before .before .args in
     c .flow-refusal .ensures
-    ∙ sym (verdict-then (listRules (a .l .now)) (flowRules (a .r .now) (a .at) (a .piece .now)) refl (sym (c .before .before .check-list .ensures) ∙ c .before .if1 .left))
+    ∙ sym (verdict-then (listRules (a .list .now)) (flowRules (a .flow .now) (a .start) (a .piece .now)) refl (sym (c .before .before .check-list .ensures) ∙ c .before .if1 .left))
 
 pub feed-refusal-spec : {M : Type 1} → statement M
 feed-refusal-spec = tie.close (tie.spec check-list-requires returns flow-refusal-requires returns-2)

@@ -16,7 +16,7 @@ returns : tie.Need-returns
 returns c =
     let a = c .before .before .before .before .before .args in
     let e = c .before .open-refusal .ensures in
-    record { refusal = e; saved = open-keeps (a .l .now) (a .r .now) (λ z. c .if1 .taken (e ∙ z)) }
+    record { refusal = e; saved = open-keeps (a .list .now) (a .flow .now) (λ z. c .if1 .taken (e ∙ z)) }
 
 start-set-requires : tie.Need-start-set-requires
 start-set-requires c κs = search needs
@@ -34,7 +34,7 @@ returns-2 c =
     let passed = first .before .before in
     let a = passed .before .before .before .before .before .args in
     let v = sym (passed .before .open-refusal .ensures) ∙ passed .if1 .left in
-    record { refusal = sym v; saved = save .save .ensures ∙ open-saves (a .l .now) (a .r .now) (setOf (first .start-set .result)) v (first .start-set .ensures) }
+    record { refusal = sym v; saved = save .save .ensures ∙ open-saves (a .list .now) (a .flow .now) (setOf (first .start-set .result)) v (first .start-set .ensures) }
 
 pub open-flow-spec : {M : Type 1} → statement M
 open-flow-spec = tie.close (tie.spec open-refusal-requires same-length returns start-set-requires save-requires same-length-2 returns-2)

@@ -19,13 +19,13 @@ returns : tie.Need-returns
 returns c =
     let a = c .before .before .before .before .args in
     let e = c .before .check-list .ensures in
-    e ∙ sym (verdict-refused (listRules (a .l .now)) ((4, wrongSize (a .r .now)) ∷ []) (λ z. c .if1 .taken (e ∙ z)))
+    e ∙ sym (verdict-refused (listRules (a .list .now)) ((4, wrongSize (a .flow .now)) ∷ []) (λ z. c .if1 .taken (e ∙ z)))
 
 -- past the list's check the size decides
-listed : (c : tie.Else1) → openRefusal (c .before .before .before .before .args .l .now) (c .before .before .before .before .args .r .now) ≡ verdict ((4, wrongSize (c .before .before .before .before .args .r .now)) ∷ [])
+listed : (c : tie.Else1) → openRefusal (c .before .before .before .before .args .list .now) (c .before .before .before .before .args .flow .now) ≡ verdict ((4, wrongSize (c .before .before .before .before .args .flow .now)) ∷ [])
 listed c =
     let a = c .before .before .before .before .args in
-    verdict-then (listRules (a .l .now)) ((4, wrongSize (a .r .now)) ∷ []) refl (sym (c .before .check-list .ensures) ∙ c .if1 .left)
+    verdict-then (listRules (a .list .now)) ((4, wrongSize (a .flow .now)) ∷ []) refl (sym (c .before .check-list .ensures) ∙ c .if1 .left)
 
 returns-2 : tie.Need-returns-2
 returns-2 c = sym (listed (c .before) ∙ stop 4 _ (ap not (ne-eqb _ _ (c .if2 .taken))))

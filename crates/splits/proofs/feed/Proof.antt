@@ -33,22 +33,22 @@ passed c = c .before .before .before .before .before .before .before .before
 
 -- there no rule refuses, so the flow is good, the piece ends at an offset, and each part and class has its row
 verdict-0 : (c : tie.Else1)
-    → verdict (splitRules (entry (c .before) .args .l .now) (entry (c .before) .args .bound) (table (c .before)) (entry (c .before) .args .r .now) (entry (c .before) .args .at) (entry (c .before) .args .piece .now)) ≡ 0
+    → verdict (splitRules (entry (c .before) .args .list .now) (entry (c .before) .args .bound) (table (c .before)) (entry (c .before) .args .flow .now) (entry (c .before) .args .start) (entry (c .before) .args .piece .now)) ≡ 0
 verdict-0 c = sym (c .before .feed-refusal .ensures) ∙ c .if1 .left
 
 passes : (c : tie.Else1)
-    → (badFlow (entry (c .before) .args .r .now) ≡ false)
-    × (offsetOf (entry (c .before) .args .r .now) + length (entry (c .before) .args .piece .now) ≤ mostOffset)
+    → (badFlow (entry (c .before) .args .flow .now) ≡ false)
+    × (offsetOf (entry (c .before) .args .flow .now) + length (entry (c .before) .args .piece .now) ≤ mostOffset)
     × (setSize * (partCount (entry (c .before) .args .parts .now) * classCount (entry (c .before) .args .classes .now)) ≤ length (entry (c .before) .args .rows .now))
 passes c =
     let a = entry (c .before) .args in
-    split-passes (a .l .now) (a .bound) (table (c .before)) (a .r .now) (a .at) (a .piece .now) (verdict-0 c)
+    split-passes (a .list .now) (a .bound) (table (c .before)) (a .flow .now) (a .start) (a .piece .now) (verdict-0 c)
 
 -- the rows of the loop are few
 few : (c : tie.After-feed-bytes) → c .feed-bytes .result .rows ≤ 4 * c .feed-bytes .result .bytes
 few c =
     let a = entry (passed c .before) .args in
-    rows-few (a .l .now) (a .bound) (table (passed c .before)) _ _ (a .piece .now) _ _ _ _ _ _ (c .feed-bytes .ensures .0)
+    rows-few (a .list .now) (a .bound) (table (passed c .before)) _ _ (a .piece .now) _ _ _ _ _ _ (c .feed-bytes .ensures .0)
     (λ i. c .before .before .before .before .before .before .before .before .before .before .before .before .shared-slice-known6 .given i .fits)
 
 feed-refusal-requires : tie.Need-feed-refusal-requires
@@ -62,7 +62,7 @@ returns c =
     let a = entry (c .before) .args in
     let T = table (c .before) in
     let e = c .before .feed-refusal .ensures in
-    answers-refused (split (a .l .now) (a .bound) T) flowLayout (a .r .now) (a .piece .now) (a .out .now) (splitRules (a .l .now) (a .bound) T (a .r .now) (a .at) (a .piece .now)) _
+    answers-refused (split (a .list .now) (a .bound) T) flowLayout (a .flow .now) (a .piece .now) (a .pairs .now) (splitRules (a .list .now) (a .bound) T (a .flow .now) (a .start) (a .piece .now)) _
     (λ z. c .if1 .taken (e ∙ z)) e refl refl refl
 
 load-requires : tie.Need-load-requires
@@ -91,7 +91,7 @@ add-save-2 c =
       ran .before .before .rows-of .ensures,
       few ran,
       passes (passed ran) .1,
-      good-flow (a .r .now) (passes (passed ran) .0) .2,
+      good-flow (a .flow .now) (passes (passed ran) .0) .2,
       ran .feed-bytes .ensures .0 .short,
     )
 
@@ -114,10 +114,10 @@ returns-2 c =
     let rows = ran .before .before .rows-of .ensures in
     let offset = ran .before .before .before .before .offset-of .ensures in
     let load = ran .before .before .before .before .before .before .load .ensures in
-    answers-fed (split (a .l .now) (a .bound) T) flowLayout (a .r .now) (a .piece .now) (a .out .now) (splitRules (a .l .now) (a .bound) T (a .r .now) (a .at) (a .piece .now)) _
+    answers-fed (split (a .list .now) (a .bound) T) flowLayout (a .flow .now) (a .piece .now) (a .pairs .now) (splitRules (a .list .now) (a .bound) T (a .flow .now) (a .start) (a .piece .now)) _
     (setOf (r .frontier)) _ (r .bytes) (r .words) (r .rows) (rw (load, offset) at (ran .feed-bytes .ensures .0)) (verdict-0 (passed ran))
     (rw load at (ran .feed-bytes .ensures .1 .0)) (ran .feed-bytes .ensures .1 .1) refl refl refl _
-    (rw (eq-eqb (length (a .r .now)) flowSize (good-flow (a .r .now) (passes (passed ran) .0) .0), offset, rows) at (save .save .ensures))
+    (rw (eq-eqb (length (a .flow .now)) flowSize (good-flow (a .flow .now) (passes (passed ran) .0) .0), offset, rows) at (save .save .ensures))
 
 pub feed-spec : {M : Type 1} → statement M
 feed-spec =

@@ -18,12 +18,12 @@ use Rattle.splits.proofs.feed_bytes.Statement.{statement}
 use Rattle.splits.proofs.feed_bytes.Tie as tie
 
 abbrev Inv-loop : tie.InvT-loop
-Inv-loop l bound classes parts rows splits offset piece out₀ k ran₀ i₀ i-end out ran i =
-    Going (split l bound (record { classes = classes; parts = parts; rows = rows; splits = splits })) (setOf (ran₀ .frontier)) offset piece out₀ (setOf (ran .frontier)) out i (ran .words) (ran .rows)
+Inv-loop list bound classes parts rows splits offset piece pairs₀ k ran₀ i₀ i-end pairs ran i =
+    Going (split list bound (record { classes = classes; parts = parts; rows = rows; splits = splits })) (setOf (ran₀ .frontier)) offset piece pairs₀ (setOf (ran .frontier)) pairs i (ran .words) (ran .rows)
     × (ran .bytes ≡ i) × (ran .refusal ≡ 0)
 
 abbrev μ-loop : tie.MeasureT-loop
-μ-loop l bound classes parts rows splits offset piece out₀ k ran₀ i₀ i-end out ran i = length piece - i
+μ-loop list bound classes parts rows splits offset piece pairs₀ k ran₀ i₀ i-end pairs ran i = length piece - i
 
 -- the way back from the loop's head to the entry, and the table that is given
 abbrev entry : tie.At-loop Inv-loop μ-loop → tie.Start Inv-loop μ-loop
@@ -35,23 +35,23 @@ table c =
     record { classes = a .classes .now; parts = a .parts .now; rows = a .rows .now; splits = a .splits .now }
 
 -- at the loop's head: the words stay as many, those written are among them, and the rows are few
-kept : (c : tie.At-loop Inv-loop μ-loop) → length (c .loop .out) ≡ length (entry c .args .out .now)
+kept : (c : tie.At-loop Inv-loop μ-loop) → length (c .loop .pairs) ≡ length (entry c .args .pairs .now)
 kept c =
     let a = entry c .args in
     let l = c .loop in
-    length-kept (split (a .l .now) (a .bound) (table c)) (setOf (a .first)) (a .offset) (a .piece .now) (a .out .now) (setOf (l .ran .frontier)) (l .out) (l .i) (l .ran .words) (l .ran .rows) (l .inv .0)
+    length-kept (split (a .list .now) (a .bound) (table c)) (setOf (a .first)) (a .offset) (a .piece .now) (a .pairs .now) (setOf (l .ran .frontier)) (l .pairs) (l .i) (l .ran .words) (l .ran .rows) (l .inv .0)
 
-within : (c : tie.At-loop Inv-loop μ-loop) → c .loop .ran .words ≤ length (c .loop .out)
+within : (c : tie.At-loop Inv-loop μ-loop) → c .loop .ran .words ≤ length (c .loop .pairs)
 within c =
     let a = entry c .args in
     let l = c .loop in
-    words-fit (split (a .l .now) (a .bound) (table c)) (setOf (a .first)) (a .offset) (a .piece .now) (a .out .now) (setOf (l .ran .frontier)) (l .out) (l .i) (l .ran .words) (l .ran .rows) (l .inv .0)
+    words-fit (split (a .list .now) (a .bound) (table c)) (setOf (a .first)) (a .offset) (a .piece .now) (a .pairs .now) (setOf (l .ran .frontier)) (l .pairs) (l .i) (l .ran .words) (l .ran .rows) (l .inv .0)
 
 few : (c : tie.At-loop Inv-loop μ-loop) → c .loop .ran .rows ≤ 4 * c .loop .i
 few c =
     let a = entry c .args in
     let l = c .loop in
-    rows-few (a .l .now) (a .bound) (table c) (setOf (a .first)) (a .offset) (a .piece .now) (a .out .now) (setOf (l .ran .frontier)) (l .out) (l .i) (l .ran .words) (l .ran .rows) (l .inv .0)
+    rows-few (a .list .now) (a .bound) (table c) (setOf (a .first)) (a .offset) (a .piece .now) (a .pairs .now) (setOf (l .ran .frontier)) (l .pairs) (l .i) (l .ran .words) (l .ran .rows) (l .inv .0)
     (λ i. c .before .before .before .shared-slice-known6 .given i .fits)
 
 -- in the loop a byte is still to come
@@ -79,7 +79,7 @@ loop-holds : tie.Need-loop-holds Inv-loop μ-loop
 loop-holds c =
     let a = c .before .before .before .before .before .before .before .before .args in
     let T : Table = record { classes = a .classes .now; parts = a .parts .now; rows = a .rows .now; splits = a .splits .now } in
-    (start (split (a .l .now) (a .bound) T) (setOf (a .first)) (a .offset) (a .piece .now) (a .out .now), refl, refl)
+    (start (split (a .list .now) (a .bound) T) (setOf (a .first)) (a .offset) (a .piece .now) (a .pairs .now), refl, refl)
 
 sub-left : tie.Need-sub-left Inv-loop μ-loop
 sub-left c = omega (arith, within (c .before .before))
@@ -102,7 +102,7 @@ returns c =
     let h : stuck (a .bound) (table head) (setOf (l .ran .frontier)) ≡ true = sym (c .before .split-step .ensures .halts) ∙ c .if1 .taken in (
       rw (sym b) at (l .inv .0),
       (
-        stop-halted (a .l .now) (a .bound) (table head) (setOf (a .first)) (a .offset) (a .piece .now) (a .out .now) (setOf (l .ran .frontier)) (l .out) (l .i) (l .ran .words) (l .ran .rows) (l .inv .0) (to-come (inside (c .before))) h ∙ sym b,
+        stop-halted (a .list .now) (a .bound) (table head) (setOf (a .first)) (a .offset) (a .piece .now) (a .pairs .now) (setOf (l .ran .frontier)) (l .pairs) (l .i) (l .ran .words) (l .ran .rows) (l .inv .0) (to-come (inside (c .before))) h ∙ sym b,
         refused-halted (l .ran .bytes) (length (a .piece .now)) _ (omega arith) h,
       ),
     )
@@ -131,9 +131,9 @@ returns-2 c =
     let b = l .inv .1 in (
       rw (sym b) at (l .inv .0),
       (
-        stop-by (split (a .l .now) (a .bound) (table head)) (setOf (a .first)) (a .offset) (a .piece .now) (a .out .now) (setOf (l .ran .frontier)) (l .out) (l .i) (l .ran .words) (l .ran .rows) (l .inv .0)
+        stop-by (split (a .list .now) (a .bound) (table head)) (setOf (a .first)) (a .offset) (a .piece .now) (a .pairs .now) (setOf (l .ran .frontier)) (l .pairs) (l .i) (l .ran .words) (l .ran .rows) (l .inv .0)
             (sigsOf (told .accepted .result)) (count .count .result) (to-come (inside step))
-            (told .accepted .ensures ∙ ap (accepted (a .l .now)) (step .split-step .ensures .next (free .if1 .left))) (count .count .ensures) (c .if2 .taken) ∙ sym b,
+            (told .accepted .ensures ∙ ap (accepted (a .list .now)) (step .split-step .ensures .next (free .if1 .left))) (count .count .ensures) (c .if2 .taken) ∙ sym b,
         l .inv .2 ∙ refused-free (l .ran .bytes) (length (a .piece .now)) _ (sym (step .split-step .ensures .halts) ∙ free .if1 .left),
       ),
     )
@@ -148,7 +148,7 @@ cast-tell : tie.Need-cast-tell Inv-loop μ-loop
 cast-tell c = search needs
 
 -- the words of its pairs fit
-roomy : (c : tie.Else2 Inv-loop μ-loop) → inside (stepped c) .before .loop .ran .words + 2 * c .before .count .result ≤ length (entry (inside (stepped c) .before) .args .out .now)
+roomy : (c : tie.Else2 Inv-loop μ-loop) → inside (stepped c) .before .loop .ran .words + 2 * c .before .count .result ≤ length (entry (inside (stepped c) .before) .args .pairs .now)
 roomy c = omega (arith, c .if2 .left, within (inside (stepped c) .before), kept (inside (stepped c) .before))
 
 tell-requires : tie.Need-tell-requires Inv-loop μ-loop
@@ -196,9 +196,9 @@ loop-again c =
     let l = head .loop in
     let s = step .split-step .ensures in
     let h = free .if1 .left in (
-      more-by (split (a .l .now) (a .bound) (table head)) (setOf (a .first)) (a .offset) (a .piece .now) (a .out .now) (setOf (l .ran .frontier)) (l .out) (l .i) (l .ran .words) (l .ran .rows) (l .inv .0)
+      more-by (split (a .list .now) (a .bound) (table head)) (setOf (a .first)) (a .offset) (a .piece .now) (a .pairs .now) (setOf (l .ran .frontier)) (l .pairs) (l .i) (l .ran .words) (l .ran .rows) (l .inv .0)
           (sigsOf (told .accepted .result)) (count .count .result) (to-come (inside step))
-          (told .accepted .ensures ∙ ap (accepted (a .l .now)) (s .next h)) (count .count .ensures) (sym (s .halts) ∙ h) (omega (arith, fits .if2 .left))
+          (told .accepted .ensures ∙ ap (accepted (a .list .now)) (s .next h)) (count .count .ensures) (sym (s .halts) ∙ h) (omega (arith, fits .if2 .left))
           (setOf (step .split-step .result .next)) (s .next h) _ (c .before .before .before .before .before .tell .ensures) (step .split-step .result .rows) (s .rows h),
       refl,
       refl,
@@ -216,7 +216,7 @@ returns-3 c =
     let e : l .i ≡ length (a .piece .now) = omega arith in (
       rw (sym b) at (l .inv .0),
       (
-        finish (split (a .l .now) (a .bound) (table head)) (setOf (a .first)) (a .offset) (a .piece .now) (a .out .now) (setOf (l .ran .frontier)) (l .out) (l .i) (l .ran .words) (l .ran .rows) (l .inv .0) e ∙ sym b,
+        finish (split (a .list .now) (a .bound) (table head)) (setOf (a .first)) (a .offset) (a .piece .now) (a .pairs .now) (setOf (l .ran .frontier)) (l .pairs) (l .i) (l .ran .words) (l .ran .rows) (l .inv .0) e ∙ sym b,
         l .inv .2 ∙ refused-ended (l .ran .bytes) (length (a .piece .now)) _ (b ∙ e),
       ),
     )

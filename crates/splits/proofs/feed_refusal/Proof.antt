@@ -17,9 +17,9 @@ returns c =
     let a = c .before .before .before .before .before .before .before .before .before .args in
     let T : Table = record { classes = a .classes .now; parts = a .parts .now; rows = a .rows .now; splits = a .splits .now } in
     let e = c .before .check-list .ensures in
-    let f : verdict (feedRules (a .l .now) (a .r .now) (a .at) (a .piece .now)) ≡ verdict (listRules (a .l .now)) =
-    verdict-refused (listRules (a .l .now)) (flowRules (a .r .now) (a .at) (a .piece .now)) (λ z. c .if1 .taken (e ∙ z)) in
-    e ∙ sym (verdict-refused (feedRules (a .l .now) (a .r .now) (a .at) (a .piece .now)) (sizeRules (a .bound) T) (λ z. c .if1 .taken (e ∙ sym f ∙ z)) ∙ f)
+    let f : verdict (feedRules (a .list .now) (a .flow .now) (a .start) (a .piece .now)) ≡ verdict (listRules (a .list .now)) =
+    verdict-refused (listRules (a .list .now)) (flowRules (a .flow .now) (a .start) (a .piece .now)) (λ z. c .if1 .taken (e ∙ z)) in
+    e ∙ sym (verdict-refused (feedRules (a .list .now) (a .flow .now) (a .start) (a .piece .now)) (sizeRules (a .bound) T) (λ z. c .if1 .taken (e ∙ sym f ∙ z)) ∙ f)
 
 flow-refusal-requires : tie.Need-flow-refusal-requires
 flow-refusal-requires c κs = search needs
@@ -29,9 +29,9 @@ returns-2 c =
     let a = c .before .before .before .before .before .before .before .before .before .before .before .args in
     let T : Table = record { classes = a .classes .now; parts = a .parts .now; rows = a .rows .now; splits = a .splits .now } in
     let e = c .before .flow-refusal .ensures in
-    let f : verdict (feedRules (a .l .now) (a .r .now) (a .at) (a .piece .now)) ≡ verdict (flowRules (a .r .now) (a .at) (a .piece .now)) =
-    verdict-then (listRules (a .l .now)) (flowRules (a .r .now) (a .at) (a .piece .now)) refl (sym (c .before .before .before .check-list .ensures) ∙ c .before .before .if1 .left) in
-    e ∙ sym (verdict-refused (feedRules (a .l .now) (a .r .now) (a .at) (a .piece .now)) (sizeRules (a .bound) T) (λ z. c .if2 .taken (e ∙ sym f ∙ z)) ∙ f)
+    let f : verdict (feedRules (a .list .now) (a .flow .now) (a .start) (a .piece .now)) ≡ verdict (flowRules (a .flow .now) (a .start) (a .piece .now)) =
+    verdict-then (listRules (a .list .now)) (flowRules (a .flow .now) (a .start) (a .piece .now)) refl (sym (c .before .before .before .check-list .ensures) ∙ c .before .before .if1 .left) in
+    e ∙ sym (verdict-refused (feedRules (a .list .now) (a .flow .now) (a .start) (a .piece .now)) (sizeRules (a .bound) T) (λ z. c .if2 .taken (e ∙ sym f ∙ z)) ∙ f)
 
 size-refusal-requires : tie.Need-size-refusal-requires
 size-refusal-requires c κs = search needs
@@ -40,10 +40,10 @@ returns-3 : tie.Need-returns-3
 returns-3 c =
     let a = c .before .before .before .before .before .before .before .before .before .before .before .before .args in
     let T : Table = record { classes = a .classes .now; parts = a .parts .now; rows = a .rows .now; splits = a .splits .now } in
-    let f : verdict (feedRules (a .l .now) (a .r .now) (a .at) (a .piece .now)) ≡ verdict (flowRules (a .r .now) (a .at) (a .piece .now)) =
-    verdict-then (listRules (a .l .now)) (flowRules (a .r .now) (a .at) (a .piece .now)) refl (sym (c .before .before .before .before .check-list .ensures) ∙ c .before .before .before .if1 .left) in
+    let f : verdict (feedRules (a .list .now) (a .flow .now) (a .start) (a .piece .now)) ≡ verdict (flowRules (a .flow .now) (a .start) (a .piece .now)) =
+    verdict-then (listRules (a .list .now)) (flowRules (a .flow .now) (a .start) (a .piece .now)) refl (sym (c .before .before .before .before .check-list .ensures) ∙ c .before .before .before .if1 .left) in
     c .size-refusal .ensures
-    ∙ sym (verdict-then (feedRules (a .l .now) (a .r .now) (a .at) (a .piece .now)) (sizeRules (a .bound) T) refl (f ∙ sym (c .before .before .flow-refusal .ensures) ∙ c .before .if2 .left))
+    ∙ sym (verdict-then (feedRules (a .list .now) (a .flow .now) (a .start) (a .piece .now)) (sizeRules (a .bound) T) refl (f ∙ sym (c .before .before .flow-refusal .ensures) ∙ c .before .if2 .left))
 
 pub feed-refusal-spec : {M : Type 1} → statement M
 feed-refusal-spec =

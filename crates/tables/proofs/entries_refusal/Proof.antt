@@ -51,24 +51,24 @@ said-9 c =
 passed-9 : (c : tie.Else1) → goodSplits (entry-9 c .args .bound) (table (entry-9 c)) ≡ true
 passed-9 c = sym (said-9 (c .before)) ∙ not-false _ (c .if1 .left)
 
-passed-10 : (c : tie.Else2) → goodRows (entry-10 c .args .l .now) (table (entry-10 c)) ≡ true
+passed-10 : (c : tie.Else2) → goodRows (entry-10 c .args .list .now) (table (entry-10 c)) ≡ true
 passed-10 c = sym (c .before .rows-good .ensures) ∙ not-false _ (c .if2 .left)
 
 passed-11 : (c : tie.Else3) → goodUnions (table (entry-11 c)) ≡ true
 passed-11 c = sym (c .before .unions-good .ensures) ∙ not-false _ (c .if3 .left)
 
 said-12 : (c : tie.After-is-split-sorted)
-    → c .is-split-sorted .result ≡ isSplit (entry-11 (c .before .before) .args .splits .now) (start (entry-11 (c .before .before) .args .l .now))
+    → c .is-split-sorted .result ≡ isSplit (entry-11 (c .before .before) .args .splits .now) (start (entry-11 (c .before .before) .args .list .now))
 said-12 c = c .is-split-sorted .ensures ∙ ap (isSplit (entry-11 (c .before .before) .args .splits .now)) (c .before .start-set .ensures)
 
-passed-12 : (c : tie.Else4) → isSplit (entry-12 c .args .splits .now) (start (entry-12 c .args .l .now)) ≡ true
+passed-12 : (c : tie.Else4) → isSplit (entry-12 c .args .splits .now) (start (entry-12 c .args .list .now)) ≡ true
 passed-12 c = sym (said-12 (c .before)) ∙ not-false _ (c .if4 .left)
 
-said-13 : (c : tie.After-leads) → c .leads .result ≡ closed (entry-12 (c .before) .args .l .now) (table (entry-12 (c .before)))
+said-13 : (c : tie.After-leads) → c .leads .result ≡ closed (entry-12 (c .before) .args .list .now) (table (entry-12 (c .before)))
 said-13 c =
     let s = entry-12 (c .before) in
     let e = behind-11 (c .before) in
-    c .leads .ensures ∙ rows-closed (s .args .bound) (table s) (passed-9 (behind-9 (behind-10 e))) (s .args .l .now) (passed-10 (behind-10 e)) (passed-11 e)
+    c .leads .ensures ∙ rows-closed (s .args .bound) (table s) (passed-9 (behind-9 (behind-10 e))) (s .args .list .now) (passed-10 (behind-10 e)) (passed-11 e)
 
 class-count-requires : tie.Need-class-count-requires
 class-count-requires c κs = search needs
@@ -82,7 +82,7 @@ splits-good-requires c κs = search needs
 returns : tie.Need-returns
 returns c =
     let s = entry (c .before) in
-    refused-9 (s .args .l .now) (s .args .bound) (table s) (s .pre .0) (s .pre .1) (sym (said-9 (c .before)) ∙ not-true _ (c .if1 .taken))
+    refused-9 (s .args .list .now) (s .args .bound) (table s) (s .pre .0) (s .pre .1) (sym (said-9 (c .before)) ∙ not-true _ (c .if1 .taken))
 
 rows-good-requires : tie.Need-rows-good-requires
 rows-good-requires c κs =
@@ -93,7 +93,7 @@ returns-2 : tie.Need-returns-2
 returns-2 c =
     let e = c .before .before in
     let s = entry-9 e in
-    refused-10 (s .args .l .now) (s .args .bound) (table s) (s .pre .0) (s .pre .1) (passed-9 e) (sym (c .before .rows-good .ensures) ∙ not-true _ (c .if2 .taken))
+    refused-10 (s .args .list .now) (s .args .bound) (table s) (s .pre .0) (s .pre .1) (passed-9 e) (sym (c .before .rows-good .ensures) ∙ not-true _ (c .if2 .taken))
 
 unions-good-requires : tie.Need-unions-good-requires
 unions-good-requires c κs = search needs
@@ -102,7 +102,7 @@ returns-3 : tie.Need-returns-3
 returns-3 c =
     let e = c .before .before in
     let s = entry-10 e in
-    refused-11 (s .args .l .now) (s .args .bound) (table s) (s .pre .0) (s .pre .1) (passed-9 (behind-9 e)) (passed-10 e) (sym (c .before .unions-good .ensures) ∙ not-true _ (c .if3 .taken))
+    refused-11 (s .args .list .now) (s .args .bound) (table s) (s .pre .0) (s .pre .1) (passed-9 (behind-9 e)) (passed-10 e) (sym (c .before .unions-good .ensures) ∙ not-true _ (c .if3 .taken))
 
 start-set-requires : tie.Need-start-set-requires
 start-set-requires c κs = search needs
@@ -116,7 +116,7 @@ returns-4 : tie.Need-returns-4
 returns-4 c =
     let e = c .before .before .before in
     let s = entry-11 e in
-    refused-12 (s .args .l .now) (s .args .bound) (table s) (s .pre .0) (s .pre .1) (passed-9 (behind-9 (behind-10 e))) (passed-10 (behind-10 e)) (passed-11 e) (sym (said-12 (c .before)) ∙ not-true _ (c .if4 .taken))
+    refused-12 (s .args .list .now) (s .args .bound) (table s) (s .pre .0) (s .pre .1) (passed-9 (behind-9 (behind-10 e))) (passed-10 (behind-10 e)) (passed-11 e) (sym (said-12 (c .before)) ∙ not-true _ (c .if4 .taken))
 
 leads-requires : tie.Need-leads-requires
 leads-requires c κs =
@@ -129,14 +129,14 @@ returns-5 c =
     let e = c .before .before in
     let f = behind-11 e in
     let s = entry-12 e in
-    refused-13 (s .args .l .now) (s .args .bound) (table s) (s .pre .0) (s .pre .1) (passed-9 (behind-9 (behind-10 f))) (passed-10 (behind-10 f)) (passed-11 f) (passed-12 e) (sym (said-13 (c .before)) ∙ not-true _ (c .if5 .taken))
+    refused-13 (s .args .list .now) (s .args .bound) (table s) (s .pre .0) (s .pre .1) (passed-9 (behind-9 (behind-10 f))) (passed-10 (behind-10 f)) (passed-11 f) (passed-12 e) (sym (said-13 (c .before)) ∙ not-true _ (c .if5 .taken))
 
 returns-6 : tie.Need-returns-6
 returns-6 c =
     let e = c .before .before in
     let f = behind-11 e in
     let s = entry-12 e in
-    passed (s .args .l .now) (s .args .bound) (table s) (s .pre .0) (s .pre .1) (passed-9 (behind-9 (behind-10 f))) (passed-10 (behind-10 f)) (passed-11 f) (passed-12 e) (sym (said-13 (c .before)) ∙ not-false _ (c .if5 .left))
+    passed (s .args .list .now) (s .args .bound) (table s) (s .pre .0) (s .pre .1) (passed-9 (behind-9 (behind-10 f))) (passed-10 (behind-10 f)) (passed-11 f) (passed-12 e) (sym (said-13 (c .before)) ∙ not-false _ (c .if5 .left))
 
 pub entries-refusal-spec : {M : Type 1} → statement M
 entries-refusal-spec =

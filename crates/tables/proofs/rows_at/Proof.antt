@@ -15,13 +15,13 @@ use Rattle.tables.proofs.rows_at.Statement.{statement}
 use Rattle.tables.proofs.rows_at.Tie as tie
 
 abbrev Inv-loop : tie.InvT-loop
-Inv-loop l classes rows k p f c₀ c = (c ≤ byteValues) × (every c (λ d. eqb (row classes rows p d) (step l (setOf f) d)) ≡ true)
+Inv-loop list classes rows k p f c₀ c = (c ≤ byteValues) × (every c (λ d. eqb (row classes rows p d) (step list (setOf f) d)) ≡ true)
 
 abbrev μ-loop : tie.MeasureT-loop
-μ-loop l classes rows k p f c₀ c = byteValues - c
+μ-loop list classes rows k p f c₀ c = byteValues - c
 
 -- what the test says
-said : (c : tie.After-same Inv-loop μ-loop) → c .same .result ≡ eqb (row (c .before .before .before .before .before .before .before .before .args .classes .now) (c .before .before .before .before .before .before .before .before .args .rows .now) (c .before .before .before .before .before .before .before .before .args .p) (c .before .before .before .before .loop .c)) (step (c .before .before .before .before .before .before .before .before .args .l .now) (setOf (c .before .before .before .before .before .before .before .before .args .f)) (c .before .before .before .before .loop .c))
+said : (c : tie.After-same Inv-loop μ-loop) → c .same .result ≡ eqb (row (c .before .before .before .before .before .before .before .before .args .classes .now) (c .before .before .before .before .before .before .before .before .args .rows .now) (c .before .before .before .before .before .before .before .before .args .p) (c .before .before .before .before .loop .c)) (step (c .before .before .before .before .before .before .before .before .args .list .now) (setOf (c .before .before .before .before .before .before .before .before .args .f)) (c .before .before .before .before .loop .c))
 said c = c .same .ensures ∙ ap₂ (λ (x y : ℕ). eqb x y) (c .before .before .row-set .ensures) (c .before .step .ensures)
 
 loop-holds : tie.Need-loop-holds Inv-loop μ-loop

@@ -15,14 +15,14 @@ use Rattle.tables.proofs.rows_good.Statement.{statement}
 use Rattle.tables.proofs.rows_good.Tie as tie
 
 abbrev Inv-loop : tie.InvT-loop
-Inv-loop l classes parts rows k n p₀ p = (p ≤ n) × (every p (λ q. every byteValues (λ d. eqb (row classes rows q d) (step l (part parts q) d))) ≡ true)
+Inv-loop list classes parts rows k n p₀ p = (p ≤ n) × (every p (λ q. every byteValues (λ d. eqb (row classes rows q d) (step list (part parts q) d))) ≡ true)
 
 abbrev μ-loop : tie.MeasureT-loop
-μ-loop l classes parts rows k n p₀ p = n - p
+μ-loop list classes parts rows k n p₀ p = n - p
 
 -- what the test says
-said : (c : tie.After-rows-at Inv-loop μ-loop) → c .rows-at .result ≡ every byteValues (λ d. eqb (row (c .before .before .before .before .before .before .before .before .before .args .classes .now) (c .before .before .before .before .before .before .before .before .before .args .rows .now) (c .before .before .before .loop .p) d) (step (c .before .before .before .before .before .before .before .before .before .args .l .now) (part (c .before .before .before .before .before .before .before .before .before .args .parts .now) (c .before .before .before .loop .p)) d))
-said c = c .rows-at .ensures ∙ ap (λ (F : ℕ). every byteValues (λ d. eqb (row (c .before .before .before .before .before .before .before .before .before .args .classes .now) (c .before .before .before .before .before .before .before .before .before .args .rows .now) (c .before .before .before .loop .p) d) (step (c .before .before .before .before .before .before .before .before .before .args .l .now) F d))) (c .before .part-set .ensures)
+said : (c : tie.After-rows-at Inv-loop μ-loop) → c .rows-at .result ≡ every byteValues (λ d. eqb (row (c .before .before .before .before .before .before .before .before .before .args .classes .now) (c .before .before .before .before .before .before .before .before .before .args .rows .now) (c .before .before .before .loop .p) d) (step (c .before .before .before .before .before .before .before .before .before .args .list .now) (part (c .before .before .before .before .before .before .before .before .before .args .parts .now) (c .before .before .before .loop .p)) d))
+said c = c .rows-at .ensures ∙ ap (λ (F : ℕ). every byteValues (λ d. eqb (row (c .before .before .before .before .before .before .before .before .before .args .classes .now) (c .before .before .before .before .before .before .before .before .before .args .rows .now) (c .before .before .before .loop .p) d) (step (c .before .before .before .before .before .before .before .before .before .args .list .now) F d))) (c .before .part-set .ensures)
 
 part-count-requires : tie.Need-part-count-requires Inv-loop μ-loop
 part-count-requires c κs = search needs
