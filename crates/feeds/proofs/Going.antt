@@ -61,68 +61,68 @@ module _ {C : Type 0} (E : Engine C) (x₀ : C) (k₀ : ℕ) (piece out₀ : Lis
       let z : room out₀ - 0 ≡ room out₀ = omega arith in
       record { short = omega arith; config = refl; spent = refl; words = refl; wrote = refl; fits = omega arith; cut = rw z (omega arith) }
 
-  module _ (x : C) (out : List ℕ) (i w n : ℕ) (g : Going x out i w n) where
-    -- whole pairs are written
-    pub words-even : w ≡ 2 * (w / 2)
-    words-even = let e : w ≡ 2 * amount E x₀ (take i piece) = g .words ∙ told-length E x₀ k₀ (take i piece) in omega arith
+module _ {C : Type 0} {E : Engine C} {x₀ : C} {k₀ : ℕ} {piece out₀ : List ℕ} {x : C} {out : List ℕ} {i w n : ℕ} (g : Going E x₀ k₀ piece out₀ x out i w n) where
+  -- whole pairs are written
+  pub words-even : w ≡ 2 * (w / 2)
+  words-even = let e : w ≡ 2 * amount E x₀ (take i piece) = g .words ∙ told-length E x₀ k₀ (take i piece) in omega arith
 
-    -- the words stay as many
-    pub length-kept : length out ≡ length out₀
-    length-kept =
-        let e = words-even in
-        ap (λ (ws : List ℕ). length ws) (g .wrote) ∙ length-append (told E x₀ k₀ (take i piece)) (drop w out₀)
-        ∙ simp length-drop (omega (arith, g .words, g .fits))
+  -- the words stay as many
+  pub length-kept : length out ≡ length out₀
+  length-kept =
+      let e = words-even in
+      ap (λ (ws : List ℕ). length ws) (g .wrote) ∙ length-append (told E x₀ k₀ (take i piece)) (drop w out₀)
+      ∙ simp length-drop (omega (arith, g .words, g .fits))
 
-    -- a byte is consumed: its pairs are written after the words
-    pub more : i < length piece → E .halts x ≡ false → length (due E x (getD piece i 0)) ≤ room out₀ - w / 2
-        → Going (E .next x (getD piece i 0)) (take w out ++ (pairsAt (k₀ + i + 1) (due E x (getD piece i 0)) ++ drop (w + 2 * length (due E x (getD piece i 0))) out))
-        (suc i) (w + 2 * length (due E x (getD piece i 0))) (n + E .cost x)
-    more l h f =
-        let c = getD piece i 0 in
-        let d = length (due E x (getD piece i 0)) in
-        let ts : take (suc i) piece ≡ take i piece ++ (getD piece i 0 ∷ []) = take-suc piece i 0 l in
-        let li : length (take i piece) ≡ i = length-take-le i piece (g .short) in
-        let t : told E x₀ k₀ (take (suc i) piece) ≡ told E x₀ k₀ (take i piece) ++ pairsAt (k₀ + i + 1) (due E x (getD piece i 0)) =
-        ap (told E x₀ k₀) ts ∙ told-append E x₀ k₀ (take i piece) (c ∷ [])
-        ∙ ap (λ (ws : List ℕ). told E x₀ k₀ (take i piece) ++ ws)
-        (ap (λ (y : C). told E y (k₀ + length (take i piece)) (c ∷ [])) (sym (g .config)) ∙ one-told E x (k₀ + length (take i piece)) c
-        ∙ ap (λ (j : ℕ). pairsAt (k₀ + j + 1) (due E x c)) li) in
-        let ev = words-even in
-        record {
-          short = omega arith;
-          config = sym (ap (run E x₀) ts ∙ run-append E x₀ (take i piece) (c ∷ []) ∙ ap (λ (y : C). run E y (c ∷ [])) (sym (g .config)) ∙ one-run E x c);
-          spent = sym (ap (costs E x₀) ts ∙ costs-append E x₀ (take i piece) (c ∷ []) ∙ rw (sym (g .config), sym (g .spent), one-cost E x c));
-          words = sym (ap (λ (ws : List ℕ). length ws) t ∙ rw (length-append, pairsAt-length, sym (g .words)));
-          wrote = wrote-more (told E x₀ k₀ (take i piece)) (pairsAt (k₀ + i + 1) (due E x (getD piece i 0))) (2 * d) (g .words) (g .wrote) ∙ ap (λ (ws : List ℕ). ws ++ drop (w + 2 * d) out₀) (sym t);
-          fits = omega arith;
-          cut = g .cut ∙ ap (λ (cs : List ℕ). i + consumed E x (room out₀ - w / 2) cs) (drop-cons piece i 0 l)
-              ∙ ap (λ (m : ℕ). i + m) (byte-step E x (room out₀ - w / 2) c (drop (suc i) piece) h f) ∙ room-more d (consumed E (E .next x c)) (drop (suc i) piece);
-        }
-      where
-        wrote-more : (ws ps : List ℕ) (d : ℕ) → w ≡ length ws → out ≡ ws ++ drop w out₀
-            → take w out ++ (ps ++ drop (w + d) out) ≡ (ws ++ ps) ++ drop (w + d) out₀
-        wrote-more ws ps d e q =
-            let a : take w out ≡ ws = ap (take w) q ∙ take-at ws (drop w out₀) w (sym e) in
-            let b : drop w out ≡ drop w out₀ = ap (drop w) q ∙ drop-at ws (drop w out₀) w (sym e) in
-            let c : drop (w + d) out ≡ drop (w + d) out₀ = sym (drop-drop d w out) ∙ ap (drop d) b ∙ drop-drop d w out₀ in
-            rw (a, c) (sym (append-assoc ws ps (drop (w + d) out₀)))
+  -- a byte is consumed: its pairs are written after the words
+  pub more : i < length piece → E .halts x ≡ false → length (due E x (getD piece i 0)) ≤ room out₀ - w / 2
+      → Going E x₀ k₀ piece out₀ (E .next x (getD piece i 0)) (take w out ++ (pairsAt (k₀ + i + 1) (due E x (getD piece i 0)) ++ drop (w + 2 * length (due E x (getD piece i 0))) out))
+      (suc i) (w + 2 * length (due E x (getD piece i 0))) (n + E .cost x)
+  more l h f =
+      let c = getD piece i 0 in
+      let d = length (due E x (getD piece i 0)) in
+      let ts : take (suc i) piece ≡ take i piece ++ (getD piece i 0 ∷ []) = take-suc piece i 0 l in
+      let li : length (take i piece) ≡ i = length-take-le i piece (g .short) in
+      let t : told E x₀ k₀ (take (suc i) piece) ≡ told E x₀ k₀ (take i piece) ++ pairsAt (k₀ + i + 1) (due E x (getD piece i 0)) =
+      ap (told E x₀ k₀) ts ∙ told-append E x₀ k₀ (take i piece) (c ∷ [])
+      ∙ ap (λ (ws : List ℕ). told E x₀ k₀ (take i piece) ++ ws)
+      (ap (λ (y : C). told E y (k₀ + length (take i piece)) (c ∷ [])) (sym (g .config)) ∙ one-told E x (k₀ + length (take i piece)) c
+      ∙ ap (λ (j : ℕ). pairsAt (k₀ + j + 1) (due E x c)) li) in
+      let ev = words-even in
+      record {
+        short = omega arith;
+        config = sym (ap (run E x₀) ts ∙ run-append E x₀ (take i piece) (c ∷ []) ∙ ap (λ (y : C). run E y (c ∷ [])) (sym (g .config)) ∙ one-run E x c);
+        spent = sym (ap (costs E x₀) ts ∙ costs-append E x₀ (take i piece) (c ∷ []) ∙ rw (sym (g .config), sym (g .spent), one-cost E x c));
+        words = sym (ap (λ (ws : List ℕ). length ws) t ∙ rw (length-append, pairsAt-length, sym (g .words)));
+        wrote = wrote-more (told E x₀ k₀ (take i piece)) (pairsAt (k₀ + i + 1) (due E x (getD piece i 0))) (2 * d) (g .words) (g .wrote) ∙ ap (λ (ws : List ℕ). ws ++ drop (w + 2 * d) out₀) (sym t);
+        fits = omega arith;
+        cut = g .cut ∙ ap (λ (cs : List ℕ). i + consumed E x (room out₀ - w / 2) cs) (drop-cons piece i 0 l)
+            ∙ ap (λ (m : ℕ). i + m) (byte-step E x (room out₀ - w / 2) c (drop (suc i) piece) h f) ∙ room-more d (consumed E (E .next x c)) (drop (suc i) piece);
+      }
+    where
+      wrote-more : (ws ps : List ℕ) (d : ℕ) → w ≡ length ws → out ≡ ws ++ drop w out₀
+          → take w out ++ (ps ++ drop (w + d) out) ≡ (ws ++ ps) ++ drop (w + d) out₀
+      wrote-more ws ps d e q =
+          let a : take w out ≡ ws = ap (take w) q ∙ take-at ws (drop w out₀) w (sym e) in
+          let b : drop w out ≡ drop w out₀ = ap (drop w) q ∙ drop-at ws (drop w out₀) w (sym e) in
+          let c : drop (w + d) out ≡ drop (w + d) out₀ = sym (drop-drop d w out) ∙ ap (drop d) b ∙ drop-drop d w out₀ in
+          rw (a, c) (sym (append-assoc ws ps (drop (w + d) out₀)))
 
-        room-more : (d : ℕ) (f : ℕ → List ℕ → ℕ) (cs : List ℕ) → i + suc (f (room out₀ - w / 2 - d) cs) ≡ suc i + f (room out₀ - (w + 2 * d) / 2) cs
-        room-more d f cs =
-            let e : room out₀ - (w + 2 * d) / 2 ≡ room out₀ - w / 2 - d = omega arith in
-            rw e (omega arith)
+      room-more : (d : ℕ) (f : ℕ → List ℕ → ℕ) (cs : List ℕ) → i + suc (f (room out₀ - w / 2 - d) cs) ≡ suc i + f (room out₀ - (w + 2 * d) / 2) cs
+      room-more d f cs =
+          let e : room out₀ - (w + 2 * d) / 2 ≡ room out₀ - w / 2 - d = omega arith in
+          rw e (omega arith)
 
-    -- the loop ends at a byte that halts or has no room
-    pub stop : i < length piece → (E .halts x ≡ true) ⊎ (room out₀ - w / 2 < length (due E x (getD piece i 0))) → consumed E x₀ (room out₀) piece ≡ i
-    stop l h =
-        g .cut ∙ ap (λ (cs : List ℕ). i + consumed E x (room out₀ - w / 2) cs) (drop-cons piece i 0 l)
-        ∙ ap (λ (m : ℕ). i + m) (byte-stop E x (room out₀ - w / 2) (getD piece i 0) (drop (suc i) piece) h) ∙ omega arith
+  -- the loop ends at a byte that halts or has no room
+  pub stop : i < length piece → (E .halts x ≡ true) ⊎ (room out₀ - w / 2 < length (due E x (getD piece i 0))) → consumed E x₀ (room out₀) piece ≡ i
+  stop l h =
+      g .cut ∙ ap (λ (cs : List ℕ). i + consumed E x (room out₀ - w / 2) cs) (drop-cons piece i 0 l)
+      ∙ ap (λ (m : ℕ). i + m) (byte-stop E x (room out₀ - w / 2) (getD piece i 0) (drop (suc i) piece) h) ∙ omega arith
 
-    -- or at the end of the piece
-    pub finish : i ≡ length piece → consumed E x₀ (room out₀) piece ≡ i
-    unfolding consumed
-    finish e =
-        g .cut ∙ ap (λ (cs : List ℕ). i + consumed E x (room out₀ - w / 2) cs) (ap (λ (j : ℕ). drop j piece) e ∙ drop-length piece) ∙ omega arith
+  -- or at the end of the piece
+  pub finish : i ≡ length piece → consumed E x₀ (room out₀) piece ≡ i
+  unfolding consumed
+  finish e =
+      g .cut ∙ ap (λ (cs : List ℕ). i + consumed E x (room out₀ - w / 2) cs) (ap (λ (j : ℕ). drop j piece) e ∙ drop-length piece) ∙ omega arith
 
 -- ---- its exit
 

@@ -7,7 +7,7 @@ use native.Mathlib.Nat.{zero-mul, mul-one, div-one, div-eq-of-lt}
 use lib.ListN.{length, getD, set, length-append}
 use lib.Pow.{shr-shr}
 use Rattle.sets.specs.Set.{sigWords, signatures, num, size, members, placed}
-use Rattle.sets.proofs.Laws.{digits-at, digits-num}
+use Rattle.sets.proofs.Words.{word-at}
 use Rattle.sets.proofs.Sets.{Words, words-lt, holds-empty}
 use Rattle.sets.proofs.Parts.{low-in, high-in, at-state, members-none, members-one, members-split}
 use Rattle.sets.proofs.Members.{members-size}
@@ -103,10 +103,6 @@ module _ (ws : List ℕ) (v : Words sigWords ws) (out₀ : List ℕ) (w₀ k : �
   abbrev pub LeftWords : List ℕ → ℕ → ℕ → Type 0
   LeftWords out w i = Left out₀ w₀ k (num 64 ws) out w (num 64 ws / 2 ^ (64 * i)) (64 * i)
 
-  -- the lowest 64 bits of that are word i
-  word-of : (i : ℕ) → i < sigWords → num 64 ws / 2 ^ (64 * i) % 2 ^ 64 ≡ getD ws i 0
-  word-of i l = sym (digits-at 64 (length ws) (num 64 ws) i (omega (arith, v .long))) ∙ ap (λ (xs : List ℕ). getD xs i 0) (digits-num 64 ws (v .small))
-
   pub words-all : LeftWords out₀ w₀ 0
   words-all =
       let e : num 64 ws / 2 ^ (64 * 0) * 2 ^ (64 * 0) ≡ num 64 ws = mul-one (num 64 ws / 1) ∙ div-one (num 64 ws) in
@@ -114,13 +110,13 @@ module _ (ws : List ℕ) (v : Words sigWords ws) (out₀ : List ℕ) (w₀ k : �
 
   module _ (out : List ℕ) (w i : ℕ) (h : LeftWords out w i) where
     pub words-low : i < sigWords → (getD ws i 0 * 2 ^ (64 * i) < 2 ^ signatures) × (w + 2 * size signatures (getD ws i 0 * 2 ^ (64 * i)) ≤ length out)
-    words-low l = rw (word-of i l) at (left-low h room 64)
+    words-low l = rw (word-at ws i (v .small) (omega (arith, v .long))) at (left-low h room 64)
 
     pub words-more : i < sigWords → (n : ℕ) (left : List ℕ) → Tells (getD ws i 0 * 2 ^ (64 * i)) out w k n left → LeftWords left n (i + 1)
     words-more l n left t =
         let e : 64 * i + 64 ≡ 64 * (i + 1) = omega arith in
         rw (shr-shr (num 64 ws) (64 * i) 64, e)
-        at (left-more h room 64 n left (rw (word-of i l) t))
+        at (left-more h room 64 n left (rw (word-at ws i (v .small) (omega (arith, v .long))) t))
 
     pub words-none : i ≡ sigWords → out ≡ placed out₀ w₀ (pairsAt k (members signatures (num 64 ws)))
     words-none e =

@@ -6,7 +6,7 @@ use Prim.Native.Nat.{ℕ}
 use Rattle.sets.specs.Set.{signatures, members, placed}
 use Rattle.feeds.specs.declared.Fed.{Fed}
 use Rattle.feeds.specs.Engine.{Outcome, pairsAt}
-use Rattle.feeds.specs.Fed.{Answers}
+use Rattle.feeds.specs.Fed.{Answers, Unfed}
 
 -- telling leaves one list of words
 pub unique-tell : (r q out : List ℕ) (at k G : ℕ)
@@ -14,12 +14,17 @@ pub unique-tell : (r q out : List ℕ) (at k G : ℕ)
 unique-tell r q out at k G e f = e ∙ sym f
 
 -- answers with the same fields are the same
-fed-one : (f g : Fed) → f .refusal ≡ g .refusal → f .bytes ≡ g .bytes → f .pairs ≡ g .pairs → f .all ≡ g .all → f ≡ g
+pub fed-one : (f g : Fed) → f .refusal ≡ g .refusal → f .bytes ≡ g .bytes → f .pairs ≡ g .pairs → f .all ≡ g .all → f ≡ g
 fed-one f g a b c d =
     ap {B = Fed} (λ (x : ℕ). record { refusal = x; bytes = f .bytes; pairs = f .pairs; all = f .all }) a
     ∙ ap {B = Fed} (λ (x : ℕ). record { refusal = g .refusal; bytes = x; pairs = f .pairs; all = f .all }) b
     ∙ ap {B = Fed} (λ (x : ℕ). record { refusal = g .refusal; bytes = g .bytes; pairs = x; all = f .all }) c
     ∙ ap {B = Fed} (λ (x : Bool). record { refusal = g .refusal; bytes = g .bytes; pairs = g .pairs; all = x }) d
+
+-- a refusal has one answer
+pub unique-refused : (n : ℕ) (f g : Fed) → Unfed n f → Unfed n g → f ≡ g
+unique-refused n f g a b =
+    fed-one f g (a .refusal ∙ sym (b .refusal)) (a .bytes ∙ sym (b .bytes)) (a .pairs ∙ sym (b .pairs)) (a .all ∙ sym (b .all))
 
 -- what answers one outcome is one answer, and leaves the same words and the same record
 pub unique-answers : (o : Outcome) (f g : Fed) (ws vs sv tv : List ℕ) → Answers o f ws sv → Answers o g vs tv → (f ≡ g) × (ws ≡ vs) × (sv ≡ tv)

@@ -5,7 +5,7 @@ ghost use Prim.Native.Nat.{_+_, _*_, _^_, _≤_, _<_};
 ghost use lib.ListN.{length};
 ghost use Rattle.sets.specs.Set.{signatures, size, members, sigsOf, placed};
 ghost use Rattle.feeds.specs.Engine.{pairsAt};
-ghost use Rattle.feeds.specs.Fed.{Tells};
+ghost use Rattle.feeds.specs.Fed.{Unfed, Tells};
 
 // The largest offset.
 pub const MOST_OFFSET: u64 = 4294967295;
@@ -16,6 +16,18 @@ pub struct Fed {
     pub bytes: usize,
     pub pairs: usize,
     pub all: bool,
+}
+
+// The answer of a feed that a rule refuses.
+pub fn refused(refusal: u32) -> Fed
+    ensures { λ f. ⌜ Unfed refusal f ⌝ }
+{
+    Fed {
+        refusal: refusal,
+        bytes: 0,
+        pairs: 0,
+        all: false,
+    }
 }
 
 // Writes signature s and the offset at word w, where the bit is 1; answers the word after.

@@ -6,6 +6,10 @@ use Prim.Native.Nat.{ℕ}
 use lib.ListN.{length}
 use lib.Dec.{eqb}
 use Rattle.rules.specs.Rules.{verdict}
+use Rattle.feeds.specs.declared.Fed.{Fed}
+use Rattle.feeds.proofs.Unique.{fed-one}
+use Rattle.flows.specs.declared.Ran.{Ran}
+use Rattle.flows.specs.Ran.{Finishes}
 use Rattle.flows.specs.Flow.{flowSize, offsetOf, rowsOf, flowBytes, flowRules}
 
 module _ (r q : ℕ) (R : List ℕ) where
@@ -20,3 +24,10 @@ module _ (r q : ℕ) (R : List ℕ) where
 
 pub unique-save : (r q R : List ℕ) (F k n : ℕ) → r ≡ cond (eqb (length R) flowSize) (flowBytes F k n) R → q ≡ cond (eqb (length R) flowSize) (flowBytes F k n) R → r ≡ q
 unique-save r q R F k n e f = e ∙ sym f
+
+-- the end of a feed gives one answer and leaves one record
+pub unique-finish : (ran : Ran) (len : ℕ) (R : List ℕ) (f g : Fed) (sv tv : List ℕ) → Finishes ran len R f sv → Finishes ran len R g tv → (f ≡ g) × (sv ≡ tv)
+unique-finish ran len R f g sv tv a b = (
+  fed-one f g (a .refusal ∙ sym (b .refusal)) (a .bytes ∙ sym (b .bytes)) (a .pairs ∙ sym (b .pairs)) (a .all ∙ sym (b .all)),
+  a .saved ∙ sym (b .saved),
+)

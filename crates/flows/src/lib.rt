@@ -1,12 +1,17 @@
 // The record of a list's flow, read, checked and written.
+use feeds::Fed;
 use sets::StateSet;
 ghost use mathlib.Core.Path.{_≡_};
 ghost use mathlib.Core.Bool.{cond};
+ghost use Prim.Native.Nat.{_+_, _^_, _<_, _≤_};
 ghost use lib.ListN.{length};
 ghost use lib.Dec.{eqb};
 ghost use Rattle.sets.specs.Set.{setOf};
 ghost use Rattle.rules.specs.Rules.{verdict};
 ghost use Rattle.flows.specs.Flow.{flowSize, offsetOf, reservedOf, rowsOf, flowBytes, badFlow, flowRules};
+ghost use Rattle.lists.specs.Automaton.{accepted};
+ghost use Rattle.flows.specs.Ran.{Finishes};
+ghost use Rattle.flows.specs.Told.{TellsAll};
 
 // Bytes in a flow record.
 pub const FLOW_SIZE: usize = sets::BYTES + 16;
@@ -20,6 +25,21 @@ const ROWS_AT: usize = sets::BYTES + 8;
 
 // The most rows that a byte reads.
 const MOST_ROWS: u64 = sets::STATES as u64;
+
+// What the loop of a feed leaves: the refusal of the byte where it stops, the frontier, the bytes consumed, the words written and the rows read.
+pub struct Ran {
+    pub refusal: u32,
+    pub frontier: StateSet,
+    pub bytes: usize,
+    pub words: usize,
+    pub rows: u64,
+}
+
+// What telling a byte's pairs leaves: whether they all fit, and how many words are written.
+pub struct Told {
+    pub fits: bool,
+    pub words: usize,
+}
 
 // The offset of a record.
 pub fn offset_of(flow: &[u8]) -> u64
@@ -78,5 +98,42 @@ pub fn save(flow: &mut [u8], f: StateSet, offset: u64, rows: u64)
         sets::put_number(flow, OFFSET_AT, 4, offset);
         sets::put_number(flow, RESERVED_AT, 4, 0);
         sets::put_number(flow, ROWS_AT, 8, rows);
+    }
+}
+
+// Tells what a frontier accepts, behind the words that are written: all of it, or nothing where it does not fit.
+pub fn tell_accepted(list: &[u8], f: StateSet, pairs: &mut [u32], words: usize, offset: u32) -> Told
+    requires { ⌜ words ≤ length (now pairs) ⌝ }
+    ensures { λ t. ⌜ TellsAll (accepted (now (list .entry)) (setOf f)) (now (pairs .entry)) words offset t (now (pairs .exit)) ⌝ }
+{
+    let g = lists::accepted(list, f);
+    let n = g.count() as usize;
+    if (pairs.len() - words) / 2 < n {
+        return Told {
+            fits: false,
+            words: words,
+        };
+    }
+    feeds::tell(pairs, words, g, offset);
+    Told {
+        fits: true,
+        words: words + 2 * n,
+    }
+}
+
+// The end of a feed of a piece of `len` bytes: what its loop leaves is saved and answered.
+pub fn finish(flow: &mut [u8], ran: Ran, len: usize) -> Fed
+    requires { ⌜ (offsetOf (now flow) + ran .bytes < 2 ^ 64) × (rowsOf (now flow) + ran .rows < 2 ^ 64) ⌝ }
+    ensures { λ f. ⌜ Finishes ran len (now (flow .entry)) f (now (flow .exit)) ⌝ }
+{
+    let offset = offset_of(flow) + ran.bytes as u64;
+    let rows = rows_of(flow) + ran.rows;
+    let frontier = ran.frontier;
+    save(flow, frontier, offset, rows);
+    Fed {
+        refusal: ran.refusal,
+        bytes: ran.bytes,
+        pairs: ran.words / 2,
+        all: ran.bytes == len,
     }
 }

@@ -1,16 +1,20 @@
 -- The automaton in a reader's words: what is in the start set, in a step and among the accepted signatures; the step of a union. Assumes nothing.
-use Prim.Native.Nat.{ℕ, _^_, _≤_, _<_}
+use Prim.Native.Nat.{ℕ, suc, _^_, _≤_, _<_}
 use mathlib.Core.Path.{_≡_, refl, sym, _∙_}
-use mathlib.Core.Bool.{Bool, true, false, _&&_, _||_}
+use mathlib.Core.Bool.{Bool, true, false, _&&_, _||_, true≢false}
 use mathlib.Core.List.{List}
 use mathlib.Core.Logic.{_↔_}
+use native.Mathlib.Omega.{arith}
+use native.Mathlib.Nat.{lt-of-not-le}
+use native.Mathlib.Decide.{decLt}
 use lib.Dec.{leb}
 use borrow.Author.Tests.{leb-true, le-leb, not-false}
-use Rattle.sets.specs.Set.{states, signatures, holds, join}
-use Rattle.sets.proofs.Sets.{holds-empty, holds-join}
+use Rattle.sets.specs.Set.{states, signatures, holds, join, meets}
+use Rattle.sets.proofs.Sets.{holds-empty, holds-join, holds-past, set-ext}
+use Rattle.sets.proofs.Meets.{apart-exactly}
 use Rattle.rules.specs.Scan.{every, gather}
 use Rattle.lists.specs.List.{records, isEdge, isStart, isAccept, low, high, from, target, goodRecord, badRecord, listRefusal}
-use Rattle.lists.specs.Automaton.{edge, leaves, start, step, accepted}
+use Rattle.lists.specs.Automaton.{edge, leaves, start, step, accepted, accepting}
 use Rattle.rules.proofs.Scanning.{and-false, both, every-at, gather-exactly, gather-lt, gather-none, gather-join}
 use Rattle.rules.proofs.Rules.{passes}
 use Rattle.lists.proofs.Listed.{good-edge, good-accept, edge-good, accept-good}
@@ -65,6 +69,22 @@ step-exactly L F c t = leads-exactly states L F (edge L c) (Takes L c) (edge-exa
 pub accepted-exactly : (L : List ℕ) (F g : ℕ) → holds (accepted L F) g ≡ true ↔ ((g < signatures) × Leads L F (λ i. isAccept L i ≡ true) g)
 unfolding accepted
 accepted-exactly L F g = leads-exactly signatures L F (isAccept L) (λ i. isAccept L i ≡ true) (λ i. (λ e. e, λ e. e)) g
+
+-- s is an accepting state exactly when some accept record names it
+pub accepting-exactly : (L : List ℕ) (s : ℕ) → holds (accepting L) s ≡ true ↔ ((s < states) × ((i : ℕ) × (i < records L) × (isAccept L i ≡ true) × (from L i ≡ s)))
+unfolding accepting
+accepting-exactly L s = gather-exactly states (isAccept L) (from L) (records L) s
+
+-- so a frontier that holds none of them accepts nothing
+pub quiet : (L : List ℕ) (F : ℕ) → F < 2 ^ states → meets F (accepting L) ≡ false → accepted L F ≡ 0
+quiet L F h e = set-ext (accepted L F) 0 (λ g. none g (holds (accepted L F) g) refl ∙ sym (holds-empty g))
+  where
+    none : (g : ℕ) (b : Bool) → holds (accepted L F) g ≡ b → b ≡ false
+    none g false q = refl
+    none g true q =
+        let w = accepted-exactly L F g .0 q .1 in
+        let l : from L (w .0) < states = elim (decLt (from L (w .0)) states) [ yes l ↦ l | no n ↦ absurd (true≢false (sym (w .3) ∙ holds-past states F (from L (w .0)) h (omega (arith, lt-of-not-le (λ (l : suc (from L (w .0)) ≤ states). n l))))) ] in
+        absurd (apart-exactly F (accepting L) .0 e (from L (w .0)) (w .3) (accepting-exactly L (from L (w .0)) .1 (l, (w .0, w .1, w .2, refl))))
 
 -- ---- the step of a union is the union of the steps
 

@@ -8,7 +8,7 @@ use Rattle.sets.specs.declared.SigSet.{SigSet}
 use Rattle.sets.specs.Set.{setWords, sigWords, setOf, sigsOf}
 use Rattle.sets.proofs.Sets.{Words, set-one, sigs-one}
 use Rattle.lists.specs.List.{listRefusal}
-use Rattle.lists.specs.Automaton.{start, step, accepted}
+use Rattle.lists.specs.Automaton.{start, step, accepted, accepting}
 
 pub unique-byte-at : (b : List ℕ) (at x y : ℕ) → x ≡ getD b at 0 → y ≡ getD b at 0 → x ≡ y
 unique-byte-at b at x y p q = p ∙ sym q
@@ -20,6 +20,9 @@ unique-check-list L x y p q = p ∙ sym q
 module _ (x y : StateSet) (vx : Words setWords (x .words)) (vy : Words setWords (y .words)) where
   pub unique-start-set : (L : List ℕ) → setOf x ≡ start L → setOf y ≡ start L → x ≡ y
   unique-start-set L p q = set-one x y vx vy (p ∙ sym q)
+
+  pub unique-accepting : (L : List ℕ) → setOf x ≡ accepting L → setOf y ≡ accepting L → x ≡ y
+  unique-accepting L p q = set-one x y vx vy (p ∙ sym q)
 
   pub unique-step : (L : List ℕ) (F c : ℕ) → setOf x ≡ step L F c → setOf y ≡ step L F c → x ≡ y
   unique-step L F c p q = set-one x y vx vy (p ∙ sym q)

@@ -26,3 +26,7 @@ step L F c = gather states (leaves L F (edge L c)) (target L) (records L)
 -- the signatures that some state of F accepts
 unfoldable pub accepted : List ℕ → ℕ → ℕ
 accepted L F = gather signatures (leaves L F (isAccept L)) (target L) (records L)
+
+-- the states that some accept record names
+unfoldable pub accepting : List ℕ → ℕ
+accepting L = gather states (isAccept L) (from L) (records L)

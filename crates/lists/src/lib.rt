@@ -7,7 +7,7 @@ ghost use Prim.Native.Nat.{_+_, _*_, _<_, _^_};
 ghost use lib.ListN.{length, getD};
 ghost use Rattle.sets.specs.Set.{states, num, setOf, sigsOf, join, insert};
 ghost use Rattle.lists.specs.List.{recordSize, records, word, byteOf, wordOf, isEdge, isStart, isAccept, from, target, zeros, goodEdge, goodStart, goodAccept, goodRecord, badLength, badRecord, noStart, listRefusal};
-ghost use Rattle.lists.specs.Automaton.{edge, leaves, start, step, accepted};
+ghost use Rattle.lists.specs.Automaton.{edge, leaves, start, step, accepted, accepting};
 
 // Bytes in a record.
 pub const RECORD_SIZE: usize = 8;
@@ -21,6 +21,11 @@ const EDGE: u8 = 1;
 const START: u8 = 2;
 
 const ACCEPT: u8 = 3;
+
+// The places of a record's two numbers: the state that it leaves or names, and the state or signature that it leads to.
+const FROM: usize = 4;
+
+const TARGET: usize = 6;
 
 // The byte at a place; past the end that is 0.
 pub fn byte_at(b: &[u8], at: usize) -> u8
@@ -49,7 +54,7 @@ fn word_of(list: &[u8], i: usize, k: usize) -> usize
     requires { ⌜ (i < records (now list)) × (k + 1 < recordSize) ⌝ }
     ensures { λ r. ⌜ r ≡ wordOf (now (list .entry)) i k ⌝ }
 {
-    byte_of(list, i, k) as usize + 256 * (byte_of(list, i, k + 1) as usize)
+    sets::whole_number(list, RECORD_SIZE * i + k, 2) as usize
 }
 
 // Says whether record i is an edge.
@@ -81,7 +86,7 @@ fn from(list: &[u8], i: usize) -> usize
     requires { ⌜ i < records (now list) ⌝ }
     ensures { λ r. ⌜ r ≡ from (now (list .entry)) i ⌝ }
 {
-    word_of(list, i, 4)
+    word_of(list, i, FROM)
 }
 
 // The state that record i leads to, or the signature that it gives.
@@ -89,7 +94,7 @@ fn target(list: &[u8], i: usize) -> usize
     requires { ⌜ i < records (now list) ⌝ }
     ensures { λ r. ⌜ r ≡ target (now (list .entry)) i ⌝ }
 {
-    word_of(list, i, 6)
+    word_of(list, i, TARGET)
 }
 
 // Says whether bytes 1 to n of record i are zero.
@@ -198,13 +203,13 @@ pub fn check_list(list: &[u8]) -> u32
     rules::PASSED
 }
 
-// Puts the target of record i into the words of a set, where the test holds.
-fn put_target(list: &[u8], i: usize, test: bool, w: &mut [u64])
-    requires { ⌜ i < records (now list) ⌝ }
-    ensures { λ r. ⌜ num 64 (now (w .exit)) ≡ cond test (insert (64 * length (now (w .entry))) (num 64 (now (w .entry))) (target (now (list .entry)) i)) (num 64 (now (w .entry))) ⌝ }
+// Puts the number at bytes k and k + 1 of record i into the words of a set, where the test holds.
+fn put_word(list: &[u8], i: usize, k: usize, test: bool, w: &mut [u64])
+    requires { ⌜ (i < records (now list)) × (k + 1 < recordSize) ⌝ }
+    ensures { λ r. ⌜ num 64 (now (w .exit)) ≡ cond test (insert (64 * length (now (w .entry))) (num 64 (now (w .entry))) (wordOf (now (list .entry)) i k)) (num 64 (now (w .entry))) ⌝ }
 {
     if test {
-        sets::put_bit(w, target(list, i));
+        sets::put_bit(w, word_of(list, i, k));
     }
 }
 
@@ -216,7 +221,7 @@ pub fn start_set(list: &[u8]) -> StateSet
     let none = StateSet::EMPTY;
     let mut w = none.words;
     for i in 0..n {
-        put_target(list, i, is_start(list, i), &mut w);
+        put_word(list, i, TARGET, is_start(list, i), &mut w);
     }
     StateSet::of_words(w)
 }
@@ -245,7 +250,7 @@ fn targets(list: &[u8], s: usize, c: u8) -> StateSet
     let none = StateSet::EMPTY;
     let mut w = none.words;
     for i in 0..n {
-        put_target(list, i, leaves(list, s, c, i), &mut w);
+        put_word(list, i, TARGET, leaves(list, s, c, i), &mut w);
     }
     StateSet::of_words(w)
 }
@@ -310,7 +315,20 @@ pub fn accepted(list: &[u8], f: StateSet) -> SigSet
     let none = SigSet::EMPTY;
     let mut w = none.words;
     for i in 0..n {
-        put_target(list, i, accepts(list, &frontier, i), &mut w);
+        put_word(list, i, TARGET, accepts(list, &frontier, i), &mut w);
     }
     SigSet::of_words(w)
+}
+
+// The states that some accept record names.
+pub fn accepting(list: &[u8]) -> StateSet
+    ensures { λ r. ⌜ setOf r ≡ accepting (now (list .entry)) ⌝ }
+{
+    let n = records(list);
+    let none = StateSet::EMPTY;
+    let mut w = none.words;
+    for i in 0..n {
+        put_word(list, i, FROM, is_accept(list, i), &mut w);
+    }
+    StateSet::of_words(w)
 }

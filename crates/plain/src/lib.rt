@@ -1,25 +1,19 @@
 // Opening a flow, and the plain feed: the automaton runs over a piece, byte by byte.
 use feeds::Fed;
+use flows::Ran;
+use flows::Told;
 use sets::StateSet;
 ghost use mathlib.Core.Path.{_≡_};
 ghost use Prim.Native.Nat.{_+_, _≤_};
 ghost use lib.ListN.{length};
 ghost use Rattle.sets.specs.Set.{setOf};
 ghost use Rattle.rules.specs.Rules.{verdict};
-ghost use Rattle.feeds.specs.Engine.{room, consumed, mostOffset};
+ghost use Rattle.feeds.specs.Engine.{mostOffset};
 ghost use Rattle.flows.specs.Flow.{feedRules};
 ghost use Rattle.feeds.specs.Fed.{Answers};
-ghost use Rattle.feeds.proofs.Going.{Going};
+ghost use Rattle.flows.proofs.Ending.{Leaves};
 ghost use Rattle.plain.specs.Plain.{plain, openRefusal, plainFeed};
 ghost use Rattle.plain.specs.Opens.{Opens};
-
-// What the loop of a feed leaves: the frontier, the bytes consumed, the words written and the rows read.
-struct Ran {
-    frontier: StateSet,
-    bytes: usize,
-    words: usize,
-    rows: u64,
-}
 
 // The check of opening: the number of the first of the rules 1 to 4 that refuses it, 0 where none does.
 fn open_refusal(list: &[u8], flow: &[u8]) -> u32
@@ -61,30 +55,38 @@ fn feed_refusal(list: &[u8], flow: &[u8], start: u64, piece: &[u8]) -> u32
 // Runs the automaton from a frontier at an offset over the bytes whose pairs all fit the words.
 fn feed_bytes(list: &[u8], first: StateSet, offset: u64, piece: &[u8], pairs: &mut [u32]) -> Ran
     requires { ⌜ offset + length (now piece) ≤ mostOffset ⌝ }
-    ensures going { λ r. ⌜ Going (plain (now (list .entry))) (setOf first) offset (now (piece .entry)) (now (pairs .entry)) (setOf (r .frontier)) (now (pairs .exit)) (r .bytes) (r .words) (r .rows) ⌝ }
-    ensures longest { λ r. ⌜ consumed (plain (now (list .entry))) (setOf first) (room (now (pairs .entry))) (now (piece .entry)) ≡ r .bytes ⌝ }
+    ensures { λ r. ⌜ Leaves (plain (now (list .entry))) (setOf first) offset (now (piece .entry)) (now (pairs .entry)) r (now (pairs .exit)) ⌝ }
 {
+    let accepting = lists::accepting(list);
     let mut f = first;
     let mut words = 0usize;
     let mut rows = 0u64;
     for i in 0..piece.len() {
         let next = lists::step(list, f, piece[i]);
-        let g = lists::accepted(list, next);
-        let n = g.count() as usize;
-        if (pairs.len() - words) / 2 < n {
+        let at = (offset + i as u64 + 1) as u32;
+        let mut told = Told {
+            fits: true,
+            words: words,
+        };
+        if next.meets(accepting) {
+            told = flows::tell_accepted(list, next, pairs, words, at);
+        }
+        let fits = told.fits;
+        if !fits {
             return Ran {
+                refusal: rules::PASSED,
                 frontier: f,
                 bytes: i,
                 words: words,
                 rows: rows,
             };
         }
-        feeds::tell(pairs, words, g, (offset + i as u64 + 1) as u32);
-        words = words + 2 * n;
+        words = told.words;
         rows = rows + f.count() as u64;
         f = next;
     }
     Ran {
+        refusal: rules::PASSED,
         frontier: f,
         bytes: piece.len(),
         words: words,
@@ -96,28 +98,10 @@ fn feed_bytes(list: &[u8], first: StateSet, offset: u64, piece: &[u8], pairs: &m
 pub fn feed(list: &[u8], flow: &mut [u8], start: u64, piece: &[u8], pairs: &mut [u32]) -> Fed
     ensures { λ r. ⌜ Answers (plainFeed (now (list .entry)) (now (flow .entry)) start (now (piece .entry)) (now (pairs .entry))) r (now (pairs .exit)) (now (flow .exit)) ⌝ }
 {
-    let verdict = feed_refusal(list, flow, start, piece);
-    if verdict != rules::PASSED {
-        return Fed {
-            refusal: verdict,
-            bytes: 0,
-            pairs: 0,
-            all: false,
-        };
+    let refusal = feed_refusal(list, flow, start, piece);
+    if refusal != rules::PASSED {
+        return feeds::refused(refusal);
     }
-    let offset = flows::offset_of(flow);
-    let rows = flows::rows_of(flow);
-    let ran = feed_bytes(list, StateSet::load(flow, 0), offset, piece, pairs);
-    flows::save(
-        flow,
-        ran.frontier,
-        offset + ran.bytes as u64,
-        rows + ran.rows,
-    );
-    Fed {
-        refusal: rules::PASSED,
-        bytes: ran.bytes,
-        pairs: ran.words / 2,
-        all: ran.bytes == piece.len(),
-    }
+    let ran = feed_bytes(list, StateSet::load(flow, 0), start, piece, pairs);
+    flows::finish(flow, ran, piece.len())
 }

@@ -1,18 +1,18 @@
 // The split feed: each byte is moved by the rows of the split that is the frontier, and the list gives the pairs.
 use feeds::Fed;
+use flows::Ran;
+use flows::Told;
 use sets::StateSet;
 ghost use mathlib.Core.Path.{_≡_};
-ghost use mathlib.Core.Bool.{_&&_, cond};
 ghost use Prim.Native.Nat.{_+_, _*_, _≤_, _<_};
 ghost use lib.ListN.{length};
-ghost use lib.Dec.{ltb};
 ghost use Rattle.sets.specs.Set.{setSize, setOf};
 ghost use Rattle.rules.specs.Rules.{verdict};
-ghost use Rattle.feeds.specs.Engine.{room, consumed, mostOffset};
+ghost use Rattle.feeds.specs.Engine.{mostOffset};
 ghost use Rattle.feeds.specs.Fed.{Answers};
-ghost use Rattle.feeds.proofs.Going.{Going};
+ghost use Rattle.flows.proofs.Ending.{Leaves};
 ghost use Rattle.tables.specs.Table.{table, classCount, partCount, splitCount, rowAt, slots, takenSlots};
-ghost use Rattle.splits.specs.Split.{splitOf, stuck, split, splitRules, splitFeed};
+ghost use Rattle.splits.specs.Split.{splitOf, split, splitRules, splitFeed};
 ghost use Rattle.splits.specs.Taken.{TakesSlots, TakesStep};
 
 // The refusal of a byte that the table does not move.
@@ -23,15 +23,6 @@ struct Taken {
     halts: bool,
     rows: u64,
     next: StateSet,
-}
-
-// What the loop of a feed leaves: the refusal of the byte where it stops, the frontier, the bytes consumed, the words written and the rows read.
-struct Ran {
-    refusal: u32,
-    frontier: StateSet,
-    bytes: usize,
-    words: usize,
-    rows: u64,
 }
 
 // The first split whose set is f; the number of splits where there is none.
@@ -123,7 +114,9 @@ fn feed_refusal(
     start: u64,
     piece: &[u8],
 ) -> u32
-    ensures { λ r. ⌜ r ≡ verdict (splitRules (now (list .entry)) bound (table (now (classes .entry)) (now (parts .entry)) (now (rows .entry)) (now (splits .entry))) (now (flow .entry)) start (now (piece .entry))) ⌝ }
+    ensures { λ r. ⌜ r ≡ verdict (splitRules (now (list .entry)) bound
+        (table (now (classes .entry)) (now (parts .entry)) (now (rows .entry)) (now (splits .entry)))
+        (now (flow .entry)) start (now (piece .entry))) ⌝ }
 {
     let listed = lists::check_list(list);
     if listed != rules::PASSED {
@@ -150,10 +143,10 @@ fn feed_bytes(
     pairs: &mut [u32],
 ) -> Ran
     requires { ⌜ (offset + length (now piece) ≤ mostOffset) × (setSize * (partCount (now parts) * classCount (now classes)) ≤ length (now rows)) ⌝ }
-    ensures going { λ r. ⌜ Going (split (now (list .entry)) bound (table (now (classes .entry)) (now (parts .entry)) (now (rows .entry)) (now (splits .entry)))) (setOf first) offset (now (piece .entry)) (now (pairs .entry)) (setOf (r .frontier)) (now (pairs .exit)) (r .bytes) (r .words) (r .rows) ⌝ }
-    ensures longest { λ r. ⌜ consumed (split (now (list .entry)) bound (table (now (classes .entry)) (now (parts .entry)) (now (rows .entry)) (now (splits .entry)))) (setOf first) (room (now (pairs .entry))) (now (piece .entry)) ≡ r .bytes ⌝ }
-    ensures refused { λ r. ⌜ r .refusal ≡ cond (ltb (r .bytes) (length (now (piece .entry))) && stuck bound (table (now (classes .entry)) (now (parts .entry)) (now (rows .entry)) (now (splits .entry))) (setOf (r .frontier))) 14 0 ⌝ }
+    ensures { λ r. ⌜ Leaves (split (now (list .entry)) bound (table (now (classes .entry)) (now (parts .entry)) (now (rows .entry)) (now (splits .entry))))
+        (setOf first) offset (now (piece .entry)) (now (pairs .entry)) r (now (pairs .exit)) ⌝ }
 {
+    let accepting = lists::accepting(list);
     let k = tables::class_count(classes);
     let mut ran = Ran {
         refusal: rules::PASSED,
@@ -163,7 +156,6 @@ fn feed_bytes(
         rows: 0,
     };
     for i in 0..piece.len() {
-        let left = (pairs.len() - ran.words) / 2;
         let f = ran.frontier;
         let t = split_step(classes, parts, rows, splits, k, bound, f, piece[i]);
         let halts = t.halts;
@@ -172,20 +164,26 @@ fn feed_bytes(
             return ran;
         }
         let next = t.next;
-        let g = lists::accepted(list, next);
-        let n = g.count() as usize;
-        if left < n {
+        let at = (offset + i as u64 + 1) as u32;
+        let words = ran.words;
+        let mut told = Told {
+            fits: true,
+            words: words,
+        };
+        if next.meets(accepting) {
+            told = flows::tell_accepted(list, next, pairs, words, at);
+        }
+        let fits = told.fits;
+        if !fits {
             return ran;
         }
-        feeds::tell(pairs, ran.words, g, (offset + i as u64 + 1) as u32);
-        let words = ran.words + 2 * n;
-        let spent = ran.rows + t.rows;
         let bytes = i + 1;
+        let spent = ran.rows + t.rows;
         ran = Ran {
             refusal: rules::PASSED,
             frontier: next,
             bytes: bytes,
-            words: words,
+            words: told.words,
             rows: spent,
         };
     }
@@ -221,16 +219,9 @@ pub fn feed(
         piece,
     );
     if refusal != rules::PASSED {
-        return Fed {
-            refusal: refusal,
-            bytes: 0,
-            pairs: 0,
-            all: false,
-        };
+        return feeds::refused(refusal);
     }
-    let f = StateSet::load(flow, 0);
-    let from = flows::offset_of(flow);
-    let spent = flows::rows_of(flow);
+    let first = StateSet::load(flow, 0);
     let ran = feed_bytes(
         list,
         bound,
@@ -238,21 +229,10 @@ pub fn feed(
         parts,
         rows,
         splits,
-        f,
-        from,
+        first,
+        start,
         piece,
         pairs,
     );
-    flows::save(
-        flow,
-        ran.frontier,
-        from + ran.bytes as u64,
-        spent + ran.rows,
-    );
-    Fed {
-        refusal: ran.refusal,
-        bytes: ran.bytes,
-        pairs: ran.words / 2,
-        all: ran.bytes == piece.len(),
-    }
+    flows::finish(flow, ran, piece.len())
 }

@@ -30,11 +30,11 @@ loop-holds c = (search needs, search needs, empty-words setWords)
 leaves-requires : tie.Need-leaves-requires Inv-loop μ-loop
 leaves-requires c κs = search needs
 
-slice-aggregate-put-target : tie.Need-slice-aggregate-put-target Inv-loop μ-loop
-slice-aggregate-put-target c = search needs
+slice-aggregate-put-word : tie.Need-slice-aggregate-put-word Inv-loop μ-loop
+slice-aggregate-put-word c = search needs
 
-put-target-requires : tie.Need-put-target-requires Inv-loop μ-loop
-put-target-requires c κs = search needs
+put-word-requires : tie.Need-put-word-requires Inv-loop μ-loop
+put-word-requires c κs = search needs
 
 add-i : tie.Need-add-i Inv-loop μ-loop
 add-i c = search needs
@@ -46,7 +46,7 @@ loop-again : tie.Need-loop-again Inv-loop μ-loop
 unfolding gather
 loop-again c =
     let p = c .before .before .before .before .before .loop in
-    (search needs, search needs, rw (add-one, c .before .put-target .ensures, c .before .before .before .leaves .ensures, p .inv .1, p .inv .2) refl)
+    (search needs, search needs, rw (add-one, c .before .put-word .ensures, c .before .before .before .leaves .ensures, p .inv .1, p .inv .2) refl)
 
 of-words-requires : tie.Need-of-words-requires Inv-loop μ-loop
 of-words-requires c κs = search needs
@@ -64,8 +64,8 @@ targets-spec =
     records-requires
     loop-holds
     leaves-requires
-    slice-aggregate-put-target
-    put-target-requires
+    slice-aggregate-put-word
+    put-word-requires
     add-i
     loop-less
     loop-again

@@ -2,87 +2,106 @@
 use borrow.Author.Needs.{needs}
 use mathlib.Core.Path.{_≡_, refl, sym, ap, _∙_}
 use mathlib.Core.Bool.{true}
-use Prim.Native.Nat.{_+_, _≤_, _<_, _-_, _*_}
+use mathlib.Core.Logic.{inl}
+use Prim.Native.Nat.{_+_, _^_, _≤_, _<_, _-_, _*_}
 use native.Mathlib.Omega.{arith}
-use lib.ListN.{length}
-use Rattle.sets.specs.Set.{setOf, sigsOf}
+use lib.ListN.{length, getD}
+use borrow.Author.Tests.{not-true, not-false}
+use mir.Val.{Fits}
+use mir.Syntax.{w64}
+use Rattle.sets.specs.Set.{setWords, states, setOf}
+use Rattle.sets.proofs.Sets.{words-lt}
+use Rattle.rules.proofs.Scanning.{choose}
 use Rattle.lists.specs.Automaton.{accepted}
 use Rattle.feeds.specs.Engine.{mostOffset}
-use Rattle.feeds.proofs.Going.{Going, start, finish, length-kept}
-use Rattle.feeds.proofs.Looping.{words-fit, more-by, stop-by}
-use Rattle.tables.specs.Table.{Table}
+use Rattle.feeds.proofs.Going.{Going, start, stop, finish, length-kept}
+use Rattle.feeds.proofs.Looping.{words-fit, rows-most, refused-halted, refused-free, refused-ended}
+use Rattle.flows.specs.Told.{TellsAll}
+use Rattle.flows.proofs.Accepting.{all-quiet, told-as, goes-on, stops}
+use Rattle.flows.proofs.Ending.{leaves}
+use Rattle.tables.specs.Table.{Table, table}
 use Rattle.splits.specs.Split.{stuck, split}
 use Rattle.splits.proofs.Stepping.{split-cheap}
-use Rattle.splits.proofs.Feeding.{rows-few, stop-halted, refused-halted, refused-free, refused-ended}
 use Rattle.splits.proofs.feed_bytes.Statement.{statement}
 use Rattle.splits.proofs.feed_bytes.Tie as tie
 
 abbrev Inv-loop : tie.InvT-loop
-Inv-loop list bound classes parts rows splits offset piece pairs₀ k ran₀ i₀ i-end pairs ran i =
-    Going (split list bound (record { classes = classes; parts = parts; rows = rows; splits = splits })) (setOf (ran₀ .frontier)) offset piece pairs₀ (setOf (ran .frontier)) pairs i (ran .words) (ran .rows)
+Inv-loop list bound classes parts rows splits offset piece pairs₀ accepting k ran₀ i₀ i-end pairs ran i =
+    Going (split list bound (table classes parts rows splits)) (setOf (ran₀ .frontier)) offset piece pairs₀ (setOf (ran .frontier)) pairs i (ran .words) (ran .rows)
     × (ran .bytes ≡ i) × (ran .refusal ≡ 0)
 
 abbrev μ-loop : tie.MeasureT-loop
-μ-loop list bound classes parts rows splits offset piece pairs₀ k ran₀ i₀ i-end pairs ran i = length piece - i
+μ-loop list bound classes parts rows splits offset piece pairs₀ accepting k ran₀ i₀ i-end pairs ran i = length piece - i
 
 -- the way back from the loop's head to the entry, and the table that is given
 abbrev entry : tie.At-loop Inv-loop μ-loop → tie.Start Inv-loop μ-loop
-entry c = c .before .before .before .before .before .before .before .before .before
+entry c = c .before .before .before .before .before .before .before .before .before .before
 
-abbrev table : tie.At-loop Inv-loop μ-loop → Table
-table c =
+abbrev given : tie.At-loop Inv-loop μ-loop → Table
+given c =
     let a = entry c .args in
-    record { classes = a .classes .now; parts = a .parts .now; rows = a .rows .now; splits = a .splits .now }
+    table (a .classes .now) (a .parts .now) (a .rows .now) (a .splits .now)
 
--- at the loop's head: the words stay as many, those written are among them, and the rows are few
-kept : (c : tie.At-loop Inv-loop μ-loop) → length (c .loop .pairs) ≡ length (entry c .args .pairs .now)
-kept c =
-    let a = entry c .args in
-    let l = c .loop in
-    length-kept (split (a .list .now) (a .bound) (table c)) (setOf (a .first)) (a .offset) (a .piece .now) (a .pairs .now) (setOf (l .ran .frontier)) (l .pairs) (l .i) (l .ran .words) (l .ran .rows) (l .inv .0)
+-- from the step to the head, and from where a byte's pairs are told to where the step has moved
+abbrev head : tie.After-split-step Inv-loop μ-loop → tie.At-loop Inv-loop μ-loop
+head c = c .before .before .before .before
 
-within : (c : tie.At-loop Inv-loop μ-loop) → c .loop .ran .words ≤ length (c .loop .pairs)
-within c =
-    let a = entry c .args in
-    let l = c .loop in
-    words-fit (split (a .list .now) (a .bound) (table c)) (setOf (a .first)) (a .offset) (a .piece .now) (a .pairs .now) (setOf (l .ran .frontier)) (l .pairs) (l .i) (l .ran .words) (l .ran .rows) (l .inv .0)
+abbrev stepped : tie.Joined2 Inv-loop μ-loop → tie.Else1 Inv-loop μ-loop
+stepped c = c .before .before .before
 
+-- in the loop a byte is still to come, and its offset stays among the largest
+to-come : (c : tie.After-split-step Inv-loop μ-loop) → head c .loop .i < length (entry (head c) .args .piece .now)
+to-come c = omega (arith, c .before .before .before .loop-test)
+
+offset-fits : (c : tie.After-split-step Inv-loop μ-loop) → entry (head c) .args .offset + head c .loop .i + 1 ≤ mostOffset
+offset-fits c = omega (arith, to-come c, entry (head c) .pre .0)
+
+-- the step makes a set of states
+small : (c : tie.Joined2 Inv-loop μ-loop) → setOf (stepped c .before .split-step .result .next) < 2 ^ states
+small c =
+    let ws = stepped c .before .split-step .result .next .words in
+    words-lt setWords ws (record { long = (let l : length ws ≡ setWords = search needs in l); small = λ i. let f : Fits w64 (getD ws i 0) = search needs in f .fits })
+
+-- all its pairs are told, or none fit
+told : (c : tie.Joined2 Inv-loop μ-loop)
+    → TellsAll (accepted (entry (head (stepped c .before)) .args .list .now) (setOf (stepped c .before .split-step .result .next)))
+    (head (stepped c .before) .loop .pairs) (head (stepped c .before) .loop .ran .words) (entry (head (stepped c .before)) .args .offset + head (stepped c .before) .loop .i + 1)
+    (c .if2 .told) (c .if2 .pairs)
+told c =
+    let s = stepped c .before in
+    let h = head s in
+    choose (c .if2 .came) (λ w. told-as (w .5) (w .6) (w .2 .ensures))
+    (λ w.
+    told-as (w .1) (w .2)
+    (all-quiet (entry h .args .list .now) (setOf (s .split-step .result .next)) (small c) (rw (h .before .before .accepting .ensures) at (sym (c .before .meets .ensures) ∙ w .0 .left)) _ _ _))
+
+-- what is told is what the step tells
+alerts : (c : tie.Else1 Inv-loop μ-loop)
+    → accepted (entry (head (c .before)) .args .list .now) (setOf (c .before .split-step .result .next))
+    ≡ split (entry (head (c .before)) .args .list .now) (entry (head (c .before)) .args .bound) (given (head (c .before)))
+    .alerts (setOf (head (c .before) .loop .ran .frontier)) (getD (entry (head (c .before)) .args .piece .now) (head (c .before) .loop .i) 0)
+alerts c = ap (accepted (entry (head (c .before)) .args .list .now)) (c .before .split-step .ensures .next (c .if1 .left))
+
+-- at the loop's head the rows are at most four for each byte, and the step takes no more
 few : (c : tie.At-loop Inv-loop μ-loop) → c .loop .ran .rows ≤ 4 * c .loop .i
-few c =
-    let a = entry c .args in
-    let l = c .loop in
-    rows-few (a .list .now) (a .bound) (table c) (setOf (a .first)) (a .offset) (a .piece .now) (a .pairs .now) (setOf (l .ran .frontier)) (l .pairs) (l .i) (l .ran .words) (l .ran .rows) (l .inv .0)
-    (λ i. c .before .before .before .shared-slice-known6 .given i .fits)
+few c = rows-most (c .loop .inv .0) 4 (split-cheap (given c)) (λ i. c .before .before .before .before .shared-slice-known6 .given i .fits)
 
--- in the loop a byte is still to come
-to-come : (c : tie.In-loop Inv-loop μ-loop) → c .before .loop .i < length (entry (c .before) .args .piece .now)
-to-come c = omega (arith, c .loop-test)
+cost : (c : tie.Else1 Inv-loop μ-loop) → c .before .split-step .result .rows ≤ 4
+cost c =
+    let h = head (c .before) in
+    omega (arith, c .before .split-step .ensures .rows (c .if1 .left), split-cheap (given h) (setOf (h .loop .ran .frontier)))
 
--- in the loop: the way back to its head from the step, and to the step from where the pairs fit or do not
-abbrev inside : tie.After-split-step Inv-loop μ-loop → tie.In-loop Inv-loop μ-loop
-inside c = c .before .before .before .before
-
-abbrev stepped : tie.Else2 Inv-loop μ-loop → tie.After-split-step Inv-loop μ-loop
-stepped c = c .before .before .before .before .before
-
--- and where they fit, to there from the words written and from the loop's end
-abbrev written : tie.After-slice-known2 Inv-loop μ-loop → tie.Else2 Inv-loop μ-loop
-written c = c .before .before .before .before
-
-abbrev ended : tie.After-struct-known4 Inv-loop μ-loop → tie.Else2 Inv-loop μ-loop
-ended c = written (c .before .before .before)
+accepting-requires : tie.Need-accepting-requires Inv-loop μ-loop
+accepting-requires c κs = search needs
 
 class-count-requires : tie.Need-class-count-requires Inv-loop μ-loop
 class-count-requires c κs = search needs
 
 loop-holds : tie.Need-loop-holds Inv-loop μ-loop
 loop-holds c =
-    let a = c .before .before .before .before .before .before .before .before .args in
-    let T : Table = record { classes = a .classes .now; parts = a .parts .now; rows = a .rows .now; splits = a .splits .now } in
+    let a = c .before .before .before .before .before .before .before .before .before .args in
+    let T = table (a .classes .now) (a .parts .now) (a .rows .now) (a .splits .now) in
     (start (split (a .list .now) (a .bound) T) (setOf (a .first)) (a .offset) (a .piece .now) (a .pairs .now), refl, refl)
-
-sub-left : tie.Need-sub-left Inv-loop μ-loop
-sub-left c = omega (arith, within (c .before .before))
 
 shared-slice-read-split-step : tie.Need-shared-slice-read-split-step Inv-loop μ-loop
 shared-slice-read-split-step c = search needs
@@ -91,135 +110,78 @@ split-step-requires : tie.Need-split-step-requires Inv-loop μ-loop
 split-step-requires c κs = search needs
 
 same-length : tie.Need-same-length Inv-loop μ-loop
-same-length c = kept (inside (c .before) .before)
+same-length c = length-kept (head (c .before) .loop .inv .0)
 
 returns : tie.Need-returns Inv-loop μ-loop
 returns c =
-    let head = c .before .before .before .before .before .before in
-    let a = entry head .args in
-    let l = head .loop in
-    let b = l .inv .1 in
-    let h : stuck (a .bound) (table head) (setOf (l .ran .frontier)) ≡ true = sym (c .before .split-step .ensures .halts) ∙ c .if1 .taken in (
-      rw (sym b) at (l .inv .0),
-      (
-        stop-halted (a .list .now) (a .bound) (table head) (setOf (a .first)) (a .offset) (a .piece .now) (a .pairs .now) (setOf (l .ran .frontier)) (l .pairs) (l .i) (l .ran .words) (l .ran .rows) (l .inv .0) (to-come (inside (c .before))) h ∙ sym b,
-        refused-halted (l .ran .bytes) (length (a .piece .now)) _ (omega arith) h,
-      ),
-    )
+    let h = head (c .before) in
+    let a = entry h .args in
+    let l = h .loop in
+    let halts : stuck (a .bound) (given h) (setOf (l .ran .frontier)) ≡ true = sym (c .before .split-step .ensures .halts) ∙ c .if1 .taken in
+    leaves _ (l .inv .0) (l .inv .1) (stop (l .inv .0) (to-come (c .before)) (inl halts)) (refused-halted (l .i) (length (a .piece .now)) _ (to-come (c .before)) halts)
 
-accepted-requires : tie.Need-accepted-requires Inv-loop μ-loop
-accepted-requires c κs = search needs
+add-at : tie.Need-add-at Inv-loop μ-loop
+add-at c = search needs
 
-count-requires : tie.Need-count-requires Inv-loop μ-loop
-count-requires c κs = search needs
+add-at-2 : tie.Need-add-at-2 Inv-loop μ-loop
+add-at-2 c = search needs
 
-cast-n : tie.Need-cast-n Inv-loop μ-loop
-cast-n c = search needs
+cast-at : tie.Need-cast-at Inv-loop μ-loop
+cast-at c = search needs
+
+meets-requires : tie.Need-meets-requires Inv-loop μ-loop
+meets-requires c κs = search needs
+
+tell-accepted-requires : tie.Need-tell-accepted-requires Inv-loop μ-loop
+tell-accepted-requires c κs = words-fit (head (c .before .before .before .before .before) .loop .inv .0)
 
 same-length-2 : tie.Need-same-length-2 Inv-loop μ-loop
-same-length-2 c = kept (inside (c .before .before .before .before .before) .before)
+same-length-2 c =
+    let free = stepped (c .before) in
+    length-kept (stops (head (free .before) .loop .inv .0) (to-come (free .before)) (told (c .before)) (alerts free) (not-true _ (c .if3 .taken)) .1)
 
 returns-2 : tie.Need-returns-2 Inv-loop μ-loop
 returns-2 c =
-    let count = c .before in
-    let told = count .before in
-    let free = told .before .before in
+    let free = stepped (c .before) in
     let step = free .before in
-    let head = step .before .before .before .before .before in
-    let a = entry head .args in
-    let l = head .loop in
-    let b = l .inv .1 in (
-      rw (sym b) at (l .inv .0),
-      (
-        stop-by (split (a .list .now) (a .bound) (table head)) (setOf (a .first)) (a .offset) (a .piece .now) (a .pairs .now) (setOf (l .ran .frontier)) (l .pairs) (l .i) (l .ran .words) (l .ran .rows) (l .inv .0)
-            (sigsOf (told .accepted .result)) (count .count .result) (to-come (inside step))
-            (told .accepted .ensures ∙ ap (accepted (a .list .now)) (step .split-step .ensures .next (free .if1 .left))) (count .count .ensures) (c .if2 .taken) ∙ sym b,
-        l .inv .2 ∙ refused-free (l .ran .bytes) (length (a .piece .now)) _ (sym (step .split-step .ensures .halts) ∙ free .if1 .left),
-      ),
-    )
-
-add-tell : tie.Need-add-tell Inv-loop μ-loop
-add-tell c = search needs
-
-add-tell-2 : tie.Need-add-tell-2 Inv-loop μ-loop
-add-tell-2 c = search needs
-
-cast-tell : tie.Need-cast-tell Inv-loop μ-loop
-cast-tell c = search needs
-
--- the words of its pairs fit
-roomy : (c : tie.Else2 Inv-loop μ-loop) → inside (stepped c) .before .loop .ran .words + 2 * c .before .count .result ≤ length (entry (inside (stepped c) .before) .args .pairs .now)
-roomy c = omega (arith, c .if2 .left, within (inside (stepped c) .before), kept (inside (stepped c) .before))
-
-tell-requires : tie.Need-tell-requires Inv-loop μ-loop
-tell-requires c κs =
-    let fits = c .before in
-    omega (arith, roomy fits, kept (inside (stepped fits) .before), fits .before .count .ensures)
-
--- the offset stays among the largest, for a byte is still to come
-offset-fits : (c : tie.In-loop Inv-loop μ-loop) → entry (c .before) .args .offset + c .before .loop .i + 1 ≤ mostOffset
-offset-fits c = omega (arith, to-come c, entry (c .before) .pre .0)
-
-mul-words : tie.Need-mul-words Inv-loop μ-loop
-mul-words c = search needs
-
-add-words : tie.Need-add-words Inv-loop μ-loop
-add-words c = omega (arith, roomy (written (c .before)), entry (inside (stepped (written (c .before))) .before))
-
--- rows read for a byte
-cost : (c : tie.Else1 Inv-loop μ-loop) → c .before .split-step .result .rows ≤ 4
-cost c =
-    let head = inside (c .before) .before in
-    omega (arith, c .before .split-step .ensures .rows (c .if1 .left), split-cheap (table head) (setOf (head .loop .ran .frontier)))
-
-add-spent : tie.Need-add-spent Inv-loop μ-loop
-add-spent c = omega (arith, few (inside (stepped (ended c)) .before), cost (ended c .before .before .before .before), offset-fits (inside (stepped (ended c))))
+    let l = head step .loop in
+    let s = stops (l .inv .0) (to-come step) (told (c .before)) (alerts free) (not-true _ (c .if3 .taken)) in
+    leaves _ (s .1) (l .inv .1) (s .0)
+    (l .inv .2 ∙ refused-free (l .i) (length (entry (head step) .args .piece .now)) _ (sym (step .split-step .ensures .halts) ∙ free .if1 .left))
 
 add-bytes : tie.Need-add-bytes Inv-loop μ-loop
-add-bytes c = omega (arith, offset-fits (inside (stepped (ended c))))
+add-bytes c = omega (arith, offset-fits (stepped (c .before) .before))
+
+add-spent : tie.Need-add-spent Inv-loop μ-loop
+add-spent c = let free = stepped (c .before .before .before) in omega (arith, few (head (free .before)), cost free, offset-fits (free .before))
 
 add-i : tie.Need-add-i Inv-loop μ-loop
-add-i c = omega (arith, offset-fits (inside (stepped (ended c))))
+add-i c = omega (arith, offset-fits (stepped (c .before .before .before) .before))
 
 loop-less : tie.Need-loop-less Inv-loop μ-loop
 loop-less c = search needs
 
 loop-again : tie.Need-loop-again Inv-loop μ-loop
 loop-again c =
-    let fits = ended c in
-    let count = fits .before in
-    let told = count .before in
-    let free = told .before .before in
+    let joined = c .before .before .before in
+    let free = stepped joined in
     let step = free .before in
-    let head = inside step .before in
-    let a = entry head .args in
-    let l = head .loop in
     let s = step .split-step .ensures in
     let h = free .if1 .left in (
-      more-by (split (a .list .now) (a .bound) (table head)) (setOf (a .first)) (a .offset) (a .piece .now) (a .pairs .now) (setOf (l .ran .frontier)) (l .pairs) (l .i) (l .ran .words) (l .ran .rows) (l .inv .0)
-          (sigsOf (told .accepted .result)) (count .count .result) (to-come (inside step))
-          (told .accepted .ensures ∙ ap (accepted (a .list .now)) (s .next h)) (count .count .ensures) (sym (s .halts) ∙ h) (omega (arith, fits .if2 .left))
-          (setOf (step .split-step .result .next)) (s .next h) _ (c .before .before .before .before .before .tell .ensures) (step .split-step .result .rows) (s .rows h),
+      goes-on (head step .loop .inv .0) (to-come step) (told joined) (alerts free) (not-false _ (c .before .before .if3 .left)) (sym (s .halts) ∙ h)
+          (setOf (step .split-step .result .next)) (s .next h) (step .split-step .result .rows) (s .rows h),
       refl,
       refl,
     )
 
 same-length-3 : tie.Need-same-length-3 Inv-loop μ-loop
-same-length-3 c = kept (c .before)
+same-length-3 c = length-kept (c .before .loop .inv .0)
 
 returns-3 : tie.Need-returns-3 Inv-loop μ-loop
 returns-3 c =
-    let head = c .before in
-    let a = entry head .args in
-    let l = head .loop in
-    let b = l .inv .1 in
-    let e : l .i ≡ length (a .piece .now) = omega arith in (
-      rw (sym b) at (l .inv .0),
-      (
-        finish (split (a .list .now) (a .bound) (table head)) (setOf (a .first)) (a .offset) (a .piece .now) (a .pairs .now) (setOf (l .ran .frontier)) (l .pairs) (l .i) (l .ran .words) (l .ran .rows) (l .inv .0) e ∙ sym b,
-        l .inv .2 ∙ refused-ended (l .ran .bytes) (length (a .piece .now)) _ (b ∙ e),
-      ),
-    )
+    let l = c .before .loop in
+    let e : l .i ≡ length (entry (c .before) .args .piece .now) = omega arith in
+    leaves _ (l .inv .0) (l .inv .1) (finish (l .inv .0) e) (l .inv .2 ∙ refused-ended (l .i) (length (entry (c .before) .args .piece .now)) _ e)
 
 pub feed-bytes-spec : {M : Type 1} → statement M
 feed-bytes-spec =
@@ -227,26 +189,22 @@ feed-bytes-spec =
     (tie.spec
     Inv-loop
     μ-loop
+    accepting-requires
     class-count-requires
     loop-holds
-    sub-left
     shared-slice-read-split-step
     split-step-requires
     same-length
     returns
-    accepted-requires
-    count-requires
-    cast-n
+    add-at
+    add-at-2
+    cast-at
+    meets-requires
+    tell-accepted-requires
     same-length-2
     returns-2
-    add-tell
-    add-tell-2
-    cast-tell
-    tell-requires
-    mul-words
-    add-words
-    add-spent
     add-bytes
+    add-spent
     add-i
     loop-less
     loop-again

@@ -1,0 +1,92 @@
+-- Two sets that meet: in words, and by the words of the code. Assumes nothing.
+use Prim.Native.Nat.{ℕ, zero, suc, _*_, _/_, _%_, _^_, _≤_, _<_, min}
+use mathlib.Core.Path.{_≡_, refl, sym, ap, _∙_}
+use mathlib.Core.Bool.{Bool, true, false, _&&_, not, true≢false}
+use mathlib.Core.List.{List}
+use mathlib.Core.Logic.{_↔_}
+use native.Mathlib.Nat.{mod-lt, zero-div, zero-mod, lt-of-not-le}
+use native.Mathlib.Decide.{decLt}
+use native.Mathlib.Omega.{arith}
+use lib.ListN.{getD, List·getD-eq-default}
+use lib.Dec.{eqb, lit<}
+use lib.Arith.{digits-mod}
+use lib.Bits.{bitAnd, and-shr, and-mod, and-step}
+use borrow.Author.Tests.{eqb-true, eq-eqb, ne-eqb, not-false}
+use Rattle.sets.specs.Set.{num, bit, holds, meets}
+use Rattle.sets.proofs.Laws.{two-pos}
+use Rattle.sets.proofs.Sets.{Words, holds-empty, holds-num, set-ext}
+use Rattle.sets.proofs.Words.{word-at}
+
+-- bit by bit
+bit-and : (a b s : ℕ) → bit (bitAnd a b) s ≡ min (bit a s) (bit b s)
+bit-and a b s =
+    rw (and-shr a b s, and-step (a / 2 ^ s) (b / 2 ^ s)) (digits-mod (bitAnd (a / 2 ^ s / 2) (b / 2 ^ s / 2)) (least (bit a s) (bit b s) (mod-lt (a / 2 ^ s) two-pos)))
+  where
+    least : (x y : ℕ) → x < 2 → min x y < 2
+    least x y h = omega arith
+
+min-one : (x y : ℕ) → x < 2 → y < 2 → eqb (min x y) 1 ≡ (eqb x 1 && eqb y 1)
+min-one zero zero hx hy = refl
+min-one zero (suc zero) hx hy = refl
+min-one (suc zero) zero hx hy = refl
+min-one (suc zero) (suc zero) hx hy = refl
+min-one (suc (suc x)) y hx hy = absurd (omega arith)
+min-one zero (suc (suc y)) hx hy = absurd (omega arith)
+min-one (suc zero) (suc (suc y)) hx hy = absurd (omega arith)
+
+holds-and : (a b s : ℕ) → holds (bitAnd a b) s ≡ (holds a s && holds b s)
+unfolding holds
+holds-and a b s = rw (bit-and a b s) (min-one (bit a s) (bit b s) (mod-lt (a / 2 ^ s) two-pos) (mod-lt (b / 2 ^ s) two-pos))
+
+-- they do not meet exactly when no number is in both
+pub apart-exactly : (a b : ℕ) → meets a b ≡ false ↔ ((s : ℕ) → holds a s ≡ true → holds b s ≡ true → ⊥)
+unfolding meets
+apart-exactly a b = (there, back)
+  where
+    there : not (eqb (bitAnd a b) 0) ≡ false → (s : ℕ) → holds a s ≡ true → holds b s ≡ true → ⊥
+    there e s p q =
+        let z : bitAnd a b ≡ 0 = eqb-true (bitAnd a b) 0 (not-false (eqb (bitAnd a b) 0) e) in
+        true≢false (sym (rw (p, q) at (holds-and a b s)) ∙ ap (λ (n : ℕ). holds n s) z ∙ holds-empty s)
+
+    neither : (x y : Bool) → (x ≡ true → y ≡ true → ⊥) → (x && y) ≡ false
+    neither true true h = absurd (h refl refl)
+    neither true false h = refl
+    neither false y h = refl
+
+    back : ((s : ℕ) → holds a s ≡ true → holds b s ≡ true → ⊥) → not (eqb (bitAnd a b) 0) ≡ false
+    back h = ap not (eq-eqb (bitAnd a b) 0 (set-ext (bitAnd a b) 0 (λ s. holds-and a b s ∙ neither (holds a s) (holds b s) (h s) ∙ sym (holds-empty s))))
+
+-- ---- the words of two sets
+
+module _ (m : ℕ) (a b : List ℕ) (va : Words m a) (vb : Words m b) where
+  -- a word that they share
+  pub meets-at : (i : ℕ) → i < m → (bitAnd (getD a i 0) (getD b i 0) ≡ 0 → ⊥) → meets (num 64 a) (num 64 b) ≡ true
+  unfolding meets
+  meets-at i l ne = ap not (ne-eqb (bitAnd (num 64 a) (num 64 b)) 0 (λ e. ne (sym both ∙ rw (e, zero-div (2 ^ (64 * i))) (zero-mod (2 ^ 64)))))
+    where
+      both : bitAnd (num 64 a) (num 64 b) / 2 ^ (64 * i) % 2 ^ 64 ≡ bitAnd (getD a i 0) (getD b i 0)
+      both =
+          rw (
+            and-shr (num 64 a) (num 64 b) (64 * i),
+            and-mod (num 64 a / 2 ^ (64 * i)) (num 64 b / 2 ^ (64 * i)) 64,
+            word-at a i (va .small) (omega (arith, va .long)),
+            word-at b i (vb .small) (omega (arith, vb .long)),
+          )
+
+  -- no word that they share
+  pub meets-none : ((i : ℕ) → i < m → bitAnd (getD a i 0) (getD b i 0) ≡ 0) → meets (num 64 a) (num 64 b) ≡ false
+  unfolding holds
+  meets-none h = apart-exactly (num 64 a) (num 64 b) .1 (λ s p q. elim (decLt (s / 64) m) [ yes l ↦ inside s p q (h (s / 64) l) | no n ↦ past s p n ])
+    where
+      in-word : (ws : List ℕ) → Words m ws → (s : ℕ) → holds (num 64 ws) s ≡ true → holds (getD ws (s / 64) 0) (s % 64) ≡ true
+      in-word ws v s p = sym (holds-num 64 ws (v .small) (lit< tt) s) ∙ p
+
+      inside : (s : ℕ) → holds (num 64 a) s ≡ true → holds (num 64 b) s ≡ true → bitAnd (getD a (s / 64) 0) (getD b (s / 64) 0) ≡ 0 → ⊥
+      inside s p q z =
+          true≢false
+          (sym (rw (in-word a va s p, in-word b vb s q) at (holds-and (getD a (s / 64) 0) (getD b (s / 64) 0) (s % 64)))
+          ∙ ap (λ (n : ℕ). holds n (s % 64)) z ∙ holds-empty (s % 64))
+
+      past : (s : ℕ) → holds (num 64 a) s ≡ true → (s / 64 < m → ⊥) → ⊥
+      past s p n =
+          true≢false (sym (in-word a va s p) ∙ ap (λ (x : ℕ). holds x (s % 64)) (List·getD-eq-default a 0 (omega (arith, va .long, lt-of-not-le (λ (l : suc (s / 64) ≤ m). n l)))) ∙ holds-empty (s % 64))
