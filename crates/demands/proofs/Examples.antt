@@ -12,8 +12,8 @@ use Rattle.lists.specs.List.{goodRecord, badLength, badRecord, noStart}
 use Rattle.lists.specs.Automaton.{start, step, accepted}
 use Rattle.feeds.specs.Engine.{run, costs, due, pairsAt, told, consumed, ended, feed}
 use Rattle.flows.specs.Flow.{flowBytes, badFlow}
-use Rattle.tables.specs.Table.{largest, part, row, splitSet, slots, usedSlots, takenSlots, allBelow, rising, joined, badClasses, badCount, badRowsLength, badLengths, goodSlots, inOrder, badSplits, badRows, badUnion, noStartSplit, notClosed, tableRefusal}
-use Rattle.splits.specs.Split.{splitOf, taken, stuck, splitStep}
+use Rattle.tables.specs.Table.{largest, part, row, splitSet, slots, usedSlots, takenSlots, allBelow, rising, joined, badClasses, badCount, badRowsLength, badLengths, goodSlots, inOrder, badSplits, badRows, badUnion, noStartSplit, notClosed, tableRefusal, splitOf}
+use Rattle.splits.specs.Split.{taken, stuck, splitStep}
 use Rattle.demands.specs.Examples.{Row, Agree, feedRows, acceptedRow, boundRow, closedRow, startRow, examples}
 
 -- rows are compared by computing; what computes as the same is the same

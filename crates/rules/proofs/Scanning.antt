@@ -7,7 +7,7 @@ use native.Mathlib.Omega.{arith}
 use native.Mathlib.Decide.{decLt}
 use lib.Dec.{ltb, eqb}
 use lib.Pow.{pow-pos}
-use borrow.Author.Tests.{eqb-true, eqb-false, eq-eqb, ne-eqb, ltb-true, lt-ltb, not-true}
+use borrow.Author.Tests.{eqb-true, eqb-false, eq-eqb, ne-eqb, ltb-true, lt-ltb, le-ltb, not-true}
 use Rattle.sets.specs.Set.{holds, insert, join}
 use Rattle.sets.proofs.Sets.{or-false, holds-empty, holds-insert, holds-join, insert-lt, set-ext}
 use Rattle.rules.specs.Scan.{some, every, first, gather}
@@ -187,6 +187,14 @@ first-found (suc n) p e = go (some n p) refl (p n) refl (first-found n p)
     go true q b r ih = let w = ih q in (omega (arith, w .0), w .1, w .2)
     go false q true r ih = (omega arith, r, q)
     go false q false r ih = absurd (false≢true (sym (rw (q, r)) ∙ e))
+
+-- p holds of some exactly when the first is below n
+pub some-first : (n : ℕ) (p : ℕ → Bool) → some n p ≡ ltb (first n p) n
+some-first n p = go (some n p) refl
+  where
+    go : (b : Bool) → some n p ≡ b → some n p ≡ ltb (first n p) n
+    go true e = e ∙ sym (lt-ltb (first n p) n (first-found n p e .0))
+    go false e = e ∙ sym (le-ltb (first n p) n (omega (arith, first-none n p e)))
 
 -- ---- gather
 

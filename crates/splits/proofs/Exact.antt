@@ -6,10 +6,10 @@ use mathlib.Core.List.{List}
 use lib.ListN.{length}
 use borrow.Author.Tests.{lt-leb, le-ltb}
 use Rattle.lists.specs.Automaton.{step}
-use Rattle.tables.specs.Table.{Table, byteValues, partCount, splitCount, part, row, splitSet, slots, usedSlots, allBelow, joined, isSplit}
+use Rattle.tables.specs.Table.{Table, byteValues, partCount, splitCount, part, row, splitSet, slots, usedSlots, allBelow, joined, isSplit, splitOf}
 use Rattle.tables.proofs.Joined.{step-joined, joined-same}
 use Rattle.tables.proofs.Accepted.{Accepted, Slots-good, slots-said}
-use Rattle.splits.specs.Split.{splitOf, taken, stuck, splitStep}
+use Rattle.splits.specs.Split.{taken, stuck, splitStep}
 use Rattle.splits.proofs.Stepping.{found-split, taken-at}
 
 module _ (L : List ℕ) (b : ℕ) (T : Table) (a : Accepted L b T) (F : ℕ) (s : isSplit (T .splits) F ≡ true) where

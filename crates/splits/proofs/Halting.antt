@@ -1,29 +1,26 @@
 -- Rule 14 in a reader's words: when a frontier is stuck. Assumes nothing.
 use Prim.Native.Nat.{ℕ, _≤_, _<_}
-use mathlib.Core.Path.{_≡_, refl}
-use mathlib.Core.Bool.{Bool, true, false, _||_, not}
+use mathlib.Core.Path.{_≡_, refl, sym, _∙_}
+use mathlib.Core.Bool.{true, false, _||_, not}
 use mathlib.Core.List.{List}
 use mathlib.Core.Logic.{_⊎_, _↔_}
-use native.Mathlib.Omega.{arith}
 use lib.ListN.{length, getD}
-use lib.Dec.{leb, ltb, eqb}
-use borrow.Author.Tests.{leb-true, le-leb}
-use Rattle.rules.specs.Scan.{first}
-use Rattle.rules.proofs.Scanning.{either-words, over-words, first-found, first-none}
-use Rattle.tables.specs.Table.{Table, partCount, splitCount, splitSet, allBelow, isSplit}
+use lib.Dec.{leb, ltb}
+use borrow.Author.Tests.{ltb-false, leb-true, le-leb}
+use Rattle.rules.proofs.Scanning.{either-words, over-words}
+use Rattle.tables.specs.Table.{Table, partCount, splitCount, splitSet, allBelow, isSplit, splitOf}
 use Rattle.tables.proofs.Joined.{below-fails}
+use Rattle.tables.proofs.Found.{is-split, found-no}
 use Rattle.tables.proofs.Checked.{no-split}
-use Rattle.splits.specs.Split.{splitOf, taken, stuck}
+use Rattle.splits.specs.Split.{taken, stuck}
 
 module _ (S : List ℕ) (F : ℕ) where
   -- the search ends past the last split exactly when F is no split
   past : leb (splitCount S) (splitOf S F) ≡ true ↔ (isSplit S F ≡ false)
-  unfolding splitOf
-  past = (λ e. there (isSplit S F) refl e, λ n. le-leb (splitCount S) _ (omega (arith, first-none (splitCount S) (λ i. eqb (splitSet S i) F) n)))
-    where
-      there : (b : Bool) → isSplit S F ≡ b → leb (splitCount S) (first (splitCount S) (λ i. eqb (splitSet S i) F)) ≡ true → isSplit S F ≡ false
-      there false e l = e
-      there true e l = absurd (omega (arith, leb-true (splitCount S) _ l, first-found (splitCount S) (λ i. eqb (splitSet S i) F) e .0))
+  past = (
+    λ e. found-no S F (splitCount S) (splitOf S F) refl refl (leb-true (splitCount S) (splitOf S F) e),
+    λ n. le-leb (splitCount S) (splitOf S F) (ltb-false (splitOf S F) (splitCount S) (sym (is-split S F) ∙ n)),
+  )
 
 -- no split has the set F, or a slot taken names no part, or more than b are taken
 pub stuck-exactly : (b : ℕ) (T : Table) (F : ℕ) → stuck b T F ≡ true

@@ -10,8 +10,8 @@ use borrow.Author.Tests.{eqb-true, le-leb, lt-leb}
 use Rattle.sets.specs.Set.{setOf}
 use Rattle.rules.specs.Scan.{some, first}
 use Rattle.rules.proofs.Scanning.{neither, first-at, first-none, first-found}
-use Rattle.tables.specs.Table.{Table, partCount, splitCount, row, splitSet, slots, takenSlots, allBelow, joined, isSplit}
-use Rattle.splits.specs.Split.{splitOf, taken, stuck, splitStep}
+use Rattle.tables.specs.Table.{Table, partCount, splitCount, row, splitSet, slots, takenSlots, allBelow, joined, isSplit, splitOf}
+use Rattle.splits.specs.Split.{taken, stuck, splitStep}
 use Rattle.splits.specs.declared.Taken.{Taken}
 use Rattle.splits.specs.Taken.{TakesSlots, TakesStep}
 use Rattle.splits.proofs.Taking.{taken-most}

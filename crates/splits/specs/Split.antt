@@ -1,21 +1,16 @@
--- The split feed: the split that a frontier takes, rule 14, the split step, and what a call answers and leaves.
+-- The split feed: the slots that a frontier takes, rule 14, the split step, and what a call answers and leaves.
 use Prim.Native.Nat.{ℕ}
 use mathlib.Core.Bool.{Bool, _||_, not}
 use mathlib.Core.List.{List, _++_}
 use lib.ListN.{length}
-use lib.Dec.{leb, ltb, eqb}
-use Rattle.rules.specs.Scan.{first}
+use lib.Dec.{leb, ltb}
 use Rattle.rules.specs.Rules.{Rule}
 use Rattle.lists.specs.Automaton.{accepted}
 use Rattle.feeds.specs.Engine.{Engine, Outcome, feed}
 use Rattle.flows.specs.Flow.{flowLayout, feedRules}
-use Rattle.tables.specs.Table.{Table, partCount, splitCount, row, splitSet, slots, takenSlots, allBelow, joined, sizeRules}
+use Rattle.tables.specs.Table.{Table, partCount, splitCount, row, slots, takenSlots, allBelow, joined, splitOf, sizeRules}
 
--- the first split whose set equals F; the number of splits where there is none
-unfoldable pub splitOf : List ℕ → ℕ → ℕ
-splitOf S F = first (splitCount S) (λ i. eqb (splitSet S i) F)
-
--- its slots up to the first unused one
+-- the slots of the split that F takes, up to the first unused one
 unfoldable pub taken : Table → ℕ → List ℕ
 taken T F = takenSlots (slots (T .splits) (splitOf (T .splits) F))
 

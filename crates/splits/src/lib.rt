@@ -11,8 +11,8 @@ ghost use Rattle.rules.specs.Rules.{verdict};
 ghost use Rattle.feeds.specs.Engine.{mostOffset};
 ghost use Rattle.feeds.specs.Fed.{Answers};
 ghost use Rattle.flows.proofs.Ending.{Leaves};
-ghost use Rattle.tables.specs.Table.{table, classCount, partCount, splitCount, rowAt, slots, takenSlots};
-ghost use Rattle.splits.specs.Split.{splitOf, split, splitRules, splitFeed};
+ghost use Rattle.tables.specs.Table.{table, classCount, partCount, splitCount, rowAt, slots, takenSlots, splitOf};
+ghost use Rattle.splits.specs.Split.{split, splitRules, splitFeed};
 ghost use Rattle.splits.specs.Taken.{TakesSlots, TakesStep};
 
 // The refusal of a byte that the table does not move.

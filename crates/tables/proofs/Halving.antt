@@ -1,19 +1,19 @@
 -- A search by halving among strings that rise: what its loop keeps, and what it finds. Assumes nothing.
 use Prim.Native.Nat.{ℕ, zero, suc, _+_, _*_, _≤_, _<_}
 use mathlib.Core.Path.{_≡_, refl, sym, ap, _∙_}
-use mathlib.Core.Bool.{Bool, true, false, _&&_, true≢false}
+use mathlib.Core.Bool.{Bool, true, false, true≢false}
 use mathlib.Core.List.{List}
 use native.Mathlib.Omega.{arith}
 use native.Mathlib.Nat.{lt-of-not-le}
 use native.Mathlib.Decide.{decLt}
-use lib.Dec.{ltb, eqb}
-use borrow.Author.Tests.{ne-eqb, lt-ltb, le-ltb}
+use lib.Dec.{eqb}
+use borrow.Author.Tests.{ne-eqb}
 use Rattle.sets.specs.Set.{setBytes, bytesAt, before}
 use Rattle.sets.proofs.Laws.{Small}
 use Rattle.sets.proofs.Order.{before-irrefl, before-trans}
-use Rattle.rules.specs.Scan.{every}
-use Rattle.rules.proofs.Scanning.{below-suc, choose, some-intro, some-none, every-at}
-use Rattle.tables.specs.Table.{splitSize, splitCount, splitSet, isSplit, inOrder}
+use Rattle.rules.specs.Scan.{some, every, first}
+use Rattle.rules.proofs.Scanning.{below-suc, choose, some-none, every-at, first-at, first-none}
+use Rattle.tables.specs.Table.{splitSize, splitCount, splitSet, splitOf, inOrder}
 use Rattle.tables.proofs.Entries.{split-bytes}
 
 -- the sets of splits that are in order rise, also those that do not stand side by side
@@ -74,27 +74,37 @@ module _ (S : List ℕ) (s : Small 8 S) (o : every (splitCount S) (inOrder S) �
 
   -- none below lo is F, and none above it
   module _ (lo hi : ℕ) (b : Between S F lo hi) (e : hi ≤ lo) where
-    other : (i : ℕ) → i < splitCount S → (i ≡ lo → ⊥) → eqb (splitSet S i) F ≡ false
-    other i h n = ne-eqb (splitSet S i) F (λ q. elim (decLt i lo) [ yes l ↦ before-it q l | no g ↦ after-it q (omega (arith, n, lt-of-not-le (λ (l : suc i ≤ lo). g l))) ])
+    lower : (i : ℕ) → i < lo → eqb (splitSet S i) F ≡ false
+    lower i l =
+        ne-eqb (splitSet S i) F (λ q. true≢false (sym (b .below i l) ∙ ap (λ (x : ℕ). before (setBytes x) (setBytes F)) q ∙ before-irrefl (setBytes F)))
+
+    higher : (i : ℕ) → i < splitCount S → lo < i → eqb (splitSet S i) F ≡ false
+    higher i h l =
+        ne-eqb (splitSet S i) F
+        (λ q. true≢false (sym (splits-rise S s o lo i l h) ∙ ap (λ (x : ℕ). before (setBytes (splitSet S lo)) (setBytes x)) q ∙ b .above lo e (omega arith)))
+
+    none-lower : some lo (λ i. eqb (splitSet S i) F) ≡ false
+    none-lower = some-none lo (λ i. eqb (splitSet S i) F) lower
+
+    -- so the test at lo decides; where lo is the number of splits, either way
+    pub between-found : eqb (splitSet S lo) F ≡ true → lo ≡ splitOf S F
+    unfolding splitOf
+    between-found q =
+        elim (decLt lo (splitCount S)) [
+          | yes l ↦ sym (first-at (splitCount S) (λ i. eqb (splitSet S i) F) lo l none-lower q)
+          | no g ↦ outside (omega (arith, b .order, b .most, lt-of-not-le (λ (l : suc lo ≤ splitCount S). g l)))
+        ]
       where
-        before-it : splitSet S i ≡ F → i < lo → ⊥
-        before-it q l = true≢false (sym (b .below i l) ∙ ap (λ (x : ℕ). before (setBytes x) (setBytes F)) q ∙ before-irrefl (setBytes F))
+        outside : lo ≡ splitCount S → lo ≡ first (splitCount S) (λ i. eqb (splitSet S i) F)
+        outside k = k ∙ sym (first-none (splitCount S) (λ i. eqb (splitSet S i) F) (rw k at none-lower))
 
-        after-it : splitSet S i ≡ F → lo < i → ⊥
-        after-it q l = true≢false (sym (splits-rise S s o lo i l h) ∙ ap (λ (x : ℕ). before (setBytes (splitSet S lo)) (setBytes x)) q ∙ b .above lo e (omega arith))
-
-    -- so the test at lo decides
-    pub between-found : (ltb lo (splitCount S) && eqb (splitSet S lo) F) ≡ isSplit S F
-    between-found = elim (decLt lo (splitCount S)) [ yes l ↦ inside l (eqb (splitSet S lo) F) refl | no g ↦ outside (lt-of-not-le (λ (l : suc lo ≤ splitCount S). g l)) ]
+    pub between-none : eqb (splitSet S lo) F ≡ false → splitCount S ≡ splitOf S F
+    unfolding splitOf
+    between-none q = sym (first-none (splitCount S) (λ i. eqb (splitSet S i) F) (some-none (splitCount S) (λ i. eqb (splitSet S i) F) any))
       where
-        inside : lo < splitCount S → (v : Bool) → eqb (splitSet S lo) F ≡ v → (ltb lo (splitCount S) && eqb (splitSet S lo) F) ≡ isSplit S F
-        inside l true q = rw (lt-ltb lo (splitCount S) l, q) (sym (some-intro (splitCount S) (λ i. eqb (splitSet S i) F) lo l q))
-        inside l false q =
-            rw (lt-ltb lo (splitCount S) l, q)
-            (sym (some-none (splitCount S) (λ i. eqb (splitSet S i) F)
-            (λ i h. elim (native.Mathlib.Decide.ℕ-discrete i lo) [ yes k ↦ rw k q | no n ↦ other i h n ])))
-
-        outside : splitCount S < suc lo → (ltb lo (splitCount S) && eqb (splitSet S lo) F) ≡ isSplit S F
-        outside l =
-            rw (le-ltb lo (splitCount S) (omega arith))
-            (sym (some-none (splitCount S) (λ i. eqb (splitSet S i) F) (λ i h. other i h (λ k. omega arith))))
+        any : (i : ℕ) → i < splitCount S → eqb (splitSet S i) F ≡ false
+        any i h =
+            elim (decLt i lo) [
+              | yes l ↦ lower i l
+              | no g ↦ choose (below-suc lo i (omega (arith, lt-of-not-le (λ (l : suc i ≤ lo). g l)))) (higher i h) (λ k. rw (← k) q)
+            ]

@@ -3,6 +3,7 @@ pub mod Accepted
 pub mod Entries
 pub mod Slots
 pub mod Turns
+pub mod Found
 pub mod Halving
 pub mod Ordered
 pub mod Checked

@@ -5,7 +5,7 @@ use mathlib.Core.List.{List, [], _∷_, _++_}
 use lib.ListN.{length, getD}
 use lib.Dec.{leb, ltb, eqb}
 use Rattle.sets.specs.Set.{setSize, bytesAt, setAt, before, join}
-use Rattle.rules.specs.Scan.{some, every}
+use Rattle.rules.specs.Scan.{some, every, first}
 use Rattle.rules.specs.Rules.{Rule, verdict}
 use Rattle.lists.specs.List.{word, listRules}
 use Rattle.lists.specs.Automaton.{start, step}
@@ -109,6 +109,10 @@ joined f (x ∷ xs) = join (f x) (joined f xs)
 -- F is the set of some split
 abbrev pub isSplit : List ℕ → ℕ → Bool
 isSplit S F = some (splitCount S) (λ i. eqb (splitSet S i) F)
+
+-- the first split whose set equals F; the number of splits where there is none
+unfoldable pub splitOf : List ℕ → ℕ → ℕ
+splitOf S F = first (splitCount S) (λ i. eqb (splitSet S i) F)
 
 -- ---- what each rule refuses
 

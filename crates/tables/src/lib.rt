@@ -10,7 +10,7 @@ ghost use Rattle.rules.specs.Scan.{every};
 ghost use Rattle.rules.specs.Rules.{verdict};
 ghost use Rattle.lists.specs.List.{listRefusal};
 ghost use Rattle.lists.specs.Automaton.{step};
-ghost use Rattle.tables.specs.Table.{table, byteValues, mostParts, largest, classCount, partCount, splitCount, part, rowAt, row, splitSet, slots, unusedSlot, usedSlots, allBelow, joined, isSplit, badClasses, badCount, badRowsLength, badLengths, goodSlots, inOrder, sizeRules, tableRefusal};
+ghost use Rattle.tables.specs.Table.{table, byteValues, mostParts, largest, classCount, partCount, splitCount, part, rowAt, row, splitSet, slots, unusedSlot, usedSlots, allBelow, joined, isSplit, splitOf, badClasses, badCount, badRowsLength, badLengths, goodSlots, inOrder, sizeRules, tableRefusal};
 
 // Bytes that a piece may have; each has a class.
 pub const BYTE_VALUES: usize = 256;
@@ -298,10 +298,10 @@ fn unions_good(parts: &[u8], splits: &[u8]) -> bool
     true
 }
 
-// Says whether f is the set of a split, by halving, once rule 9 has found the splits in order.
-fn is_split_sorted(splits: &[u8], f: StateSet) -> bool
+// The split whose set is f, by halving, where the splits are in order; the number of splits where there is none.
+pub fn find_sorted(splits: &[u8], f: StateSet) -> usize
     requires { ⌜ every (splitCount (now splits)) (inOrder (now splits)) ≡ true ⌝ }
-    ensures { λ r. ⌜ r ≡ isSplit (now (splits .entry)) (setOf f) ⌝ }
+    ensures { λ r. ⌜ r ≡ splitOf (now (splits .entry)) (setOf f) ⌝ }
 {
     let n = split_count(splits);
     let mut lo = 0;
@@ -314,7 +314,10 @@ fn is_split_sorted(splits: &[u8], f: StateSet) -> bool
             hi = mid;
         }
     }
-    (lo < n) & split_set(splits, lo).same(f)
+    if split_set(splits, lo).same(f) {
+        return lo;
+    }
+    n
 }
 
 // The union of the rows that byte c selects for the parts of split i.
@@ -334,8 +337,9 @@ fn leads_at(classes: &[u8], rows: &[u8], splits: &[u8], k: usize, i: usize) -> b
     requires { ⌜ (k ≡ classCount (now classes)) × (allBelow mostParts (usedSlots (slots (now splits) i)) ≡ true) × (every (splitCount (now splits)) (inOrder (now splits)) ≡ true) × (i < splitCount (now splits)) ⌝ }
     ensures { λ r. ⌜ r ≡ every byteValues (λ c. isSplit (now (splits .entry)) (joined (λ p. row (now (classes .entry)) (now (rows .entry)) p c) (usedSlots (slots (now (splits .entry)) i)))) ⌝ }
 {
+    let n = split_count(splits);
     for d in 0..BYTE_VALUES {
-        if !is_split_sorted(splits, rows_of(classes, rows, splits, k, i, d as u8)) {
+        if n <= find_sorted(splits, rows_of(classes, rows, splits, k, i, d as u8)) {
             return false;
         }
     }
@@ -378,7 +382,7 @@ fn entries_refusal(
     if !unions_good(parts, splits) {
         return 11;
     }
-    if !is_split_sorted(splits, lists::start_set(list)) {
+    if split_count(splits) <= find_sorted(splits, lists::start_set(list)) {
         return 12;
     }
     if !leads(classes, rows, splits, k) {

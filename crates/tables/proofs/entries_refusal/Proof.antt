@@ -4,10 +4,12 @@ use borrow.Author.Tests.{not-true, not-false}
 use mathlib.Core.Path.{_≡_, sym, ap, _∙_}
 use mathlib.Core.Bool.{true, _&&_}
 use Prim.Native.Nat.{ℕ}
+use native.Mathlib.Omega.{arith}
 use Rattle.sets.specs.Set.{before}
 use Rattle.rules.specs.Scan.{every}
 use Rattle.lists.specs.Automaton.{start}
-use Rattle.tables.specs.Table.{Table, splitCount, slots, isSplit, goodSlots, inOrder}
+use Rattle.tables.specs.Table.{Table, splitCount, slots, isSplit, splitOf, goodSlots, inOrder}
+use Rattle.tables.proofs.Found.{found-some, found-no}
 use Rattle.tables.proofs.Ordered.{refused-9, refused-10, refused-11, refused-12, refused-13, passed, few-parts, splits-ordered, splits-below, rows-closed, goodSplits, goodRows, goodUnions, closed}
 use Rattle.tables.proofs.entries_refusal.Statement.{statement}
 use Rattle.tables.proofs.entries_refusal.Tie as tie
@@ -35,11 +37,11 @@ behind-10 c = c .before .before
 abbrev entry-11 : tie.Else3 → tie.Start
 entry-11 c = entry-10 (behind-10 c)
 
-abbrev behind-11 : tie.Else4 → tie.Else3
+abbrev behind-11 : tie.After-find-sorted → tie.Else3
 behind-11 c = c .before .before .before
 
 abbrev entry-12 : tie.Else4 → tie.Start
-entry-12 c = entry-11 (behind-11 c)
+entry-12 c = entry-11 (behind-11 (c .before))
 
 -- what each test says, and what it has passed
 said-9 : (c : tie.After-splits-good) → c .splits-good .result ≡ goodSplits (entry c .args .bound) (table (entry c))
@@ -57,17 +59,20 @@ passed-10 c = sym (c .before .rows-good .ensures) ∙ not-false _ (c .if2 .left)
 passed-11 : (c : tie.Else3) → goodUnions (table (entry-11 c)) ≡ true
 passed-11 c = sym (c .before .unions-good .ensures) ∙ not-false _ (c .if3 .left)
 
-said-12 : (c : tie.After-is-split-sorted)
-    → c .is-split-sorted .result ≡ isSplit (entry-11 (c .before .before) .args .splits .now) (start (entry-11 (c .before .before) .args .list .now))
-said-12 c = c .is-split-sorted .ensures ∙ ap (isSplit (entry-11 (c .before .before) .args .splits .now)) (c .before .start-set .ensures)
+found : (c : tie.After-find-sorted)
+    → c .find-sorted .result ≡ splitOf (entry-11 (behind-11 c) .args .splits .now) (start (entry-11 (behind-11 c) .args .list .now))
+found c = c .find-sorted .ensures ∙ ap (splitOf (entry-11 (behind-11 c) .args .splits .now)) (c .before .start-set .ensures)
 
 passed-12 : (c : tie.Else4) → isSplit (entry-12 c .args .splits .now) (start (entry-12 c .args .list .now)) ≡ true
-passed-12 c = sym (said-12 (c .before)) ∙ not-false _ (c .if4 .left)
+passed-12 c =
+    let f = c .before in
+    let a = entry-12 c .args in
+    found-some (a .splits .now) (start (a .list .now)) (f .before .before .split-count .result) (f .find-sorted .result) (f .before .before .split-count .ensures) (found f) (omega arith)
 
 said-13 : (c : tie.After-leads) → c .leads .result ≡ closed (entry-12 (c .before) .args .list .now) (table (entry-12 (c .before)))
 said-13 c =
     let s = entry-12 (c .before) in
-    let e = behind-11 (c .before) in
+    let e = behind-11 (c .before .before) in
     c .leads .ensures ∙ rows-closed (s .args .bound) (table s) (passed-9 (behind-9 (behind-10 e))) (s .args .list .now) (passed-10 (behind-10 e)) (passed-11 e)
 
 class-count-requires : tie.Need-class-count-requires
@@ -104,37 +109,43 @@ returns-3 c =
     let s = entry-10 e in
     refused-11 (s .args .list .now) (s .args .bound) (table s) (s .pre .0) (s .pre .1) (passed-9 (behind-9 e)) (passed-10 e) (sym (c .before .unions-good .ensures) ∙ not-true _ (c .if3 .taken))
 
+split-count-requires : tie.Need-split-count-requires
+split-count-requires c κs = search needs
+
 start-set-requires : tie.Need-start-set-requires
 start-set-requires c κs = search needs
 
-is-split-sorted-requires : tie.Need-is-split-sorted-requires
-is-split-sorted-requires c κs =
-    let s = entry-11 (c .before) in
-    splits-ordered (s .args .bound) (table s) (passed-9 (behind-9 (behind-10 (c .before))))
+find-sorted-requires : tie.Need-find-sorted-requires
+find-sorted-requires c κs =
+    let e = c .before .before in
+    let s = entry-11 e in
+    splits-ordered (s .args .bound) (table s) (passed-9 (behind-9 (behind-10 e)))
 
 returns-4 : tie.Need-returns-4
 returns-4 c =
-    let e = c .before .before .before in
+    let f = c .before in
+    let e = behind-11 f in
     let s = entry-11 e in
-    refused-12 (s .args .list .now) (s .args .bound) (table s) (s .pre .0) (s .pre .1) (passed-9 (behind-9 (behind-10 e))) (passed-10 (behind-10 e)) (passed-11 e) (sym (said-12 (c .before)) ∙ not-true _ (c .if4 .taken))
+    refused-12 (s .args .list .now) (s .args .bound) (table s) (s .pre .0) (s .pre .1) (passed-9 (behind-9 (behind-10 e))) (passed-10 (behind-10 e)) (passed-11 e)
+    (found-no (s .args .splits .now) (start (s .args .list .now)) (f .before .before .split-count .result) (f .find-sorted .result) (f .before .before .split-count .ensures) (found f) (c .if4 .taken))
 
 leads-requires : tie.Need-leads-requires
 leads-requires c κs =
     let s = entry-12 c in
-    let first = behind-9 (behind-10 (behind-11 c)) in
+    let first = behind-9 (behind-10 (behind-11 (c .before))) in
     (first .before .before .before .class-count .ensures, splits-below (s .args .bound) (table s) (passed-9 first) (few-parts (s .args .bound) (table s) (s .pre .1)), splits-ordered (s .args .bound) (table s) (passed-9 first))
 
 returns-5 : tie.Need-returns-5
 returns-5 c =
     let e = c .before .before in
-    let f = behind-11 e in
+    let f = behind-11 (e .before) in
     let s = entry-12 e in
     refused-13 (s .args .list .now) (s .args .bound) (table s) (s .pre .0) (s .pre .1) (passed-9 (behind-9 (behind-10 f))) (passed-10 (behind-10 f)) (passed-11 f) (passed-12 e) (sym (said-13 (c .before)) ∙ not-true _ (c .if5 .taken))
 
 returns-6 : tie.Need-returns-6
 returns-6 c =
     let e = c .before .before in
-    let f = behind-11 e in
+    let f = behind-11 (e .before) in
     let s = entry-12 e in
     passed (s .args .list .now) (s .args .bound) (table s) (s .pre .0) (s .pre .1) (passed-9 (behind-9 (behind-10 f))) (passed-10 (behind-10 f)) (passed-11 f) (passed-12 e) (sym (said-13 (c .before)) ∙ not-false _ (c .if5 .left))
 
@@ -150,8 +161,9 @@ entries-refusal-spec =
     returns-2
     unions-good-requires
     returns-3
+    split-count-requires
     start-set-requires
-    is-split-sorted-requires
+    find-sorted-requires
     returns-4
     leads-requires
     returns-5

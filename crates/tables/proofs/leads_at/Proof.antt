@@ -1,26 +1,42 @@
 -- `leads_at` goes through the bytes; those passed lead to a split. Assumes nothing.
 use borrow.Author.Needs.{needs}
-use borrow.Author.Tests.{not-true, not-false}
-use mathlib.Core.Path.{_≡_, sym, ap, _∙_}
+use mathlib.Core.Path.{_≡_, ap, _∙_}
 use mathlib.Core.Bool.{true}
-use Prim.Native.Nat.{_-_, _≤_}
+use mathlib.Core.List.{List}
+use Prim.Native.Nat.{ℕ, _-_, _≤_}
 use native.Mathlib.Omega.{arith}
 use Rattle.sets.specs.Set.{before}
 use Rattle.rules.specs.Scan.{every}
-use Rattle.tables.specs.Table.{byteValues, row, slots, usedSlots, joined, isSplit}
+use Rattle.tables.specs.Table.{byteValues, row, slots, usedSlots, joined, isSplit, splitOf}
+use Rattle.tables.proofs.Found.{found-some, found-no}
 use Rattle.tables.proofs.Turns.{every-none, every-more, every-stops, every-ends}
 use Rattle.tables.proofs.leads_at.Statement.{statement}
 use Rattle.tables.proofs.leads_at.Tie as tie
 
+-- the set that byte d leads to from split i, through the rows
+abbrev led : List ℕ → List ℕ → List ℕ → ℕ → ℕ → ℕ
+led classes rows splits i d = joined (λ p. row classes rows p d) (usedSlots (slots splits i))
+
 abbrev Inv-loop : tie.InvT-loop
-Inv-loop classes rows splits k i d₀ d = (d ≤ byteValues) × (every d (λ e. isSplit splits (joined (λ p. row classes rows p e) (usedSlots (slots splits i)))) ≡ true)
+Inv-loop classes rows splits k i n d₀ d = (d ≤ byteValues) × (every d (λ e. isSplit splits (led classes rows splits i e)) ≡ true)
 
 abbrev μ-loop : tie.MeasureT-loop
-μ-loop classes rows splits k i d₀ d = byteValues - d
+μ-loop classes rows splits k i n d₀ d = byteValues - d
 
--- what the test says
-said : (c : tie.After-is-split-sorted Inv-loop μ-loop) → c .is-split-sorted .result ≡ isSplit (c .before .before .before .before .before .before .before .args .splits .now) (joined (λ p. row (c .before .before .before .before .before .before .before .args .classes .now) (c .before .before .before .before .before .before .before .args .rows .now) p (c .before .before .before .loop .d)) (usedSlots (slots (c .before .before .before .before .before .before .before .args .splits .now) (c .before .before .before .before .before .before .before .args .i))))
-said c = c .is-split-sorted .ensures ∙ ap (isSplit (c .before .before .before .before .before .before .before .args .splits .now)) (c .before .rows-of .ensures)
+-- the way back from the loop's head to the entry, and the set that its byte leads to
+abbrev entry : tie.At-loop Inv-loop μ-loop → tie.Start Inv-loop μ-loop
+entry c = c .before .before .before .before .before
+
+abbrev next : tie.At-loop Inv-loop μ-loop → ℕ
+next c = led (entry c .args .classes .now) (entry c .args .rows .now) (entry c .args .splits .now) (entry c .args .i) (c .loop .d)
+
+-- the place that is found
+found : (c : tie.After-find-sorted Inv-loop μ-loop)
+    → c .find-sorted .result ≡ splitOf (entry (c .before .before .before) .args .splits .now) (next (c .before .before .before))
+found c = c .find-sorted .ensures ∙ ap (splitOf (entry (c .before .before .before) .args .splits .now)) (c .before .rows-of .ensures)
+
+split-count-requires : tie.Need-split-count-requires Inv-loop μ-loop
+split-count-requires c κs = search needs
 
 loop-holds : tie.Need-loop-holds Inv-loop μ-loop
 loop-holds c = (search needs, every-none _)
@@ -31,11 +47,14 @@ cast-rows-of c = search needs
 rows-of-requires : tie.Need-rows-of-requires Inv-loop μ-loop
 rows-of-requires c κs = search needs
 
-is-split-sorted-requires : tie.Need-is-split-sorted-requires Inv-loop μ-loop
-is-split-sorted-requires c κs = search needs
+find-sorted-requires : tie.Need-find-sorted-requires Inv-loop μ-loop
+find-sorted-requires c κs = search needs
 
 returns : tie.Need-returns Inv-loop μ-loop
-returns c = every-stops byteValues _ (c .before .before .before .before .loop .d) (omega arith) (sym (said (c .before)) ∙ not-true _ (c .if1 .taken))
+returns c =
+    let h = c .before .before .before .before in
+    every-stops byteValues _ (h .loop .d) (omega arith)
+    (found-no (entry h .args .splits .now) (next h) (h .before .split-count .result) (c .before .find-sorted .result) (h .before .split-count .ensures) (found (c .before)) (c .if1 .taken))
 
 add-d : tie.Need-add-d Inv-loop μ-loop
 add-d c = search needs
@@ -44,7 +63,12 @@ loop-less : tie.Need-loop-less Inv-loop μ-loop
 loop-less c = search needs
 
 loop-again : tie.Need-loop-again Inv-loop μ-loop
-loop-again c = (search needs, every-more _ (c .before .before .before .before .loop .d) (c .before .before .before .before .loop .inv .1) (sym (said (c .before)) ∙ not-false _ (c .if1 .left)))
+loop-again c =
+    let h = c .before .before .before .before in (
+      search needs,
+      every-more _ (h .loop .d) (h .loop .inv .1)
+          (found-some (entry h .args .splits .now) (next h) (h .before .split-count .result) (c .before .find-sorted .result) (h .before .split-count .ensures) (found (c .before)) (omega arith)),
+    )
 
 returns-2 : tie.Need-returns-2 Inv-loop μ-loop
 returns-2 c = every-ends byteValues _ (c .before .loop .d) (omega arith) (c .before .loop .inv .1)
@@ -55,10 +79,11 @@ leads-at-spec =
     (tie.spec
     Inv-loop
     μ-loop
+    split-count-requires
     loop-holds
     cast-rows-of
     rows-of-requires
-    is-split-sorted-requires
+    find-sorted-requires
     returns
     add-d
     loop-less
