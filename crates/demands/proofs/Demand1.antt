@@ -11,6 +11,7 @@ use lib.ListN.{length, take}
 use lib.Seq.{length-take-le, take-take}
 use lib.Dec.{ltb, lit<}
 use borrow.Author.Tests.{eq-eqb, ne-eqb, ltb-true, lt-ltb, le-ltb}
+use Rattle.rules.specs.Scan.{rising}
 use Rattle.rules.specs.Rules.{Rule, verdict, number, Given}
 use Rattle.lists.specs.List.{badLength, badRecord, noStart, listRules}
 use Rattle.rules.proofs.Scanning.{both}
@@ -168,6 +169,7 @@ kept L b T R at piece out e =
     (record { bytes = sym (front-long L b T R at piece out); pairs = refl; words = refl; saved = refl })
 
 pub demand-1 : Demand1
+unfolding rising
 demand-1 =
     record {
       lowest =

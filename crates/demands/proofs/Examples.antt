@@ -6,13 +6,13 @@ use mathlib.Core.List.{List, [], _∷_}
 use lib.Count.{onesIn}
 use lib.Dec.{T, eqb, eqb→eq}
 use Rattle.sets.specs.Set.{num, digits, holds, join, insert, size, members, setAt, before}
-use Rattle.rules.specs.Scan.{some, every, first, gather}
+use Rattle.rules.specs.Scan.{some, every, first, gather, rising}
 use Rattle.rules.specs.Rules.{verdict}
 use Rattle.lists.specs.List.{goodRecord, badLength, badRecord, noStart}
 use Rattle.lists.specs.Automaton.{start, step, accepted}
 use Rattle.feeds.specs.Engine.{run, costs, due, pairsAt, told, consumed, ended, feed}
 use Rattle.flows.specs.Flow.{flowBytes, badFlow}
-use Rattle.tables.specs.Table.{largest, part, row, splitSet, slots, usedSlots, takenSlots, allBelow, rising, joined, badClasses, badCount, badRowsLength, badLengths, goodSlots, inOrder, badSplits, badRows, badUnion, noStartSplit, notClosed, tableRefusal, splitOf}
+use Rattle.tables.specs.Table.{largest, part, row, splitSet, slots, usedSlots, takenSlots, allBelow, joined, badClasses, badCount, badRowsLength, badLengths, goodSlots, inOrder, badSplits, badRows, badUnion, noStartSplit, notClosed, tableRefusal, splitOf}
 use Rattle.splits.specs.Split.{taken, stuck, splitStep}
 use Rattle.demands.specs.Examples.{Row, Agree, feedRows, acceptedRow, boundRow, closedRow, startRow, examples}
 

@@ -1,15 +1,16 @@
 -- A table of rules gives each number exactly when its row applies and no row before it does. Assumes nothing.
 use Prim.Native.Nat.{ℕ, zero, suc, _<_}
-use mathlib.Core.Path.{_≡_, refl, sym, _∙_}
+use mathlib.Core.Path.{_≡_, refl, sym, ap, _∙_}
 use mathlib.Core.Bool.{Bool, true, false, _&&_, cond, not}
 use mathlib.Core.List.{List, [], _∷_, _++_}
 use mathlib.Core.Logic.{_↔_}
 use native.Mathlib.Omega.{arith}
-use lib.ListN.{length}
+use lib.ListN.{length, getD}
 use lib.Dec.{eqb, ltb}
 use borrow.Author.Tests.{eqb-false, ltb-true, not-true}
+use Rattle.rules.specs.Scan.{rising}
 use Rattle.rules.specs.Rules.{Rule, verdict, number, applies, Given, Rises, Refuses}
-use Rattle.rules.proofs.Scanning.{both}
+use Rattle.rules.proofs.Scanning.{both, rising-at}
 
 -- n is the number of no row
 abbrev pub unnumbered : ℕ → List Rule → Bool
@@ -78,23 +79,23 @@ exactly (r ∷ rs) d (suc i) h =
 
 -- ---- the numbers rise
 
--- from a number over n on
-abbrev pub rising : ℕ → List Rule → Bool
-rising n [] = true
-rising n (r ∷ rs) = ltb n (r .0) && rising (r .0) rs
+-- the numbers of the rows, in their order
+abbrev pub numbers : List Rule → List ℕ
+numbers [] = []
+numbers (r ∷ rs) = r .0 ∷ numbers rs
 
-over : (n : ℕ) (rs : List Rule) → rising n rs ≡ true → (i : ℕ) → i < length rs → n < number rs i
-over n [] e i h = absurd (omega arith)
-over n (r ∷ rs) e zero h = ltb-true n (r .0) (both (ltb n (r .0)) (rising (r .0) rs) e .0)
-over n (r ∷ rs) e (suc i) h =
-    let w = both (ltb n (r .0)) (rising (r .0) rs) e in
-    omega (arith, ltb-true n (r .0) (w .0), over (r .0) rs (w .1) i (omega arith))
+numbers-length : (rs : List Rule) → length (numbers rs) ≡ length rs
+numbers-length [] = refl
+numbers-length (r ∷ rs) = ap suc (numbers-length rs)
 
-pub rises : (n : ℕ) (rs : List Rule) → rising n rs ≡ true → Rises rs
-rises n [] e i j l h = absurd (omega arith)
-rises n (r ∷ rs) e i zero l h = absurd (omega arith)
-rises n (r ∷ rs) e zero (suc j) l h = over (r .0) rs (both (ltb n (r .0)) (rising (r .0) rs) e .1) j (omega arith)
-rises n (r ∷ rs) e (suc i) (suc j) l h = rises (r .0) rs (both (ltb n (r .0)) (rising (r .0) rs) e .1) i j (omega arith) (omega arith)
+numbers-at : (rs : List Rule) (i : ℕ) → getD (numbers rs) i 0 ≡ number rs i
+numbers-at [] i = refl
+numbers-at (r ∷ rs) zero = refl
+numbers-at (r ∷ rs) (suc i) = numbers-at rs i
+
+pub rises : (n : ℕ) (rs : List Rule) → rising n (numbers rs) ≡ true → Rises rs
+rises n rs e i j l h =
+    rw (← numbers-at rs i, ← numbers-at rs j) (rising-at n (numbers rs) e i j l (omega (arith, numbers-length rs)))
 
 -- ---- what is given
 

@@ -1,16 +1,18 @@
--- Laws of `some`, `every`, `first` and `gather`: each says of numbers below n what its name says. Assumes nothing.
-use Prim.Native.Nat.{ℕ, zero, suc, _*_, _%_, _^_, _<_}
+-- Laws of `some`, `every`, `first`, `rising` and `gather`: each says of numbers what its name says. Assumes nothing.
+use Prim.Native.Nat.{ℕ, zero, suc, _*_, _%_, _^_, _≤_, _<_}
 use mathlib.Core.Path.{_≡_, refl, sym, ap, _∙_}
 use mathlib.Core.Bool.{Bool, true, false, _&&_, _||_, cond, not, true≢false, false≢true}
+use mathlib.Core.List.{List, [], _∷_}
 use mathlib.Core.Logic.{⊎-elim, _⊎_, inl, inr, _↔_}
 use native.Mathlib.Omega.{arith}
 use native.Mathlib.Decide.{decLt}
-use lib.Dec.{ltb, eqb}
+use lib.ListN.{length, getD}
+use lib.Dec.{leb, ltb, eqb}
 use lib.Pow.{pow-pos}
-use borrow.Author.Tests.{eqb-true, eqb-false, eq-eqb, ne-eqb, ltb-true, lt-ltb, le-ltb, not-true}
+use borrow.Author.Tests.{eqb-true, eqb-false, eq-eqb, ne-eqb, ltb-true, lt-ltb, le-ltb, leb-true, le-leb, not-true}
 use Rattle.sets.specs.Set.{holds, insert, join}
 use Rattle.sets.proofs.Sets.{or-false, holds-empty, holds-insert, holds-join, insert-lt, set-ext}
-use Rattle.rules.specs.Scan.{some, every, first, gather}
+use Rattle.rules.specs.Scan.{some, every, first, rising, gather}
 
 -- ---- tests
 
@@ -195,6 +197,33 @@ some-first n p = go (some n p) refl
     go : (b : Bool) → some n p ≡ b → some n p ≡ ltb (first n p) n
     go true e = e ∙ sym (lt-ltb (first n p) n (first-found n p e .0))
     go false e = e ∙ sym (le-ltb (first n p) n (omega (arith, first-none n p e)))
+
+-- ---- rising
+
+-- a list that rises from `least` on: each number is at least that, and later ones are greater
+rising-least : (least : ℕ) (xs : List ℕ) → rising least xs ≡ true → (i : ℕ) → i < length xs → least ≤ getD xs i 0
+unfolding rising
+rising-least least [] e i h = absurd (omega arith)
+rising-least least (x ∷ xs) e zero h = leb-true least x (both (leb least x) (rising (suc x) xs) e .0)
+rising-least least (x ∷ xs) e (suc i) h =
+    let r = both (leb least x) (rising (suc x) xs) e in
+    omega (arith, leb-true least x (r .0), rising-least (suc x) xs (r .1) i (omega arith))
+
+pub rising-at : (least : ℕ) (xs : List ℕ) → rising least xs ≡ true → (i j : ℕ) → i < j → j < length xs → getD xs i 0 < getD xs j 0
+unfolding rising
+rising-at least [] e i j l h = absurd (omega arith)
+rising-at least (x ∷ xs) e i zero l h = absurd (omega arith)
+rising-at least (x ∷ xs) e zero (suc j) l h = rising-least (suc x) xs (both (leb least x) (rising (suc x) xs) e .1) j (omega arith)
+rising-at least (x ∷ xs) e (suc i) (suc j) l h = rising-at (suc x) xs (both (leb least x) (rising (suc x) xs) e .1) i j (omega arith) (omega arith)
+
+rising-from : (least : ℕ) (xs : List ℕ) → ((i : ℕ) → i < length xs → least ≤ getD xs i 0) → ((i j : ℕ) → i < j → j < length xs → getD xs i 0 < getD xs j 0) → rising least xs ≡ true
+unfolding rising
+rising-from least [] h r = refl
+rising-from least (x ∷ xs) h r =
+    rw (le-leb least x (h 0 (omega arith)), rising-from (suc x) xs (λ i l. r 0 (suc i) (omega arith) (omega arith)) (λ i j l k. r (suc i) (suc j) (omega arith) (omega arith)))
+
+pub rising-exactly : (xs : List ℕ) → rising 0 xs ≡ true ↔ ((i j : ℕ) → i < j → j < length xs → getD xs i 0 < getD xs j 0)
+rising-exactly xs = (rising-at 0 xs, λ r. rising-from 0 xs (λ i l. omega arith) r)
 
 -- ---- gather
 

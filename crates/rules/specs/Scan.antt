@@ -1,6 +1,8 @@
--- The words in which every rule scans: some, every, first, gather.
+-- The words in which every rule scans: some, every, first, rising, gather.
 use Prim.Native.Nat.{ℕ, zero, suc}
 use mathlib.Core.Bool.{Bool, true, false, _&&_, _||_, cond}
+use mathlib.Core.List.{List, [], _∷_}
+use lib.Dec.{leb}
 use Rattle.sets.specs.Set.{insert}
 
 -- p holds of some number below n
@@ -17,6 +19,11 @@ every (suc n) p = every n p && p n
 unfoldable pub first : ℕ → (ℕ → Bool) → ℕ
 first zero p = zero
 first (suc n) p = cond (some n p) (first n p) (cond (p n) n (suc n))
+
+-- the numbers of the list rise strictly, from `least` on
+unfoldable pub rising : ℕ → List ℕ → Bool
+rising least [] = true
+rising least (x ∷ xs) = leb least x && rising (suc x) xs
 
 -- the set of the numbers `to i` below m, for each i below n of which p holds
 unfoldable pub gather : ℕ → (ℕ → Bool) → (ℕ → ℕ) → ℕ → ℕ

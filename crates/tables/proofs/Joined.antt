@@ -1,4 +1,4 @@
--- Unions over a list of part numbers, and the slots of a split: those in use, those taken, and their order. Assumes nothing.
+-- Unions over a list of part numbers, and the slots of a split: those in use and those taken. Assumes nothing.
 use Prim.Native.Nat.{ℕ, zero, suc, _≤_, _<_}
 use mathlib.Core.Path.{_≡_, refl, sym, ap, _∙_}
 use mathlib.Core.Bool.{Bool, true, false, not, cond, false≢true}
@@ -8,13 +8,13 @@ use native.Mathlib.Omega.{arith}
 use native.Mathlib.Nat.{suc-inj, lt-of-not-le}
 use native.Mathlib.Decide.{decLt}
 use lib.ListN.{length, getD}
-use lib.Dec.{ltb, leb}
-use borrow.Author.Tests.{ltb-true, leb-true, le-leb, lt-ltb}
+use lib.Dec.{ltb}
+use borrow.Author.Tests.{ltb-true, lt-ltb}
 use Rattle.sets.specs.Set.{join}
 use Rattle.lists.specs.Automaton.{step}
 use Rattle.rules.proofs.Scanning.{both}
 use Rattle.lists.proofs.Steps.{step-join, step-empty}
-use Rattle.tables.specs.Table.{unusedSlot, usedSlots, takenSlots, allBelow, rising, joined}
+use Rattle.tables.specs.Table.{unusedSlot, usedSlots, takenSlots, allBelow, joined}
 
 -- the step of a union of parts is the union of their steps
 pub step-joined : (L : List ℕ) (f : ℕ → ℕ) (c : ℕ) (xs : List ℕ) → step L (joined f xs) c ≡ joined (λ x. step L (f x) c) xs
@@ -63,31 +63,6 @@ below-fails n xs = (below-failed n xs, λ w. back (allBelow n xs) refl w)
     back : (b : Bool) → allBelow n xs ≡ b → (i : ℕ) × (i < length xs) × (n ≤ getD xs i 0) → not b ≡ true
     back false e w = refl
     back true e w = absurd (omega (arith, w .2, below-at n xs e (w .0) (w .1)))
-
--- a list that rises from `least` on: each number is at least that, and later ones are greater
-rising-least : (least : ℕ) (xs : List ℕ) → rising least xs ≡ true → (i : ℕ) → i < length xs → least ≤ getD xs i 0
-unfolding rising
-rising-least least [] e i h = absurd (omega arith)
-rising-least least (x ∷ xs) e zero h = leb-true least x (both (leb least x) (rising (suc x) xs) e .0)
-rising-least least (x ∷ xs) e (suc i) h =
-    let r = both (leb least x) (rising (suc x) xs) e in
-    omega (arith, leb-true least x (r .0), rising-least (suc x) xs (r .1) i (omega arith))
-
-pub rising-at : (least : ℕ) (xs : List ℕ) → rising least xs ≡ true → (i j : ℕ) → i < j → j < length xs → getD xs i 0 < getD xs j 0
-unfolding rising
-rising-at least [] e i j l h = absurd (omega arith)
-rising-at least (x ∷ xs) e i zero l h = absurd (omega arith)
-rising-at least (x ∷ xs) e zero (suc j) l h = rising-least (suc x) xs (both (leb least x) (rising (suc x) xs) e .1) j (omega arith)
-rising-at least (x ∷ xs) e (suc i) (suc j) l h = rising-at (suc x) xs (both (leb least x) (rising (suc x) xs) e .1) i j (omega arith) (omega arith)
-
-rising-from : (least : ℕ) (xs : List ℕ) → ((i : ℕ) → i < length xs → least ≤ getD xs i 0) → ((i j : ℕ) → i < j → j < length xs → getD xs i 0 < getD xs j 0) → rising least xs ≡ true
-unfolding rising
-rising-from least [] h r = refl
-rising-from least (x ∷ xs) h r =
-    rw (le-leb least x (h 0 (omega arith)), rising-from (suc x) xs (λ i l. r 0 (suc i) (omega arith) (omega arith)) (λ i j l k. r (suc i) (suc j) (omega arith) (omega arith)))
-
-pub rising-exactly : (xs : List ℕ) → rising 0 xs ≡ true ↔ ((i j : ℕ) → i < j → j < length xs → getD xs i 0 < getD xs j 0)
-rising-exactly xs = (rising-at 0 xs, λ r. rising-from 0 xs (λ i l. omega arith) r)
 
 length-nil : (xs : List ℕ) → length xs ≡ 0 → xs ≡ []
 length-nil [] e = refl

@@ -10,8 +10,9 @@ use lib.Dec.{ltb, leb, eqb, leb·zero, leb·suc-zero, leb·suc-suc, eqb·suc-suc
 use borrow.Author.Tests.{ltb-true, lt-ltb}
 use Rattle.sets.specs.Set.{join}
 use Rattle.sets.proofs.Sets.{join-empty, join-comm, join-assoc}
+use Rattle.rules.specs.Scan.{rising}
 use Rattle.rules.proofs.Scanning.{and-false, both}
-use Rattle.tables.specs.Table.{unusedSlot, usedSlots, takenSlots, allBelow, rising, joined, goodSlots, slots}
+use Rattle.tables.specs.Table.{unusedSlot, usedSlots, takenSlots, allBelow, joined, goodSlots, slots}
 use Rattle.tables.proofs.Joined.{below-head}
 use Rattle.tables.proofs.Entries.{slots-length}
 

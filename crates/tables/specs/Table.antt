@@ -5,7 +5,7 @@ use mathlib.Core.List.{List, [], _∷_, _++_}
 use lib.ListN.{length, getD}
 use lib.Dec.{leb, ltb, eqb}
 use Rattle.sets.specs.Set.{setSize, bytesAt, setAt, before, join}
-use Rattle.rules.specs.Scan.{some, every, first}
+use Rattle.rules.specs.Scan.{some, every, first, rising}
 use Rattle.rules.specs.Rules.{Rule, verdict}
 use Rattle.lists.specs.List.{word, listRules}
 use Rattle.lists.specs.Automaton.{start, step}
@@ -95,11 +95,6 @@ takenSlots (x ∷ xs) = cond (unusedSlot x) [] (x ∷ takenSlots xs)
 unfoldable pub allBelow : ℕ → List ℕ → Bool
 allBelow n [] = true
 allBelow n (x ∷ xs) = ltb x n && allBelow n xs
-
--- the numbers of the list rise strictly, from `least` on
-unfoldable pub rising : ℕ → List ℕ → Bool
-rising least [] = true
-rising least (x ∷ xs) = leb least x && rising (suc x) xs
 
 -- the union of the sets that f gives for the numbers of the list
 unfoldable pub joined : (ℕ → ℕ) → List ℕ → ℕ
