@@ -100,8 +100,7 @@ pub fn slot(splits: &[u8], i: usize, j: usize) -> usize
     requires { ⌜ (i < splitCount (now splits)) × (j < 4) ⌝ }
     ensures { λ r. ⌜ r ≡ getD (slots (now (splits .entry)) i) j 0 ⌝ }
 {
-    let at = SPLIT_SIZE * i + sets::BYTES + 2 * j;
-    splits[at] as usize + 256 * (splits[at + 1] as usize)
+    sets::whole_number(splits, SPLIT_SIZE * i + sets::BYTES + 2 * j, 2) as usize
 }
 
 // The row of part p and class q, where there are k classes and that row is there.
