@@ -169,7 +169,7 @@ pub fn size_refusal(bound: u64, classes: &[u8], parts: &[u8], rows: &[u8], split
     if bad_lengths(classes, parts, rows, splits) {
         return 8;
     }
-    0
+    rules::PASSED
 }
 
 // Says whether rule 9 passes the slots of split i: n parts, at most `bound` slots in use.
@@ -387,7 +387,7 @@ fn entries_refusal(
     if !leads(classes, rows, splits, k) {
         return 13;
     }
-    0
+    rules::PASSED
 }
 
 // The table check: the number of the first rule that refuses the table, 0 where none does.
@@ -402,11 +402,11 @@ pub fn check_table(
     ensures { λ r. ⌜ r ≡ tableRefusal (now (list .entry)) bound (table (now (classes .entry)) (now (parts .entry)) (now (rows .entry)) (now (splits .entry))) ⌝ }
 {
     let listed = lists::check_list(list);
-    if listed != 0 {
+    if listed != rules::PASSED {
         return listed;
     }
     let sized = size_refusal(bound, classes, parts, rows, splits);
-    if sized != 0 {
+    if sized != rules::PASSED {
         return sized;
     }
     entries_refusal(list, bound, classes, parts, rows, splits)
