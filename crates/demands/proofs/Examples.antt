@@ -45,25 +45,38 @@ agree-sound (r ∷ rs) t =
     let w = both (same (r .0) (r .1)) (agree rs) t in
     (same-sound (r .0) (r .1) (w .0), agree-sound rs (w .1))
 
+-- what the rows compute with: a line that names one of these opens all that its own line names
+steps : ℕ
+unfolding num digits holds join insert size onesIn members setAt before some every first gather verdict goodRecord badLength badRecord noStart start step accepted
+steps = 0
+
+checks : ℕ
+unfolding largest part row splitSet slots usedSlots takenSlots allBelow rising joined badClasses badCount badRowsLength badLengths goodSlots inOrder badSplits badRows badUnion noStartSplit notClosed tableRefusal
+checks = 0
+
+feeds : ℕ
+unfolding run costs due pairsAt told consumed ended feed flowBytes badFlow splitOf taken stuck splitStep
+feeds = 0
+
 -- each row that runs the table check is computed by itself, and the feeds' rows together
 accepted-holds : T (same (acceptedRow .0) (acceptedRow .1))
-unfolding num digits holds join insert size onesIn members setAt before some every first gather verdict goodRecord badLength badRecord noStart start step accepted run costs due pairsAt told consumed ended feed flowBytes badFlow largest part row splitSet slots usedSlots takenSlots allBelow rising joined badClasses badCount badRowsLength badLengths goodSlots inOrder badSplits badRows badUnion noStartSplit notClosed tableRefusal splitOf taken stuck splitStep
+unfolding steps checks
 accepted-holds = tt
 
 bound-holds : T (same (boundRow .0) (boundRow .1))
-unfolding num digits holds join insert size onesIn members setAt before some every first gather verdict goodRecord badLength badRecord noStart start step accepted run costs due pairsAt told consumed ended feed flowBytes badFlow largest part row splitSet slots usedSlots takenSlots allBelow rising joined badClasses badCount badRowsLength badLengths goodSlots inOrder badSplits badRows badUnion noStartSplit notClosed tableRefusal splitOf taken stuck splitStep
+unfolding steps checks
 bound-holds = tt
 
 closed-holds : T (same (closedRow .0) (closedRow .1))
-unfolding num digits holds join insert size onesIn members setAt before some every first gather verdict goodRecord badLength badRecord noStart start step accepted run costs due pairsAt told consumed ended feed flowBytes badFlow largest part row splitSet slots usedSlots takenSlots allBelow rising joined badClasses badCount badRowsLength badLengths goodSlots inOrder badSplits badRows badUnion noStartSplit notClosed tableRefusal splitOf taken stuck splitStep
+unfolding steps checks
 closed-holds = tt
 
 start-holds : T (same (startRow .0) (startRow .1))
-unfolding num digits holds join insert size onesIn members setAt before some every first gather verdict goodRecord badLength badRecord noStart start step accepted run costs due pairsAt told consumed ended feed flowBytes badFlow largest part row splitSet slots usedSlots takenSlots allBelow rising joined badClasses badCount badRowsLength badLengths goodSlots inOrder badSplits badRows badUnion noStartSplit notClosed tableRefusal splitOf taken stuck splitStep
+unfolding steps checks
 start-holds = tt
 
 feeds-hold : T (agree feedRows)
-unfolding num digits holds join insert size onesIn members setAt before some every first gather verdict goodRecord badLength badRecord noStart start step accepted run costs due pairsAt told consumed ended feed flowBytes badFlow largest part row splitSet slots usedSlots takenSlots allBelow rising joined badClasses badCount badRowsLength badLengths goodSlots inOrder badSplits badRows badUnion noStartSplit notClosed tableRefusal splitOf taken stuck splitStep
+unfolding steps checks feeds
 feeds-hold = tt
 
 pub examples-hold : Agree examples

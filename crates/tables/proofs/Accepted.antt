@@ -11,7 +11,8 @@ use Rattle.lists.specs.List.{listRules, listRefusal}
 use Rattle.lists.specs.Automaton.{start, step}
 use Rattle.rules.proofs.Scanning.{both, every-at, every-all}
 use Rattle.rules.proofs.Rules.{passes, passes-front, skip, last, verdict-then}
-use Rattle.tables.specs.Table.{Table, byteValues, partCount, splitCount, part, row, splitSet, slots, usedSlots, takenSlots, allBelow, joined, isSplit, badBound, badLengths, goodSlots, inOrder, badSplits, badRows, badUnion, noStartSplit, notClosed, tableRefusal}
+use Rattle.tables.specs.Table.{Table, byteValues, partCount, splitCount, part, row, splitSet, slots, usedSlots, takenSlots, allBelow, joined, isSplit}
+use Rattle.tables.specs.Table.{badBound, badLengths, goodSlots, inOrder, badSplits, badRows, badUnion, noStartSplit, notClosed, tableRefusal}
 use Rattle.tables.proofs.Joined.{used-taken}
 
 -- 01's rules, each for every split, part and byte

@@ -16,7 +16,8 @@ use Rattle.rules.specs.Rules.{Refuses}
 use Rattle.lists.specs.Automaton.{start, step}
 use Rattle.rules.proofs.Scanning.{choose, either-words, equal-words, differ-words, over-words, length-words, some-none, none-some, refuses-exactly}
 use Rattle.rules.proofs.Rules.{refuses}
-use Rattle.tables.specs.Table.{Table, byteValues, mostClass, mostParts, mostSplits, mostBound, splitSize, largest, classCount, partCount, splitCount, part, row, splitSet, slots, usedSlots, takenSlots, joined, isSplit, badBound, badClasses, badCount, badRowsLength, badLengths, goodSlots, inOrder, badSplits, badRows, badUnion, noStartSplit, notClosed, tableRules, tableRefusal}
+use Rattle.tables.specs.Table.{Table, byteValues, mostClass, mostParts, mostSplits, mostBound, splitSize, largest, classCount, partCount, splitCount, part, row, splitSet, slots, usedSlots, takenSlots, joined, isSplit}
+use Rattle.tables.specs.Table.{badBound, badClasses, badCount, badRowsLength, badLengths, goodSlots, inOrder, badSplits, badRows, badUnion, noStartSplit, notClosed, tableRules, tableRefusal}
 use Rattle.tables.proofs.Entries.{largest-at}
 use Rattle.tables.proofs.Accepted.{Slots-good, slots-said, accepted, accepts}
 

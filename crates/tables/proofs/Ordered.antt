@@ -14,7 +14,8 @@ use Rattle.lists.specs.List.{listRules, listRefusal}
 use Rattle.lists.specs.Automaton.{start, step}
 use Rattle.rules.proofs.Scanning.{both, neither, every-at, every-all, every-same}
 use Rattle.rules.proofs.Rules.{passes, skip, stop, last, verdict-first, verdict-then}
-use Rattle.tables.specs.Table.{Table, byteValues, mostParts, classCount, partCount, splitCount, part, row, splitSet, slots, usedSlots, allBelow, joined, isSplit, badClasses, badCount, badRowsLength, badLengths, goodSlots, inOrder, badSplits, badRows, badUnion, noStartSplit, notClosed, sizeRules, tableRefusal, splitSize, mostSplits}
+use Rattle.tables.specs.Table.{Table, byteValues, mostParts, classCount, partCount, splitCount, part, row, splitSet, slots, usedSlots, allBelow, joined, isSplit, splitSize, mostSplits}
+use Rattle.tables.specs.Table.{badClasses, badCount, badRowsLength, badLengths, goodSlots, inOrder, badSplits, badRows, badUnion, noStartSplit, notClosed, sizeRules, tableRefusal}
 use Rattle.tables.proofs.Joined.{step-joined, joined-same}
 use Rattle.tables.proofs.Accepted.{slots-said}
 use Rattle.tables.proofs.Slots.{below-wider}

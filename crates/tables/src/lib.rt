@@ -10,7 +10,9 @@ ghost use Rattle.rules.specs.Scan.{every};
 ghost use Rattle.rules.specs.Rules.{verdict};
 ghost use Rattle.lists.specs.List.{listRefusal};
 ghost use Rattle.lists.specs.Automaton.{step};
-ghost use Rattle.tables.specs.Table.{table, byteValues, mostParts, largest, classCount, partCount, splitCount, part, rowAt, row, splitSet, slots, unusedSlot, usedSlots, allBelow, joined, isSplit, splitOf, badClasses, badCount, badRowsLength, badLengths, goodSlots, inOrder, sizeRules, tableRefusal};
+ghost use Rattle.tables.specs.Table.{table, byteValues, mostParts, largest, classCount, partCount, splitCount, part, rowAt, row, splitSet};
+ghost use Rattle.tables.specs.Table.{slots, unusedSlot, usedSlots, allBelow, joined, isSplit, splitOf};
+ghost use Rattle.tables.specs.Table.{badClasses, badCount, badRowsLength, badLengths, goodSlots, inOrder, sizeRules, tableRefusal};
 
 // Bytes that a piece may have; each has a class.
 pub const BYTE_VALUES: usize = 256;
@@ -238,7 +240,8 @@ fn rows_at(list: &[u8], classes: &[u8], rows: &[u8], k: usize, p: usize, f: Stat
 // Says whether rule 10 passes the rows.
 fn rows_good(list: &[u8], classes: &[u8], parts: &[u8], rows: &[u8], k: usize) -> bool
     requires { ⌜ (k ≡ classCount (now classes)) × (partCount (now parts) ≤ mostParts) ⌝ }
-    ensures { λ r. ⌜ r ≡ every (partCount (now (parts .entry))) (λ p. every byteValues (λ c. eqb (row (now (classes .entry)) (now (rows .entry)) p c) (step (now (list .entry)) (part (now (parts .entry)) p) c))) ⌝ }
+    ensures { λ r. ⌜ r ≡ every (partCount (now (parts .entry))) (λ p. every byteValues (λ c.
+        eqb (row (now (classes .entry)) (now (rows .entry)) p c) (step (now (list .entry)) (part (now (parts .entry)) p) c))) ⌝ }
 {
     let n = part_count(parts);
     for p in 0..n {
@@ -286,7 +289,8 @@ fn union_of(parts: &[u8], splits: &[u8], i: usize) -> StateSet
 
 // Says whether rule 11 passes the splits.
 fn unions_good(parts: &[u8], splits: &[u8]) -> bool
-    ensures { λ r. ⌜ r ≡ every (splitCount (now (splits .entry))) (λ i. eqb (splitSet (now (splits .entry)) i) (joined (part (now (parts .entry))) (usedSlots (slots (now (splits .entry)) i)))) ⌝ }
+    ensures { λ r. ⌜ r ≡ every (splitCount (now (splits .entry))) (λ i.
+        eqb (splitSet (now (splits .entry)) i) (joined (part (now (parts .entry))) (usedSlots (slots (now (splits .entry)) i)))) ⌝ }
 {
     let n = split_count(splits);
     for i in 0..n {
@@ -333,8 +337,10 @@ fn rows_of(classes: &[u8], rows: &[u8], splits: &[u8], k: usize, i: usize, c: u8
 
 // Says whether each byte leads from split i to a split, through the rows.
 fn leads_at(classes: &[u8], rows: &[u8], splits: &[u8], k: usize, i: usize) -> bool
-    requires { ⌜ (k ≡ classCount (now classes)) × (allBelow mostParts (usedSlots (slots (now splits) i)) ≡ true) × (every (splitCount (now splits)) (inOrder (now splits)) ≡ true) × (i < splitCount (now splits)) ⌝ }
-    ensures { λ r. ⌜ r ≡ every byteValues (λ c. isSplit (now (splits .entry)) (joined (λ p. row (now (classes .entry)) (now (rows .entry)) p c) (usedSlots (slots (now (splits .entry)) i)))) ⌝ }
+    requires { ⌜ (k ≡ classCount (now classes)) × (allBelow mostParts (usedSlots (slots (now splits) i)) ≡ true)
+        × (every (splitCount (now splits)) (inOrder (now splits)) ≡ true) × (i < splitCount (now splits)) ⌝ }
+    ensures { λ r. ⌜ r ≡ every byteValues (λ c.
+        isSplit (now (splits .entry)) (joined (λ p. row (now (classes .entry)) (now (rows .entry)) p c) (usedSlots (slots (now (splits .entry)) i)))) ⌝ }
 {
     let n = split_count(splits);
     for d in 0..BYTE_VALUES {
@@ -347,8 +353,10 @@ fn leads_at(classes: &[u8], rows: &[u8], splits: &[u8], k: usize, i: usize) -> b
 
 // Says whether each byte leads from each split to a split, through the rows.
 fn leads(classes: &[u8], rows: &[u8], splits: &[u8], k: usize) -> bool
-    requires { ⌜ (k ≡ classCount (now classes)) × (every (splitCount (now splits)) (λ i. allBelow mostParts (usedSlots (slots (now splits) i))) ≡ true) × (every (splitCount (now splits)) (inOrder (now splits)) ≡ true) ⌝ }
-    ensures { λ r. ⌜ r ≡ every (splitCount (now (splits .entry))) (λ i. every byteValues (λ c. isSplit (now (splits .entry)) (joined (λ p. row (now (classes .entry)) (now (rows .entry)) p c) (usedSlots (slots (now (splits .entry)) i))))) ⌝ }
+    requires { ⌜ (k ≡ classCount (now classes)) × (every (splitCount (now splits)) (λ i. allBelow mostParts (usedSlots (slots (now splits) i))) ≡ true)
+        × (every (splitCount (now splits)) (inOrder (now splits)) ≡ true) ⌝ }
+    ensures { λ r. ⌜ r ≡ every (splitCount (now (splits .entry))) (λ i. every byteValues (λ c.
+        isSplit (now (splits .entry)) (joined (λ p. row (now (classes .entry)) (now (rows .entry)) p c) (usedSlots (slots (now (splits .entry)) i))))) ⌝ }
 {
     let n = split_count(splits);
     for i in 0..n {

@@ -29,10 +29,16 @@ same-length c = search needs
 returns : tie.Need-returns
 returns c = search needs
 
+-- the way back to the entry
+abbrev entry : tie.Else1 → tie.Start
+entry c = c .before .before .before .before .before .before .before .before .before .before .before .before .before
+
 -- no refusal: the flow moves
-moved : (c : tie.Else1) → Step (c .before .before .before .before .before .before .before .before .before .before .before .before .before .args .offset) (length (c .before .before .before .before .before .before .before .before .before .before .before .before .before .args .rest .now)) 0 (c .before .before .before .before .before .before .before .before .before .before .before .before .before .args .offset + c .before .before .before .before .before .before .before .feed .result .bytes)
+moved : (c : tie.Else1)
+    → let a = entry c .args in
+    Step (a .offset) (length (a .rest .now)) 0 (a .offset + c .before .before .before .before .before .before .before .feed .result .bytes)
 moved c =
-    let a = c .before .before .before .before .before .before .before .before .before .before .before .before .before .args in
+    let a = entry c .args in
     moves (a .list .now) (a .flow .now) (a .offset) (a .rest .now) _ _ _ _ (c .before .before .before .before .before .before .before .feed .ensures) (c .if1 .left) (omega arith)
 
 add-t16 : tie.Need-add-t16

@@ -20,10 +20,18 @@ Inv-loop rows splits k n i q all₀ j₀ all j = (j ≤ 4) × Taking (λ p. rowA
 abbrev μ-loop : tie.MeasureT-loop
 μ-loop rows splits k n i q all₀ j₀ all j = 4 - j
 
+-- the way back from the loop's head to the entry
+abbrev entry : tie.At-loop Inv-loop μ-loop → tie.Start Inv-loop μ-loop
+entry c = c .before .before .before
+
 -- the slot that is read is the next of the rest
 here : (c : tie.After-slot Inv-loop μ-loop)
-    → drop (c .before .before .loop .j) (slots (c .before .before .before .before .before .args .splits .now) (c .before .before .before .before .before .args .i)) ≡ c .slot .result ∷ drop (c .before .before .loop .j + 1) (slots (c .before .before .before .before .before .args .splits .now) (c .before .before .before .before .before .args .i))
-here c = slots-cons (c .before .before .before .before .before .args .splits .now) (c .before .before .before .before .before .args .i) (c .before .before .loop .j) (c .slot .result) (omega arith) (c .slot .ensures)
+    → let l = c .before .before .loop in
+    let ss = slots (entry (c .before .before) .args .splits .now) (entry (c .before .before) .args .i) in
+    drop (l .j) ss ≡ c .slot .result ∷ drop (l .j + 1) ss
+here c =
+    let a = entry (c .before .before) .args in
+    slots-cons (a .splits .now) (a .i) (c .before .before .loop .j) (c .slot .result) (omega arith) (c .slot .ensures)
 
 loop-holds : tie.Need-loop-holds Inv-loop μ-loop
 loop-holds c = (search needs, taking-start _ _ _ _ (empty-words setWords))
@@ -43,7 +51,7 @@ returns-2 c =
 
 whole-row-requires : tie.Need-whole-row-requires Inv-loop μ-loop
 whole-row-requires c κs =
-    let s = c .before .before .before .before .before .before .before in
+    let s = entry (c .before .before .before .before) in
     omega (arith, row-inside (s .args .n) (s .args .k) (c .before .before .slot .result) (s .args .q) (omega arith) (s .pre .1), s .pre .0)
 
 union-requires : tie.Need-union-requires Inv-loop μ-loop
@@ -66,7 +74,7 @@ loop-again c =
 
 returns-3 : tie.Need-returns-3 Inv-loop μ-loop
 returns-3 c =
-    let a = c .before .before .before .before .args in
+    let a = entry (c .before) .args in
     let l = c .before .loop in
     taking-end _ _ _ _ (l .j) (l .inv .1) refl (omega arith) (slots-end (a .splits .now) (a .i) (l .j) (omega arith))
 

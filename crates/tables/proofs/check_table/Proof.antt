@@ -16,16 +16,16 @@ check-list-requires c κs = search needs
 
 returns : tie.Need-returns
 returns c =
-    let a = c .before .before .before .before .before .before .before .args in
-    list-first (a .list .now) (a .bound) (table (c .before .before .before .before .before .before .before)) (c .before .check-list .result) (c .before .check-list .ensures) (c .if1 .taken)
+    let s = c .before .before .before .before .before .before .before in
+    list-first (s .args .list .now) (s .args .bound) (table s) (c .before .check-list .result) (c .before .check-list .ensures) (c .if1 .taken)
 
 size-refusal-requires : tie.Need-size-refusal-requires
 size-refusal-requires c κs = search needs
 
 returns-2 : tie.Need-returns-2
 returns-2 c =
-    let a = c .before .before .before .before .before .before .before .before .before .args in
-    size-first (a .list .now) (a .bound) (table (c .before .before .before .before .before .before .before .before .before)) (sym (c .before .before .before .check-list .ensures) ∙ c .before .before .if1 .left) (c .before .size-refusal .result) (c .before .size-refusal .ensures) (c .if2 .taken)
+    let s = c .before .before .before .before .before .before .before .before .before in
+    size-first (s .args .list .now) (s .args .bound) (table s) (sym (c .before .before .before .check-list .ensures) ∙ c .before .before .if1 .left) (c .before .size-refusal .result) (c .before .size-refusal .ensures) (c .if2 .taken)
 
 entries-refusal-requires : tie.Need-entries-refusal-requires
 entries-refusal-requires c κs = (sym (c .before .before .before .check-list .ensures) ∙ c .before .before .if1 .left, sym (c .before .size-refusal .ensures) ∙ c .if2 .left)

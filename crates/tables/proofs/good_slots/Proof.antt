@@ -22,16 +22,26 @@ Inv-loop splits i n bound least₀ left₀ going₀ j₀ least left going j = (j
 abbrev μ-loop : tie.MeasureT-loop
 μ-loop splits i n bound least₀ left₀ going₀ j₀ least left going j = 4 - j
 
+-- the way back from the loop's head to the entry
+abbrev entry : tie.At-loop Inv-loop μ-loop → tie.Start Inv-loop μ-loop
+entry c = c .before .before
+
 -- the slot that is read is the next of the rest
-next : (c : tie.After-slot Inv-loop μ-loop) → drop (c .before .before .loop .j) (slots (c .before .before .before .before .args .splits .now) (c .before .before .before .before .args .i)) ≡ c .slot .result ∷ drop (c .before .before .loop .j + 1) (slots (c .before .before .before .before .args .splits .now) (c .before .before .before .before .args .i))
-next c = slots-cons (c .before .before .before .before .args .splits .now) (c .before .before .before .before .args .i) (c .before .before .loop .j) (c .slot .result) (omega arith) (c .slot .ensures)
+next : (c : tie.After-slot Inv-loop μ-loop)
+    → let l = c .before .before .loop in
+    let ss = slots (entry (c .before .before) .args .splits .now) (entry (c .before .before) .args .i) in
+    drop (l .j) ss ≡ c .slot .result ∷ drop (l .j + 1) ss
+next c =
+    let a = entry (c .before .before) .args in
+    slots-cons (a .splits .now) (a .i) (c .before .before .loop .j) (c .slot .result) (omega arith) (c .slot .ensures)
 
 -- what the test of a slot in use has passed
-tested : (c : tie.Else2 Inv-loop μ-loop) → (c .before .before .slot .result < c .before .before .before .before .before .before .args .n) × (1 ≤ c .before .before .before .before .loop .left)
+tested : (c : tie.Else2 Inv-loop μ-loop)
+    → (c .before .before .slot .result < entry (c .before .before .before .before) .args .n) × (1 ≤ c .before .before .before .before .loop .left)
 tested c =
     let l = c .before .before .before .before .loop in
     let x = c .before .before .slot .result in
-    let n = c .before .before .before .before .before .before .args .n in
+    let n = entry (c .before .before .before .before) .args .n in
     let t = both (l .going && leb (l .least) x && ltb x n) (leb 1 (l .left)) (not-false _ (c .if2 .left)) in
     (ltb-true x n (both (l .going && leb (l .least) x) (ltb x n) (t .0) .1), leb-true 1 (l .left) (t .1))
 
@@ -45,7 +55,7 @@ returns : tie.Need-returns Inv-loop μ-loop
 returns c =
     let l = c .before .before .before .before .loop in
     let x = c .before .before .slot .result in
-    let a = c .before .before .before .before .before .before .args in
+    let a = entry (c .before .before .before .before) .args in
     sym (l .inv .1 ∙ ap (rest (a .n) (l .left) (l .least) (l .going)) (next (c .before .before))
     ∙ rest-bad (a .n) (l .left) (l .least) (l .going) x _ (ne-eqb _ _ (c .before .if1 .left)) (not-true _ (c .if2 .taken)))
 
@@ -65,7 +75,7 @@ loop-again : tie.Need-loop-again Inv-loop μ-loop
 loop-again c =
     let l = c .before .before .before .loop in
     let x = c .before .slot .result in
-    let a = c .before .before .before .before .before .args in (
+    let a = entry (c .before .before .before) .args in (
       search needs,
       choose (c .if1 .came)
           (λ w. rw (w .1, w .2, w .3) (l .inv .1 ∙ ap (rest (a .n) (l .left) (l .least) (l .going)) (next (c .before))
@@ -77,7 +87,7 @@ loop-again c =
 returns-2 : tie.Need-returns-2 Inv-loop μ-loop
 returns-2 c =
     let l = c .before .loop in
-    let a = c .before .before .before .args in
+    let a = entry (c .before) .args in
     sym (l .inv .1 ∙ ap (rest (a .n) (l .left) (l .least) (l .going)) (slots-end (a .splits .now) (a .i) (l .j) (omega arith)) ∙ rest-end (a .n) (l .left) (l .least) (l .going))
 
 pub good-slots-spec : {M : Type 1} → statement M

@@ -2,7 +2,8 @@
 use borrow.Author.Needs.{needs}
 use borrow.Author.Tests.{not-true, not-false}
 use mathlib.Core.Path.{_≡_, sym, ap₂, _∙_}
-use mathlib.Core.Bool.{true}
+use mathlib.Core.Bool.{Bool, true}
+use mathlib.Core.List.{List}
 use Prim.Native.Nat.{ℕ, _-_, _≤_}
 use native.Mathlib.Omega.{arith}
 use lib.Dec.{eqb}
@@ -14,14 +15,25 @@ use Rattle.tables.proofs.Turns.{every-none, every-more, every-stops, ev
 use Rattle.tables.proofs.rows_at.Statement.{statement}
 use Rattle.tables.proofs.rows_at.Tie as tie
 
+-- the row of part p, whose set is F, that byte c selects is the step
+abbrev right : List ℕ → List ℕ → List ℕ → ℕ → ℕ → ℕ → Bool
+right list classes rows p F c = eqb (row classes rows p c) (step list F c)
+
 abbrev Inv-loop : tie.InvT-loop
-Inv-loop list classes rows k p f c₀ c = (c ≤ byteValues) × (every c (λ d. eqb (row classes rows p d) (step list (setOf f) d)) ≡ true)
+Inv-loop list classes rows k p f c₀ c = (c ≤ byteValues) × (every c (right list classes rows p (setOf f)) ≡ true)
 
 abbrev μ-loop : tie.MeasureT-loop
 μ-loop list classes rows k p f c₀ c = byteValues - c
 
+-- the way back from the loop's head to the entry
+abbrev entry : tie.At-loop Inv-loop μ-loop → tie.Start Inv-loop μ-loop
+entry c = c .before .before .before .before
+
 -- what the test says
-said : (c : tie.After-same Inv-loop μ-loop) → c .same .result ≡ eqb (row (c .before .before .before .before .before .before .before .before .args .classes .now) (c .before .before .before .before .before .before .before .before .args .rows .now) (c .before .before .before .before .before .before .before .before .args .p) (c .before .before .before .before .loop .c)) (step (c .before .before .before .before .before .before .before .before .args .list .now) (setOf (c .before .before .before .before .before .before .before .before .args .f)) (c .before .before .before .before .loop .c))
+said : (c : tie.After-same Inv-loop μ-loop)
+    → let h = c .before .before .before .before in
+    let a = entry h .args in
+    c .same .result ≡ right (a .list .now) (a .classes .now) (a .rows .now) (a .p) (setOf (a .f)) (h .loop .c)
 said c = c .same .ensures ∙ ap₂ (λ (x y : ℕ). eqb x y) (c .before .before .row-set .ensures) (c .before .step .ensures)
 
 loop-holds : tie.Need-loop-holds Inv-loop μ-loop
@@ -43,7 +55,9 @@ same-requires : tie.Need-same-requires Inv-loop μ-loop
 same-requires c κs = search needs
 
 returns : tie.Need-returns Inv-loop μ-loop
-returns c = every-stops byteValues _ (c .before .before .before .before .before .loop .c) (omega arith) (sym (said (c .before)) ∙ not-true _ (c .if1 .taken))
+returns c =
+    let l = c .before .before .before .before .before .loop in
+    every-stops byteValues _ (l .c) (omega arith) (sym (said (c .before)) ∙ not-true _ (c .if1 .taken))
 
 add-c : tie.Need-add-c Inv-loop μ-loop
 add-c c = search needs
@@ -52,7 +66,9 @@ loop-less : tie.Need-loop-less Inv-loop μ-loop
 loop-less c = search needs
 
 loop-again : tie.Need-loop-again Inv-loop μ-loop
-loop-again c = (search needs, every-more _ (c .before .before .before .before .before .loop .c) (c .before .before .before .before .before .loop .inv .1) (sym (said (c .before)) ∙ not-false _ (c .if1 .left)))
+loop-again c =
+    let l = c .before .before .before .before .before .loop in
+    (search needs, every-more _ (l .c) (l .inv .1) (sym (said (c .before)) ∙ not-false _ (c .if1 .left)))
 
 returns-2 : tie.Need-returns-2 Inv-loop μ-loop
 returns-2 c = every-ends byteValues _ (c .before .loop .c) (omega arith) (c .before .loop .inv .1)

@@ -2,7 +2,8 @@
 use borrow.Author.Needs.{needs}
 use borrow.Author.Tests.{not-true, not-false}
 use mathlib.Core.Path.{_≡_, sym, ap, _∙_}
-use mathlib.Core.Bool.{true}
+use mathlib.Core.Bool.{Bool, true}
+use mathlib.Core.List.{List}
 use Prim.Native.Nat.{ℕ, _-_, _≤_}
 use native.Mathlib.Omega.{arith}
 use lib.Dec.{eqb}
@@ -14,15 +15,29 @@ use Rattle.tables.proofs.Turns.{every-none, every-more, every-stops, ev
 use Rattle.tables.proofs.rows_good.Statement.{statement}
 use Rattle.tables.proofs.rows_good.Tie as tie
 
+-- the rows of part p, whose set is F, that bytes select are the steps
+abbrev right : List ℕ → List ℕ → List ℕ → ℕ → ℕ → Bool
+right list classes rows p F = every byteValues (λ d. eqb (row classes rows p d) (step list F d))
+
 abbrev Inv-loop : tie.InvT-loop
-Inv-loop list classes parts rows k n p₀ p = (p ≤ n) × (every p (λ q. every byteValues (λ d. eqb (row classes rows q d) (step list (part parts q) d))) ≡ true)
+Inv-loop list classes parts rows k n p₀ p = (p ≤ n) × (every p (λ q. right list classes rows q (part parts q)) ≡ true)
 
 abbrev μ-loop : tie.MeasureT-loop
 μ-loop list classes parts rows k n p₀ p = n - p
 
+-- the way back from the loop's head to the entry
+abbrev entry : tie.At-loop Inv-loop μ-loop → tie.Start Inv-loop μ-loop
+entry c = c .before .before .before .before .before .before
+
 -- what the test says
-said : (c : tie.After-rows-at Inv-loop μ-loop) → c .rows-at .result ≡ every byteValues (λ d. eqb (row (c .before .before .before .before .before .before .before .before .before .args .classes .now) (c .before .before .before .before .before .before .before .before .before .args .rows .now) (c .before .before .before .loop .p) d) (step (c .before .before .before .before .before .before .before .before .before .args .list .now) (part (c .before .before .before .before .before .before .before .before .before .args .parts .now) (c .before .before .before .loop .p)) d))
-said c = c .rows-at .ensures ∙ ap (λ (F : ℕ). every byteValues (λ d. eqb (row (c .before .before .before .before .before .before .before .before .before .args .classes .now) (c .before .before .before .before .before .before .before .before .before .args .rows .now) (c .before .before .before .loop .p) d) (step (c .before .before .before .before .before .before .before .before .before .args .list .now) F d))) (c .before .part-set .ensures)
+said : (c : tie.After-rows-at Inv-loop μ-loop)
+    → let h = c .before .before .before in
+    let a = entry h .args in
+    c .rows-at .result ≡ right (a .list .now) (a .classes .now) (a .rows .now) (h .loop .p) (part (a .parts .now) (h .loop .p))
+said c =
+    let h = c .before .before .before in
+    let a = entry h .args in
+    c .rows-at .ensures ∙ ap (right (a .list .now) (a .classes .now) (a .rows .now) (h .loop .p)) (c .before .part-set .ensures)
 
 part-count-requires : tie.Need-part-count-requires Inv-loop μ-loop
 part-count-requires c κs = search needs
@@ -37,7 +52,9 @@ rows-at-requires : tie.Need-rows-at-requires Inv-loop μ-loop
 rows-at-requires c κs = search needs
 
 returns : tie.Need-returns Inv-loop μ-loop
-returns c = every-stops (partCount (c .before .before .before .before .before .before .before .before .before .before .args .parts .now)) _ (c .before .before .before .before .loop .p) (omega arith) (sym (said (c .before)) ∙ not-true _ (c .if1 .taken))
+returns c =
+    let h = c .before .before .before .before in
+    every-stops (partCount (entry h .args .parts .now)) _ (h .loop .p) (omega arith) (sym (said (c .before)) ∙ not-true _ (c .if1 .taken))
 
 add-p : tie.Need-add-p Inv-loop μ-loop
 add-p c = search needs
@@ -46,10 +63,12 @@ loop-less : tie.Need-loop-less Inv-loop μ-loop
 loop-less c = search needs
 
 loop-again : tie.Need-loop-again Inv-loop μ-loop
-loop-again c = (search needs, every-more _ (c .before .before .before .before .loop .p) (c .before .before .before .before .loop .inv .1) (sym (said (c .before)) ∙ not-false _ (c .if1 .left)))
+loop-again c =
+    let l = c .before .before .before .before .loop in
+    (search needs, every-more _ (l .p) (l .inv .1) (sym (said (c .before)) ∙ not-false _ (c .if1 .left)))
 
 returns-2 : tie.Need-returns-2 Inv-loop μ-loop
-returns-2 c = every-ends (partCount (c .before .before .before .before .before .before .before .args .parts .now)) _ (c .before .loop .p) (omega arith) (c .before .loop .inv .1)
+returns-2 c = every-ends (partCount (entry (c .before) .args .parts .now)) _ (c .before .loop .p) (omega arith) (c .before .loop .inv .1)
 
 pub rows-good-spec : {M : Type 1} → statement M
 rows-good-spec =

@@ -3,7 +3,8 @@ use borrow.Author.Needs.{needs}
 use borrow.Author.Tests.{not-true, not-false}
 use mathlib.Core.Path.{_≡_, sym, ap₂, _∙_}
 use mathlib.Core.Bool.{Bool, true, _&&_}
-use Prim.Native.Nat.{_-_, _≤_}
+use mathlib.Core.List.{List}
+use Prim.Native.Nat.{ℕ, _-_, _≤_}
 use native.Mathlib.Omega.{arith}
 use Rattle.sets.specs.Set.{before}
 use Rattle.rules.specs.Scan.{every}
@@ -12,14 +13,25 @@ use Rattle.tables.proofs.Turns.{every-none, every-more, every-stops, ev
 use Rattle.tables.proofs.splits_good.Statement.{statement}
 use Rattle.tables.proofs.splits_good.Tie as tie
 
+-- split i has good slots and is in order
+abbrev good : List ℕ → ℕ → ℕ → ℕ → Bool
+good splits n bound i = goodSlots n bound (slots splits i) && inOrder splits i
+
 abbrev Inv-loop : tie.InvT-loop
-Inv-loop splits n bound m i₀ i = (i ≤ m) × (every i (λ j. goodSlots n bound (slots splits j) && inOrder splits j) ≡ true)
+Inv-loop splits n bound m i₀ i = (i ≤ m) × (every i (good splits n bound) ≡ true)
 
 abbrev μ-loop : tie.MeasureT-loop
 μ-loop splits n bound m i₀ i = m - i
 
+-- the way back from the loop's head to the entry
+abbrev entry : tie.At-loop Inv-loop μ-loop → tie.Start Inv-loop μ-loop
+entry c = c .before .before .before
+
 -- what the test says
-said : (c : tie.After-in-order Inv-loop μ-loop) → (c .before .good-slots .result && c .in-order .result) ≡ (goodSlots (c .before .before .before .before .before .before .args .n) (c .before .before .before .before .before .before .args .bound) (slots (c .before .before .before .before .before .before .args .splits .now) (c .before .before .before .loop .i)) && inOrder (c .before .before .before .before .before .before .args .splits .now) (c .before .before .before .loop .i))
+said : (c : tie.After-in-order Inv-loop μ-loop)
+    → let h = c .before .before .before in
+    let a = entry h .args in
+    (c .before .good-slots .result && c .in-order .result) ≡ good (a .splits .now) (a .n) (a .bound) (h .loop .i)
 said c = ap₂ (λ (x y : Bool). x && y) (c .before .good-slots .ensures) (c .in-order .ensures)
 
 split-count-requires : tie.Need-split-count-requires Inv-loop μ-loop
@@ -35,7 +47,9 @@ in-order-requires : tie.Need-in-order-requires Inv-loop μ-loop
 in-order-requires c κs = search needs
 
 returns : tie.Need-returns Inv-loop μ-loop
-returns c = every-stops (splitCount (c .before .before .before .before .before .before .before .args .splits .now)) _ (c .before .before .before .before .loop .i) (omega arith) (sym (said (c .before)) ∙ not-true _ (c .if1 .taken))
+returns c =
+    let h = c .before .before .before .before in
+    every-stops (splitCount (entry h .args .splits .now)) _ (h .loop .i) (omega arith) (sym (said (c .before)) ∙ not-true _ (c .if1 .taken))
 
 add-i : tie.Need-add-i Inv-loop μ-loop
 add-i c = search needs
@@ -44,10 +58,12 @@ loop-less : tie.Need-loop-less Inv-loop μ-loop
 loop-less c = search needs
 
 loop-again : tie.Need-loop-again Inv-loop μ-loop
-loop-again c = (search needs, every-more _ (c .before .before .before .before .loop .i) (c .before .before .before .before .loop .inv .1) (sym (said (c .before)) ∙ not-false _ (c .if1 .left)))
+loop-again c =
+    let l = c .before .before .before .before .loop in
+    (search needs, every-more _ (l .i) (l .inv .1) (sym (said (c .before)) ∙ not-false _ (c .if1 .left)))
 
 returns-2 : tie.Need-returns-2 Inv-loop μ-loop
-returns-2 c = every-ends (splitCount (c .before .before .before .before .args .splits .now)) _ (c .before .loop .i) (omega arith) (c .before .loop .inv .1)
+returns-2 c = every-ends (splitCount (entry (c .before) .args .splits .now)) _ (c .before .loop .i) (omega arith) (c .before .loop .inv .1)
 
 pub splits-good-spec : {M : Type 1} → statement M
 splits-good-spec =

@@ -2,7 +2,8 @@
 use borrow.Author.Needs.{needs}
 use borrow.Author.Tests.{not-true, not-false}
 use mathlib.Core.Path.{_≡_, sym, ap₂, _∙_}
-use mathlib.Core.Bool.{true}
+use mathlib.Core.Bool.{Bool, true}
+use mathlib.Core.List.{List}
 use Prim.Native.Nat.{ℕ, _-_, _≤_}
 use native.Mathlib.Omega.{arith}
 use lib.Dec.{eqb}
@@ -13,14 +14,24 @@ use Rattle.tables.proofs.Turns.{every-none, every-more, every-stops, ev
 use Rattle.tables.proofs.unions_good.Statement.{statement}
 use Rattle.tables.proofs.unions_good.Tie as tie
 
+-- the set of split i is the union of its parts
+abbrev united : List ℕ → List ℕ → ℕ → Bool
+united parts splits i = eqb (splitSet splits i) (joined (part parts) (usedSlots (slots splits i)))
+
 abbrev Inv-loop : tie.InvT-loop
-Inv-loop parts splits n i₀ i = (i ≤ n) × (every i (λ j. eqb (splitSet splits j) (joined (part parts) (usedSlots (slots splits j)))) ≡ true)
+Inv-loop parts splits n i₀ i = (i ≤ n) × (every i (united parts splits) ≡ true)
 
 abbrev μ-loop : tie.MeasureT-loop
 μ-loop parts splits n i₀ i = n - i
 
+-- the way back from the loop's head to the entry
+abbrev entry : tie.At-loop Inv-loop μ-loop → tie.Start Inv-loop μ-loop
+entry c = c .before .before .before .before
+
 -- what the test says
-said : (c : tie.After-same Inv-loop μ-loop) → c .same .result ≡ eqb (splitSet (c .before .before .before .before .before .before .before .before .args .splits .now) (c .before .before .before .before .loop .i)) (joined (part (c .before .before .before .before .before .before .before .before .args .parts .now)) (usedSlots (slots (c .before .before .before .before .before .before .before .before .args .splits .now) (c .before .before .before .before .loop .i))))
+said : (c : tie.After-same Inv-loop μ-loop)
+    → let h = c .before .before .before .before in
+    c .same .result ≡ united (entry h .args .parts .now) (entry h .args .splits .now) (h .loop .i)
 said c = c .same .ensures ∙ ap₂ (λ (x y : ℕ). eqb x y) (c .before .before .split-set .ensures) (c .before .union-of .ensures)
 
 split-count-requires : tie.Need-split-count-requires Inv-loop μ-loop
@@ -39,7 +50,9 @@ same-requires : tie.Need-same-requires Inv-loop μ-loop
 same-requires c κs = search needs
 
 returns : tie.Need-returns Inv-loop μ-loop
-returns c = every-stops (splitCount (c .before .before .before .before .before .before .before .before .before .args .splits .now)) _ (c .before .before .before .before .before .loop .i) (omega arith) (sym (said (c .before)) ∙ not-true _ (c .if1 .taken))
+returns c =
+    let h = c .before .before .before .before .before in
+    every-stops (splitCount (entry h .args .splits .now)) _ (h .loop .i) (omega arith) (sym (said (c .before)) ∙ not-true _ (c .if1 .taken))
 
 add-i : tie.Need-add-i Inv-loop μ-loop
 add-i c = search needs
@@ -48,10 +61,12 @@ loop-less : tie.Need-loop-less Inv-loop μ-loop
 loop-less c = search needs
 
 loop-again : tie.Need-loop-again Inv-loop μ-loop
-loop-again c = (search needs, every-more _ (c .before .before .before .before .before .loop .i) (c .before .before .before .before .before .loop .inv .1) (sym (said (c .before)) ∙ not-false _ (c .if1 .left)))
+loop-again c =
+    let l = c .before .before .before .before .before .loop in
+    (search needs, every-more _ (l .i) (l .inv .1) (sym (said (c .before)) ∙ not-false _ (c .if1 .left)))
 
 returns-2 : tie.Need-returns-2 Inv-loop μ-loop
-returns-2 c = every-ends (splitCount (c .before .before .before .before .before .args .splits .now)) _ (c .before .loop .i) (omega arith) (c .before .loop .inv .1)
+returns-2 c = every-ends (splitCount (entry (c .before) .args .splits .now)) _ (c .before .loop .i) (omega arith) (c .before .loop .inv .1)
 
 pub unions-good-spec : {M : Type 1} → statement M
 unions-good-spec =
