@@ -8,6 +8,7 @@ mod clock;
 mod inputs;
 mod ordinary;
 mod proved;
+mod sizes;
 
 use inputs::{Bytes, Table};
 use ordinary::Fed;

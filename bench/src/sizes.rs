@@ -1,0 +1,31 @@
+//! The sizes of the rules, each in this one place.
+
+/// States are the numbers below this.
+pub const STATES: usize = 256;
+/// Signatures are the numbers below this.
+pub const SIGNATURES: usize = 256;
+/// A byte is a number below this, and each has a class.
+pub const BYTE_VALUES: usize = 256;
+
+/// A set of states: a bit for each.
+pub const SET_BYTES: usize = STATES / 8;
+/// The same set as words of 64 bits.
+pub const SET_WORDS: usize = STATES / 64;
+/// A set of signatures as words of 64 bits.
+pub const SIGNATURE_WORDS: usize = SIGNATURES / 64;
+
+/// A record of the list: kind, low, high, zero, from (2 bytes), to (2 bytes).
+pub const RECORD_BYTES: usize = 8;
+pub const MOST_RECORDS: usize = 4096;
+
+/// A flow record: the frontier, the offset (4 bytes), zeros (4 bytes), rows read (8 bytes).
+pub const FLOW_BYTES: usize = SET_BYTES + 16;
+pub const MOST_OFFSET: u64 = u32::MAX as u64;
+
+/// The slots of a split; the bound is at most this.
+pub const SLOTS: usize = 4;
+/// A split: a set, then a part number of 2 bytes in each slot.
+pub const SPLIT_BYTES: usize = SET_BYTES + 2 * SLOTS;
+pub const MOST_SPLITS: usize = 4096;
+pub const MOST_PARTS: usize = 1024;
+pub const CLASSES: usize = 64;
