@@ -1,4 +1,8 @@
 //! The lists, tables, flow records and pieces that the rows of the table run on. All are made by rule, so every run has the same.
+use crate::sizes::{
+    BYTE_VALUES, CLASSES, FLOW_BYTES, MOST_PARTS, MOST_RECORDS, MOST_SPLITS, RECORD_BYTES,
+    SET_BYTES, SIGNATURES, SLOTS, STATES,
+};
 use std::collections::BTreeSet;
 
 /// A split table that owns its four lists.
@@ -9,8 +13,11 @@ pub struct Table {
     pub splits: Vec<u8>,
 }
 
-/// A set as its 32 bytes.
-pub type Bytes = [u8; 32];
+/// A set as its bytes.
+pub type Bytes = [u8; SET_BYTES];
+
+/// A record of the list.
+type Record = [u8; RECORD_BYTES];
 
 /// A small generator of numbers (splitmix64).
 pub struct Dice(pub u64);
@@ -24,13 +31,29 @@ impl Dice {
         (z ^ (z >> 31)) % n
     }
 
-    fn byte(&mut self) -> u8 {
-        self.below(256) as u8
+    fn state(&mut self) -> u8 {
+        self.below(STATES as u64) as u8
+    }
+
+    /// A state that is not below another.
+    fn state_from(&mut self, from: u8) -> u8 {
+        from + self.below(STATES as u64 - u64::from(from)) as u8
+    }
+
+    fn signature(&mut self) -> u8 {
+        self.below(SIGNATURES as u64) as u8
+    }
+
+    /// Puts the records of a list into another order.
+    fn mix(&mut self, list: &mut [Record]) {
+        for i in (1..list.len()).rev() {
+            list.swap(i, self.below(i as u64 + 1) as usize);
+        }
     }
 }
 
 pub fn set_of(states: impl IntoIterator<Item = u8>) -> Bytes {
-    let mut set = [0; 32];
+    let mut set = [0; SET_BYTES];
     for s in states {
         set[usize::from(s / 8)] |= 1 << (s % 8);
     }
@@ -38,7 +61,7 @@ pub fn set_of(states: impl IntoIterator<Item = u8>) -> Bytes {
 }
 
 fn join(sets: impl IntoIterator<Item = Bytes>) -> Bytes {
-    let mut all = [0; 32];
+    let mut all = [0; SET_BYTES];
     for set in sets {
         all.iter_mut().zip(set).for_each(|(a, b)| *a |= b);
     }
@@ -49,20 +72,20 @@ fn holds(set: &Bytes, s: u8) -> bool {
     set[usize::from(s / 8)] >> (s % 8) & 1 == 1
 }
 
-fn edge(low: u8, high: u8, from: u8, to: u8) -> [u8; 8] {
+fn edge(low: u8, high: u8, from: u8, to: u8) -> Record {
     [1, low, high, 0, from, 0, to, 0]
 }
 
-fn start(state: u8) -> [u8; 8] {
+fn start(state: u8) -> Record {
     [2, 0, 0, 0, 0, 0, state, 0]
 }
 
-fn accept(state: u8, signature: u8) -> [u8; 8] {
+fn accept(state: u8, signature: u8) -> Record {
     [3, 0, 0, 0, state, 0, signature, 0]
 }
 
 /// The step of a set on a byte, for building tables.
-fn step(list: &[[u8; 8]], set: &Bytes, byte: u8) -> Bytes {
+fn step(list: &[Record], set: &Bytes, byte: u8) -> Bytes {
     set_of(
         list.iter()
             .filter(|r| r[0] == 1 && r[1] <= byte && byte <= r[2] && holds(set, r[4]))
@@ -71,9 +94,9 @@ fn step(list: &[[u8; 8]], set: &Bytes, byte: u8) -> Bytes {
 }
 
 /// A flow record: a frontier at offset 0.
-pub fn flow_at(frontier: Bytes) -> [u8; 48] {
-    let mut record = [0; 48];
-    record[..32].copy_from_slice(&frontier);
+pub fn flow_at(frontier: Bytes) -> [u8; FLOW_BYTES] {
+    let mut record = [0; FLOW_BYTES];
+    record[..SET_BYTES].copy_from_slice(&frontier);
     record
 }
 
@@ -100,35 +123,91 @@ pub fn barn_list() -> Vec<u8> {
     .concat()
 }
 
+/// An edge on one to six bytes.
+fn narrow_edge(dice: &mut Dice, from: u8, to: u8) -> Record {
+    let low = dice.below(250) as u8;
+    edge(low, low + dice.below(6) as u8, from, to)
+}
+
 /// A list of n records whose frontier is the first `frontier` states at every byte: each has an edge to itself on all bytes. The other
 /// edges have narrow ranges, leave any state, and lead back into the frontier where they leave it. One record in sixteen accepts.
 pub fn steady_list(n: usize, frontier: usize) -> Vec<u8> {
     let mut dice = Dice((n * 1000 + frontier) as u64);
-    let inside = frontier as u64;
     let mut list = vec![start(0)];
     list.extend((0..frontier).map(|s| edge(0, 255, s as u8, s as u8)));
     list.truncate(n);
     while list.len() < n {
-        let from = dice.byte();
+        let from = dice.state();
         // A frontier of all states would tell every signature at every byte: its list has edges alone.
-        if list.len() % 16 == 15 && frontier < 256 {
-            let state = inside + u64::from(from) % (256 - inside);
-            list.push(accept(state as u8, dice.byte()));
+        if list.len() % 16 == 15 && frontier < STATES {
+            let state = frontier + usize::from(from) % (STATES - frontier);
+            list.push(accept(state as u8, dice.signature()));
             continue;
         }
-        let to = if u64::from(from) < inside {
-            dice.below(inside) as u8
+        let to = if usize::from(from) < frontier {
+            dice.below(frontier as u64) as u8
         } else {
-            dice.byte()
+            dice.state()
         };
-        let low = dice.below(250) as u8;
-        list.push(edge(low, low + dice.below(6) as u8, from, to));
+        list.push(narrow_edge(&mut dice, from, to));
     }
-    // The order of the records is mixed.
-    for i in (1..list.len()).rev() {
-        list.swap(i, dice.below(i as u64 + 1) as usize);
-    }
+    dice.mix(&mut list);
     list.concat()
+}
+
+/// The orders of a line: each a letter and then its digit, "A0" to "H7". State 0 stays for ever; order i is at state 1 + i after its
+/// letter and at state 1 + ORDERS + i after its digit, which accepts.
+const ORDERS: u8 = 8;
+const ORDER_STATES: u8 = 1 + 2 * ORDERS;
+
+fn letter(order: u8) -> u8 {
+    b'A' + order
+}
+
+fn digit(order: u8) -> u8 {
+    b'0' + order
+}
+
+/// A list of n records: the orders, each with two signatures, among edges with narrow ranges that leave other states and lead anywhere.
+/// One record in sixteen accepts.
+pub fn orders_list(n: usize) -> Vec<u8> {
+    let mut dice = Dice(n as u64);
+    let mut list = vec![start(0), edge(0, 255, 0, 0)];
+    for order in 0..ORDERS {
+        let (half, whole) = (1 + order, 1 + ORDERS + order);
+        list.push(edge(letter(order), letter(order), 0, half));
+        list.push(edge(digit(order), digit(order), half, whole));
+        list.push(accept(whole, order));
+        list.push(accept(whole, 128 + order));
+    }
+    for _ in 2 * usize::from(ORDERS)..n / 16 {
+        list.push(accept(dice.state_from(ORDER_STATES), dice.signature()));
+    }
+    while list.len() < n {
+        let (from, to) = (dice.state_from(ORDER_STATES), dice.state());
+        list.push(narrow_edge(&mut dice, from, to));
+    }
+    dice.mix(&mut list);
+    list.concat()
+}
+
+/// Printable bytes in which letters of orders stand, and no whole order: nothing is told.
+pub fn quiet_bytes(n: usize) -> Vec<u8> {
+    let mut bytes = line(n);
+    for i in 1..n {
+        if (0..ORDERS).any(|order| bytes[i - 1] == letter(order) && bytes[i] == digit(order)) {
+            bytes[i] = b'.';
+        }
+    }
+    bytes
+}
+
+/// One order after another: two pairs at every second byte.
+pub fn telling_bytes(n: usize) -> Vec<u8> {
+    let orders = (0..ORDERS)
+        .cycle()
+        .flat_map(|order| [letter(order), digit(order)]);
+    orders.take(n).collect()
 }
 
 /// A list of 5 records: after the first byte the frontier is the states 0 to width - 1, for ever.
@@ -141,18 +220,22 @@ pub fn wide_list(width: u8) -> Vec<u8> {
     list.concat()
 }
 
-/// The list with accept records at the states 8 to 255, up to 4,096 records.
+/// The states from which on the parts are that the rows never take: a set of them is less, as a string of bytes, than one with a state
+/// below.
+const IDLE: u8 = 8;
+
+/// The list with accept records at the idle states, up to the most records.
 pub fn filled(mut list: Vec<u8>) -> Vec<u8> {
     let mut dice = Dice(4096);
-    while list.len() < 8 * 4096 {
-        list.extend(accept(8 + dice.below(248) as u8, dice.byte()));
+    while list.len() < RECORD_BYTES * MOST_RECORDS {
+        list.extend(accept(dice.state_from(IDLE), dice.signature()));
     }
     list
 }
 
 fn split(set: Bytes, slots: &[u16]) -> Vec<u8> {
     let mut bytes = set.to_vec();
-    for j in 0..4 {
+    for j in 0..SLOTS {
         bytes.extend(slots.get(j).unwrap_or(&u16::MAX).to_le_bytes());
     }
     bytes
@@ -199,9 +282,7 @@ impl Builder {
     fn fill_parts(&mut self, n: usize, from: u8) {
         while self.parts.len() < n {
             let size = 1 + self.dice.below(3);
-            let states: Vec<u8> = (0..size)
-                .map(|_| from + self.dice.below(256 - u64::from(from)) as u8)
-                .collect();
+            let states: Vec<u8> = (0..size).map(|_| self.dice.state_from(from)).collect();
             self.part(set_of(states));
         }
     }
@@ -219,8 +300,8 @@ impl Builder {
 
     /// The table over a list, where each class steps as its first byte does.
     fn table(&self, list: &[u8], classes: Vec<u8>) -> Table {
-        let list = list.as_chunks::<8>().0;
-        let count = 1 + *classes.iter().max().expect("256 classes");
+        let list = list.as_chunks().0;
+        let count = 1 + *classes.iter().max().expect("a class for each byte");
         let first: Vec<u8> = (0..count)
             .map(|k| {
                 classes
@@ -263,8 +344,27 @@ pub fn barn_table() -> Table {
     b.table(&barn_list(), classes.collect())
 }
 
+/// The bound of `orders_table`, and its splits: one for each state of the orders.
+pub const ORDERS_BOUND: u64 = 2;
+pub const ORDERS_SPLITS: usize = ORDER_STATES as usize;
+
+/// The table of `orders_list(n)`: a part for each state of the orders, and a split for each frontier that can be reached.
+pub fn orders_table(n: usize) -> Table {
+    let mut b = Builder::new(n as u64);
+    for s in 0..ORDER_STATES {
+        b.part(set_of([s]));
+        b.split(vec![0, u16::from(s)]);
+    }
+    let mut classes = vec![0; BYTE_VALUES];
+    for order in 0..ORDERS {
+        classes[usize::from(letter(order))] = 1 + order;
+        classes[usize::from(digit(order))] = 1 + ORDERS + order;
+    }
+    b.table(&orders_list(n), classes)
+}
+
 /// A table of n splits for `wide_list(width)`. The split of the steady frontier has `width` slots and stands last but for {0}: the
-/// sets before it have none of the states 0 to 7. With one slot in a split and 1,024 parts, no more than 1,025 sets can be splits;
+/// sets before it have idle states alone. With one slot in a split and 1,024 parts, no more than 1,025 sets can be splits;
 /// past that the set of an idle split is not the union of its parts, which the table check refuses and the feed does not look at.
 pub fn wide_table(n: usize, width: u8) -> Table {
     let mut b = Builder::new(n as u64 * 10 + u64::from(width));
@@ -277,12 +377,12 @@ pub fn wide_table(n: usize, width: u8) -> Table {
     let parts = match (n, width) {
         (16, _) => 40,
         (256, _) => 300,
-        _ => 1024,
+        _ => MOST_PARTS,
     };
-    b.fill_parts(parts, 8);
-    if width == 1 && n > 1024 {
+    b.fill_parts(parts, IDLE);
+    if width == 1 && n > MOST_PARTS {
         while b.splits.len() < n {
-            let states: Vec<u8> = (0..4).map(|_| 8 + b.dice.below(248) as u8).collect();
+            let states: Vec<u8> = (0..4).map(|_| b.dice.state_from(IDLE)).collect();
             let set = set_of(states);
             if b.sets.insert(set) {
                 b.splits.insert((set, vec![0]));
@@ -291,11 +391,11 @@ pub fn wide_table(n: usize, width: u8) -> Table {
     } else {
         b.fill_splits(n, usize::from(width), u64::from(width));
     }
-    b.table(&wide_list(width), vec![0; 256])
+    b.table(&wide_list(width), vec![0; BYTE_VALUES])
 }
 
-/// The largest list and table that the check accepts: 4,096 records, 1,024 parts of 1 to 3 states, 64 classes of 4 bytes, 4,096 splits,
-/// bound 4. On class k a state leads to the states of one set A of k, of another set B of k, or nowhere; so each step of a split is
+/// The largest list and table that the check accepts: the most records, parts of 1 to 3 states, classes of 4 bytes and splits, at the
+/// largest bound. On class k a state leads to the states of one set A of k, of another set B of k, or nowhere; so each step of a split is
 /// one of A, B, their union, and the empty set, and these are splits.
 pub fn largest() -> (Vec<u8>, Table) {
     let mut b = Builder::new(4096);
@@ -303,9 +403,9 @@ pub fn largest() -> (Vec<u8>, Table) {
     let home = b.part(set_of([0]));
     b.split(vec![]);
     b.split(vec![home]);
-    for class in 0..64u8 {
+    for class in 0..CLASSES as u8 {
         let pair = |b: &mut Builder| loop {
-            let (x, y) = (b.dice.byte(), b.dice.byte());
+            let (x, y) = (b.dice.state(), b.dice.state());
             if x != y {
                 break [x, y];
             }
@@ -315,10 +415,10 @@ pub fn largest() -> (Vec<u8>, Table) {
         b.split(vec![numbers[0]]);
         b.split(vec![numbers[1]]);
         b.split(numbers.to_vec());
-        if class < 62 {
+        if class < CLASSES as u8 - 2 {
             let mut leaving = BTreeSet::new();
             while leaving.len() < 32 {
-                let from = b.dice.byte();
+                let from = b.dice.state();
                 if leaving.insert(from) {
                     let group = groups[leaving.len() % 2];
                     list.extend(group.map(|to| edge(4 * class, 4 * class + 3, from, to)));
@@ -326,17 +426,14 @@ pub fn largest() -> (Vec<u8>, Table) {
             }
         }
     }
-    while list.len() < 4096 {
-        let (state, signature) = (b.dice.byte(), b.dice.byte());
+    while list.len() < MOST_RECORDS {
+        let (state, signature) = (b.dice.state(), b.dice.signature());
         list.push(accept(state, signature));
     }
-    for i in (1..list.len()).rev() {
-        let j = b.dice.below(i as u64 + 1) as usize;
-        list.swap(i, j);
-    }
+    b.dice.mix(&mut list);
     let list = list.concat();
-    b.fill_parts(1024, 0);
-    b.fill_splits(4096, 0, 4);
+    b.fill_parts(MOST_PARTS, 0);
+    b.fill_splits(MOST_SPLITS, 0, SLOTS as u64);
     let table = b.table(&list, (0..=255u8).map(|c| c / 4).collect());
     (list, table)
 }
@@ -356,8 +453,8 @@ pub fn largest_small_list() -> (Vec<u8>, Table) {
                 .collect(),
         );
     }
-    b.fill_parts(1024, 0);
-    b.fill_splits(4096, 0, 4);
+    b.fill_parts(MOST_PARTS, 0);
+    b.fill_splits(MOST_SPLITS, 0, SLOTS as u64);
     let classes = (0..=255u8).map(|c| match c {
         b'a' => 1,
         b'b' => 2,

@@ -3,7 +3,10 @@
 //! `bench` alone has a column for this build of the Rust code. `bench OTHER`, with the path of the same program built for this machine's
 //! own processor, has one for that build too: OTHER is started as a worker (`OTHER worker`), names its archive, gets the number of a row a line, and answers
 //! the nanoseconds of a call. `bench check` compares the results of all rows and measures nothing. With ROWS=TEXT in the environment
-//! only the rows with that text in their names are measured.
+//! only the rows with that text in their names are taken.
+//!
+//! bench/count uses the other two: `bench rows` names the archive, and then for each row its number, how many calls a turn has, and its
+//! name; `bench turn SIDE ROW CALLS` makes these calls of one side, and says how many bytes each consumes, or - where the row is about calls.
 mod clock;
 mod inputs;
 mod ordinary;
@@ -12,13 +15,14 @@ mod sizes;
 
 use inputs::{Bytes, Table};
 use ordinary::Fed;
+use sizes::{FLOW_BYTES, MOST_PARTS, MOST_RECORDS, MOST_SPLITS, SLOTS, STATES};
 use std::hint::black_box;
 use std::io::{BufRead, BufReader, Write};
 use std::process::{Child, ChildStdin, ChildStdout, Command, Stdio};
 use std::time::Instant;
 
 /// The archive that this program is linked with.
-const ARCHIVE: &str = env!("ARCHIVE");
+const ARCHIVE: &[u8] = include_bytes!(env!("ARCHIVE"));
 
 /// Runs of a row, each of every side in turn. The answer is their median.
 const RUNS: usize = 21;
@@ -56,7 +60,7 @@ enum Call {
     CheckList,
     Open,
     Feed {
-        flow: [u8; 48],
+        flow: [u8; FLOW_BYTES],
         piece: Vec<u8>,
     },
     CheckTable {
@@ -66,28 +70,47 @@ enum Call {
     SplitFeed {
         bound: u64,
         table: Table,
-        flow: [u8; 48],
+        flow: [u8; FLOW_BYTES],
         piece: Vec<u8>,
     },
 }
 
+/// A row of the table: its name, how many calls a turn of bench/count has, and what makes its list and call.
 struct Row {
+    name: String,
+    turn: u32,
+    make: Box<dyn Fn() -> (Vec<u8>, Call)>,
+}
+
+/// A row that is made.
+struct Work {
     name: String,
     list: Vec<u8>,
     call: Call,
 }
 
+impl Row {
+    fn work(&self) -> Work {
+        let (list, call) = (self.make)();
+        Work {
+            name: self.name.clone(),
+            list,
+            call,
+        }
+    }
+}
+
 /// The buffers that a call writes to: a flow record and the pairs.
 #[derive(Clone, PartialEq)]
 struct Buffers {
-    flow: [u8; 48],
+    flow: [u8; FLOW_BYTES],
     pairs: Vec<u32>,
 }
 
 impl Buffers {
     fn new() -> Buffers {
         Buffers {
-            flow: [0xAA; 48],
+            flow: [0xAA; FLOW_BYTES],
             pairs: vec![0xAAAA_AAAA; 8192],
         }
     }
@@ -102,7 +125,7 @@ fn lent(table: &Table) -> ordinary::Table<'_> {
     }
 }
 
-impl Row {
+impl Work {
     fn run(&self, side: &Side, buffers: &mut Buffers) -> Fed {
         let checked = |refusal| Fed {
             refusal,
@@ -149,7 +172,8 @@ impl Row {
         }
     }
 
-    /// Runs both sides once and compares answers, flow records and all words of the pairs buffer.
+    /// Runs both sides once and compares answers, flow records and all words of the pairs buffer. Rows with traffic tell what their names
+    /// say, and their tables pass the check.
     fn compare(&self) {
         let (mut ours, mut theirs) = (Buffers::new(), Buffers::new());
         let answer = self.run(&PROVED, &mut ours);
@@ -166,15 +190,29 @@ impl Row {
             "{}: no room",
             self.name
         );
+        let (quiet, telling) = (self.name.ends_with(QUIET), self.name.ends_with(TELLING));
+        if quiet || telling {
+            let due = if quiet { 0 } else { answer.bytes };
+            assert_eq!(answer.pairs, due, "{}: pairs", self.name);
+            if let Call::SplitFeed { bound, table, .. } = &self.call {
+                let refusal = ordinary::check_table(&self.list, *bound, &lent(table));
+                assert_eq!(refusal, 0, "{}: table", self.name);
+            }
+        }
+    }
+
+    /// Calls one side again and again.
+    fn repeat(&self, side: &Side, calls: u32, buffers: &mut Buffers) {
+        for _ in 0..calls {
+            black_box(black_box(self).run(side, buffers));
+        }
     }
 
     /// The nanoseconds of one call, over a run of them.
     fn time(&self, side: &Side, calls: u32) -> f64 {
         let mut buffers = Buffers::new();
         let begin = clock::now();
-        for _ in 0..calls {
-            black_box(black_box(self).run(side, &mut buffers));
-        }
+        self.repeat(side, calls, &mut buffers);
         (clock::now() - begin) / f64::from(calls)
     }
 
@@ -191,96 +229,192 @@ impl Row {
     }
 }
 
+/// How the names of rows end in which nothing is told, and of those with two pairs at every second byte.
+const QUIET: &str = "quiet bytes";
+const TELLING: &str = "bytes that tell";
+
+/// A number with a comma after the thousands.
+fn number(n: usize) -> String {
+    match n {
+        0..1000 => n.to_string(),
+        _ => format!("{},{:03}", n / 1000, n % 1000),
+    }
+}
+
 fn rows() -> Vec<Row> {
     let mut rows: Vec<Row> = Vec::new();
-    let mut row = |name: String, list: Vec<u8>, call: Call| rows.push(Row { name, list, call });
-    let first = |n: usize| -> Bytes { inputs::set_of((0..n).map(|s| s as u8)) };
-    let fed = |frontier: usize, bytes: usize| Call::Feed {
-        flow: inputs::flow_at(first(frontier)),
-        piece: inputs::line(bytes),
+    let mut row = |name: String, turn: u32, make: Box<dyn Fn() -> (Vec<u8>, Call)>| {
+        rows.push(Row { name, turn, make })
     };
+    fn first(n: usize) -> Bytes {
+        inputs::set_of((0..n).map(|s| s as u8))
+    }
+    fn fed(frontier: usize, piece: Vec<u8>) -> Call {
+        Call::Feed {
+            flow: inputs::flow_at(first(frontier)),
+            piece,
+        }
+    }
+    fn split_fed(bound: u64, table: Table, piece: Vec<u8>) -> Call {
+        Call::SplitFeed {
+            bound,
+            table,
+            flow: inputs::flow_at(first(1)),
+            piece,
+        }
+    }
+    let (full, most_splits, most_parts) = (
+        number(MOST_RECORDS),
+        number(MOST_SPLITS),
+        number(MOST_PARTS),
+    );
 
     row(
         "plain feed, 5 records, frontier 1".into(),
-        inputs::barn_list(),
-        fed(1, 4096),
+        8,
+        Box::new(|| (inputs::barn_list(), fed(1, inputs::line(4096)))),
     );
-    let piece = b"ab".repeat(2048);
-    let flow = inputs::flow_at(first(1));
     row(
         "the same, a pair at every second byte".into(),
-        inputs::barn_list(),
-        Call::Feed { flow, piece },
+        8,
+        Box::new(|| (inputs::barn_list(), fed(1, b"ab".repeat(2048)))),
     );
-    for frontier in [1, 8, 256] {
-        let name = format!("plain feed, 5 records, frontier {frontier}, pieces of 1 byte");
-        row(name, inputs::barn_list(), fed(frontier, 1));
-    }
-    for records in [16, 256] {
-        let name = format!("plain feed, {records} records, frontier 8");
-        row(name, inputs::steady_list(records, 8), fed(8, 1024));
-    }
-    for (frontier, bytes) in [(1, 512), (8, 128), (64, 16), (256, 8)] {
-        let name = format!("plain feed, 4,096 records, frontier {frontier}");
+    for frontier in [1, 8, STATES] {
         row(
-            name,
-            inputs::steady_list(4096, frontier),
-            fed(frontier, bytes),
+            format!("plain feed, 5 records, frontier {frontier}, pieces of 1 byte"),
+            64,
+            Box::new(move || (inputs::barn_list(), fed(frontier, inputs::line(1)))),
         );
     }
-    let split_fed = |splits: usize, bound: u64, bytes: usize| Call::SplitFeed {
-        bound,
-        table: inputs::wide_table(splits, bound as u8),
-        flow: inputs::flow_at(first(1)),
-        piece: inputs::line(bytes),
-    };
-    for (splits, shown, bytes) in [(16, "16", 4096), (256, "256", 2048), (4096, "4,096", 256)] {
-        for bound in 1..=4 {
-            let name = format!("split feed, {shown} splits, bound {bound}, 5 records");
+    for records in [16, 256] {
+        row(
+            format!("plain feed, {records} records, frontier 8"),
+            4,
+            Box::new(move || {
+                let list = inputs::steady_list(records, 8);
+                (list, fed(8, inputs::line(1024)))
+            }),
+        );
+    }
+    for (frontier, bytes) in [(1, 512), (8, 128), (64, 16), (STATES, 8)] {
+        row(
+            format!("plain feed, {full} records, frontier {frontier}"),
+            2,
+            Box::new(move || {
+                let list = inputs::steady_list(MOST_RECORDS, frontier);
+                (list, fed(frontier, inputs::line(bytes)))
+            }),
+        );
+    }
+    let traffic: [(&str, fn(usize) -> Vec<u8>); 2] = [
+        (QUIET, inputs::quiet_bytes),
+        (TELLING, inputs::telling_bytes),
+    ];
+    for records in [318, MOST_RECORDS] {
+        for (kind, bytes) in traffic {
             row(
-                name,
-                inputs::wide_list(bound as u8),
-                split_fed(splits, bound, bytes),
+                format!("plain feed, {} records, {kind}", number(records)),
+                2,
+                Box::new(move || (inputs::orders_list(records), fed(1, bytes(1024)))),
             );
         }
     }
-    let list = inputs::filled(inputs::wide_list(4));
+    for (splits, bytes) in [(16, 4096), (256, 2048), (MOST_SPLITS, 256)] {
+        for bound in 1..=SLOTS as u8 {
+            row(
+                format!(
+                    "split feed, {} splits, bound {bound}, 5 records",
+                    number(splits)
+                ),
+                4,
+                Box::new(move || {
+                    let table = inputs::wide_table(splits, bound);
+                    let call = split_fed(bound.into(), table, inputs::line(bytes));
+                    (inputs::wide_list(bound), call)
+                }),
+            );
+        }
+    }
     row(
-        "split feed, 4,096 splits, bound 4, 4,096 records".into(),
-        list,
-        split_fed(4096, 4, 256),
+        format!("split feed, {most_splits} splits, bound {SLOTS}, {full} records"),
+        4,
+        Box::new(|| {
+            let table = inputs::wide_table(MOST_SPLITS, SLOTS as u8);
+            let list = inputs::filled(inputs::wide_list(SLOTS as u8));
+            (list, split_fed(SLOTS as u64, table, inputs::line(256)))
+        }),
     );
-    let full = inputs::steady_list(4096, 8);
-    row("opening, 5 records".into(), inputs::barn_list(), Call::Open);
-    row("opening, 4,096 records".into(), full.clone(), Call::Open);
+    for records in [318, MOST_RECORDS] {
+        for (kind, bytes) in traffic {
+            let (splits, bound) = (inputs::ORDERS_SPLITS, inputs::ORDERS_BOUND);
+            row(
+                format!(
+                    "split feed, {splits} splits, bound {bound}, {} records, {kind}",
+                    number(records)
+                ),
+                2,
+                Box::new(move || {
+                    let table = inputs::orders_table(records);
+                    let call = split_fed(bound, table, bytes(4096));
+                    (inputs::orders_list(records), call)
+                }),
+            );
+        }
+    }
+    row(
+        "opening, 5 records".into(),
+        64,
+        Box::new(|| (inputs::barn_list(), Call::Open)),
+    );
+    row(
+        format!("opening, {full} records"),
+        8,
+        Box::new(|| (inputs::steady_list(MOST_RECORDS, 8), Call::Open)),
+    );
     row(
         "list check, 5 records".into(),
-        inputs::barn_list(),
-        Call::CheckList,
+        64,
+        Box::new(|| (inputs::barn_list(), Call::CheckList)),
     );
-    row("list check, 4,096 records".into(), full, Call::CheckList);
-    let call = Call::CheckTable {
-        bound: 2,
-        table: inputs::barn_table(),
-    };
+    row(
+        format!("list check, {full} records"),
+        8,
+        Box::new(|| (inputs::steady_list(MOST_RECORDS, 8), Call::CheckList)),
+    );
     row(
         "table check, 3 splits, 3 parts, 5 records".into(),
-        inputs::barn_list(),
-        call,
+        8,
+        Box::new(|| {
+            let (bound, table) = (2, inputs::barn_table());
+            (inputs::barn_list(), Call::CheckTable { bound, table })
+        }),
     );
-    let (list, table) = inputs::largest_small_list();
-    row(
-        "table check, 4,096 splits, 1,024 parts, 5 records".into(),
-        list,
-        Call::CheckTable { bound: 4, table },
-    );
-    let (list, table) = inputs::largest();
-    row(
-        "table check, 4,096 splits, 1,024 parts, 4,096 records".into(),
-        list,
-        Call::CheckTable { bound: 4, table },
-    );
+    let largest: [(&str, fn() -> (Vec<u8>, Table)); 2] =
+        [("5", inputs::largest_small_list), (&full, inputs::largest)];
+    for (records, make) in largest {
+        row(
+            format!("table check, {most_splits} splits, {most_parts} parts, {records} records"),
+            1,
+            Box::new(move || {
+                let (list, table) = make();
+                let bound = SLOTS as u64;
+                (list, Call::CheckTable { bound, table })
+            }),
+        );
+    }
+    let wanted = std::env::var("ROWS").unwrap_or_default();
+    rows.retain(|row| row.name.contains(&wanted));
     rows
+}
+
+/// The archive's size and a checksum of its bytes (FNV-1a), so that a table says what it measures.
+fn archive() -> String {
+    let sum = ARCHIVE
+        .iter()
+        .fold(0xcbf2_9ce4_8422_2325_u64, |sum, &byte| {
+            (sum ^ u64::from(byte)).wrapping_mul(0x100_0000_01b3)
+        });
+    format!("{} bytes, checksum {sum:016x}", ARCHIVE.len())
 }
 
 /// The other build, as a process that times its own Rust code.
@@ -300,9 +434,9 @@ impl Worker {
             .expect("the other build starts");
         let ask = child.stdin.take().expect("piped");
         let mut answers = BufReader::new(child.stdout.take().expect("piped"));
-        let mut archive = String::new();
-        answers.read_line(&mut archive).expect("the worker answers");
-        assert_eq!(archive.trim(), ARCHIVE, "both builds have one archive");
+        let mut theirs = String::new();
+        answers.read_line(&mut theirs).expect("the worker answers");
+        assert_eq!(theirs.trim(), archive(), "both builds have one archive");
         Worker {
             child,
             ask,
@@ -327,16 +461,19 @@ impl Worker {
 }
 
 fn work() {
-    println!("{ARCHIVE}");
+    println!("{}", archive());
     let rows = rows();
-    let mut calls = vec![None; rows.len()];
+    let mut made: Option<(usize, Work, u32)> = None;
     for line in std::io::stdin().lines() {
         let i: usize = line.expect("a line").parse().expect("a row's number");
-        let calls = *calls[i].get_or_insert_with(|| {
-            rows[i].compare();
-            rows[i].calls(&ORDINARY)
-        });
-        println!("{}", rows[i].time(&ORDINARY, calls));
+        if made.as_ref().is_none_or(|&(number, ..)| number != i) {
+            let work = rows[i].work();
+            work.compare();
+            let calls = work.calls(&ORDINARY);
+            made = Some((i, work, calls));
+        }
+        let (_, work, calls) = made.as_ref().expect("made above");
+        println!("{}", work.time(&ORDINARY, *calls));
     }
 }
 
@@ -364,7 +501,7 @@ fn scaled(x: f64, units: [&str; 4]) -> String {
 }
 
 /// Bytes in a second where the row consumes bytes, else the time of a call.
-fn shown(row: &Row, nanoseconds: f64) -> String {
+fn shown(row: &Work, nanoseconds: f64) -> String {
     match row.bytes() {
         Some(n) => scaled(
             n as f64 * 1e9 / nanoseconds,
@@ -383,16 +520,15 @@ fn measure(other: Option<&str>) {
     let begin = Instant::now();
     let rows = rows();
     let mut worker = other.map(Worker::start);
-    println!("Archive of {ARCHIVE}. Load at the beginning {}.", load());
+    println!(
+        "Archive of {}. Load at the beginning {}.",
+        archive(),
+        load()
+    );
     println!();
     println!("| row | proved | Rust, baseline | times | Rust, native | times |");
     println!("|---|---:|---:|---:|---:|---:|");
-    let wanted = std::env::var("ROWS").unwrap_or_default();
-    for (i, row) in rows
-        .iter()
-        .enumerate()
-        .filter(|(_, row)| row.name.contains(&wanted))
-    {
+    for (i, row) in rows.iter().map(Row::work).enumerate() {
         row.compare();
         let calls = [row.calls(&PROVED), row.calls(&ORDINARY)];
         if let Some(worker) = &mut worker {
@@ -409,13 +545,13 @@ fn measure(other: Option<&str>) {
         }
         let [ours, rust, native] = times;
         let (ours, rust) = (median(ours), median(rust));
-        let (name, a, b) = (&row.name, shown(row, ours), shown(row, rust));
+        let (name, a, b) = (&row.name, shown(&row, ours), shown(&row, rust));
         print!("| {name} | {a} | {b} | {:.2} |", ours / rust);
         if native.is_empty() {
             println!(" - | - |");
         } else {
             let native = median(native);
-            println!(" {} | {:.2} |", shown(row, native), ours / native);
+            println!(" {} | {:.2} |", shown(&row, native), ours / native);
         }
     }
     if let Some(worker) = worker {
@@ -426,11 +562,41 @@ fn measure(other: Option<&str>) {
     println!("Load at the end {}, {seconds} s in all. Both sides gave the same answers, records and words in every row.", load());
 }
 
+/// The rows, for bench/count.
+fn name_rows() {
+    println!("{}", archive());
+    for (i, Row { name, turn, .. }) in rows().iter().enumerate() {
+        println!("{i} {turn} {name}");
+    }
+}
+
+/// Makes some calls of one side, for bench/count.
+fn turn(side: &str, row: &str, calls: &str) {
+    let side = match side {
+        "proved" => &PROVED,
+        "rust" => &ORDINARY,
+        _ => panic!("the side is proved or rust"),
+    };
+    let row: usize = row.parse().expect("a row's number");
+    let work = rows()[row].work();
+    let calls = calls.parse().expect("a number of calls");
+    work.repeat(side, calls, &mut Buffers::new());
+    match work.bytes() {
+        Some(n) => println!("{n}"),
+        None => println!("-"),
+    }
+}
+
 fn main() {
-    let argument = std::env::args().nth(1);
-    match argument.as_deref() {
-        Some("worker") => work(),
-        Some("check") => rows().iter().for_each(Row::compare),
-        other => measure(other),
+    let arguments: Vec<String> = std::env::args().skip(1).collect();
+    let arguments: Vec<&str> = arguments.iter().map(String::as_str).collect();
+    match arguments[..] {
+        ["worker"] => work(),
+        ["check"] => rows().iter().for_each(|row| row.work().compare()),
+        ["rows"] => name_rows(),
+        ["turn", side, row, calls] => turn(side, row, calls),
+        [] => measure(None),
+        [other] => measure(Some(other)),
+        _ => panic!("the head of main.rs says what can be asked"),
     }
 }
