@@ -10,11 +10,14 @@
  *
  * FORMATS
  *
+ * The sizes and limits have names that begin with WATCH_. Their numbers stand below this text.
+ *
  * Numbers of more than one byte have the low byte first.
  *
- * A set is 32 bytes: state s is bit s mod 8 (bit 0 is worth 1) of byte s div 8.
+ * A set is WATCH_SET_SIZE bytes: state s is bit s mod 8 (bit 0 is worth 1) of byte s div 8.
  *
- * The signature list is 1 to 4,096 records of 8 bytes, in any order, repeats allowed. States and signatures are 0 to 255.
+ * The signature list is 1 to WATCH_MOST_RECORDS records of WATCH_RECORD_SIZE bytes, in any order, repeats allowed. States are the
+ * numbers below WATCH_STATES, signatures those below WATCH_SIGNATURES.
  *
  *     byte 0      bytes 1 to 7
  *     1, edge     1 low, 2 high, 3 zero, 4-5 from, 6-7 to: taken on byte c when low <= c <= high
@@ -23,35 +26,38 @@
  *
  * At least one start record; accept records may be missing. A state may accept several signatures.
  *
- * The flow record is WATCH_FLOW_SIZE (48) bytes: 0-31 the frontier, a set; 32-35 the offset; 36-39 zero; 40-47 rows read. The
- * offset is the number of bytes consumed since the opening, at most 4,294,967,295. Rows read counts the work: the plain
- * feed adds, for each byte consumed, the number of states in the frontier before it; the split feed adds the slots that it took.
- * A record that was saved under another list is not told from a good one; it is run as it stands.
+ * The flow record is WATCH_FLOW_SIZE bytes: the frontier, a set; from byte WATCH_OFFSET_AT on the offset, 4 bytes; from WATCH_RESERVED_AT
+ * on 4 zeros; from WATCH_ROWS_AT on the rows read, 8 bytes. The offset is the number of bytes consumed since the opening, at
+ * most WATCH_MOST_OFFSET. Rows read counts the work: the plain feed adds, for each byte consumed, the number of states in the
+ * frontier before it; the split feed adds the slots that it took. A record that was saved under another list is not told from a
+ * good one; it is run as it stands.
  *
  * Pairs are 32-bit words in the machine's own order: signature, offset, signature, offset and so on, by offset, then by signature. Each
  * is told once. The pair (g, k) is due when the frontier after k bytes of the flow, k from 1 on, holds a state that accepts g.
  *
- * A split table is four lists and a bound of 1 to 4:
+ * A split table is four lists and a bound of 1 to WATCH_MOST_BOUND:
  *
- *     classes     exactly 256 bytes, each 0 to 63: the class of each byte. K is the largest plus 1
- *     parts       1 to 1,024 sets
+ *     classes     exactly WATCH_BYTE_VALUES bytes, each 0 to WATCH_MOST_CLASS: the class of each byte. K is the largest plus 1
+ *     parts       1 to WATCH_MOST_PARTS sets
  *     rows        parts x K sets: the row of part p and class k is number p x K + k
- *     splits      1 to 4,096 records of 40 bytes: a set, then four 2-byte part numbers, 65,535 for an unused slot
+ *     splits      1 to WATCH_MOST_SPLITS records of WATCH_SPLIT_SIZE bytes: a set, then WATCH_SLOTS slots, each a 2-byte part
+ *                 number, or WATCH_UNUSED
  *
  *
  * REFUSALS
  *
  * A refusal is one of these numbers, and 0 where there is none. Where several apply, the lowest is given.
  *
- *      1   the list's length is 0, over 32,768, or no multiple of 8
- *      2   a record of the list has another kind, a reserved byte that is not zero, low > high, or a state or signature over 255
+ *      1   the list's length is 0, over WATCH_MOST_LIST, or no multiple of WATCH_RECORD_SIZE
+ *      2   a record of the list has another kind, a reserved byte that is not zero, low > high, a state that is not below
+ *          WATCH_STATES, or a signature that is not below WATCH_SIGNATURES
  *      3   the list has no start record
- *      4   the flow record is not 48 bytes long; or, when it is fed, its bytes 36-39 are not zero or its rows read are
- *          more than 256 x offset
+ *      4   the flow record is not WATCH_FLOW_SIZE bytes long; or, when it is fed, its four reserved bytes are not zero or its rows
+ *          read are more than WATCH_STATES x offset
  *      5   the piece's stated start is not the flow's offset
- *      6   offset + piece length is over 4,294,967,295
- *      7   the bound is not 1 to 4
- *      8   a list of the table has the wrong length, or a class is over 63
+ *      6   offset + piece length is over WATCH_MOST_OFFSET
+ *      7   the bound is not 1 to WATCH_MOST_BOUND
+ *      8   a list of the table has the wrong length, or a class is over WATCH_MOST_CLASS
  *      9   a split has a used slot that names no part, a used slot after an unused one, slots that do not strictly rise, more used
  *          slots than the bound, or a set that is not greater, as a string of bytes, than the one before
  *     10   a row that some byte selects is not the automaton's step of its part on that byte
@@ -93,11 +99,49 @@
 extern "C" {
 #endif
 
-/* Bytes in a flow record. */
-#define WATCH_FLOW_SIZE 48
+/* States are the numbers below this one. */
+#define WATCH_STATES 256
 
-/* Words of pairs with which a feed never stands still: room for 256 pairs. */
-#define WATCH_ENOUGH_WORDS 512
+/* Signatures are the numbers below this one. */
+#define WATCH_SIGNATURES 256
+
+/* Bytes in a set of states: a bit for each. */
+#define WATCH_SET_SIZE (WATCH_STATES / 8)
+
+/* Bytes in a record of the list, the most records that a list may have, and the bytes of a list of so many. */
+#define WATCH_RECORD_SIZE 8
+#define WATCH_MOST_RECORDS 4096
+#define WATCH_MOST_LIST (WATCH_MOST_RECORDS * WATCH_RECORD_SIZE)
+
+/* The places of the offset, the reserved bytes and the rows read in a flow record, which begins with a set; and its bytes. */
+#define WATCH_OFFSET_AT WATCH_SET_SIZE
+#define WATCH_RESERVED_AT (WATCH_OFFSET_AT + 4)
+#define WATCH_ROWS_AT (WATCH_RESERVED_AT + 4)
+#define WATCH_FLOW_SIZE (WATCH_ROWS_AT + 8)
+
+/* The largest offset. */
+#define WATCH_MOST_OFFSET 4294967295
+
+/* Words of pairs with which a feed never stands still: room for a pair of each signature. */
+#define WATCH_ENOUGH_WORDS (2 * WATCH_SIGNATURES)
+
+/* Bytes that a piece may have; each has a class. */
+#define WATCH_BYTE_VALUES 256
+
+/* The largest class, the most parts and the most splits of a table. */
+#define WATCH_MOST_CLASS 63
+#define WATCH_MOST_PARTS 1024
+#define WATCH_MOST_SPLITS 4096
+
+/* The largest bound. */
+#define WATCH_MOST_BOUND 4
+
+/* Slots in a split, and the number in one that is not in use. */
+#define WATCH_SLOTS 4
+#define WATCH_UNUSED 65535
+
+/* Bytes in a split: its set, then its slots of two bytes. */
+#define WATCH_SPLIT_SIZE (WATCH_SET_SIZE + 2 * WATCH_SLOTS)
 
 /* What a feed answers. */
 struct watch_fed {

@@ -21,8 +21,8 @@
 
 #include "watch.h"
 
-/* The longest list is 32,768 bytes; one byte more shows that a list is too long. */
-enum { MOST_LIST = 32768, PIECE = 7 };
+/* Bytes of a piece. */
+enum { PIECE = 7 };
 
 static unsigned pieces, pauses, saves;
 
@@ -88,7 +88,8 @@ int main(int argc, char **argv)
     }
     const char *rules = argc == 3 ? argv[2] : "examples/two-breakfasts/rules.bin";
 
-    static uint8_t list[MOST_LIST + 1];
+    /* One byte more than the longest list shows that a list is too long. */
+    static uint8_t list[WATCH_MOST_LIST + 1];
     FILE *file = opened(rules);
     size_t list_len = fread(list, 1, sizeof list, file);
     fclose(file);
