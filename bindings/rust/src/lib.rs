@@ -1,7 +1,8 @@
 //! A signature matcher whose code is proved: for every list, table, saved record and piece of bytes it does what its rules say.
 //!
 //! A [`List`] of signatures is an automaton. A [`Flow`] of bytes is fed to it in pieces, and each time that a signature ends there is a
-//! [`Pair`]: the signature's number and the offset at which it ends. A flow is 48 bytes, so it can be saved between any two pieces.
+//! [`Pair`]: the signature's number and the offset at which it ends. A flow is [`FLOW_SIZE`] bytes, so it can be saved between any two
+//! pieces.
 //!
 //! ```
 //! use watch::{Flow, List, Pair};
@@ -16,7 +17,7 @@
 //! ];
 //! let list = List::check(&bytes)?;
 //! let mut flow = Flow::open(&list);
-//! let mut words = [0; 512];
+//! let mut words = [0; watch::ENOUGH_WORDS];
 //!
 //! let fed = flow.feed(&list, 0, b"abab", &mut words)?;
 //! assert!(fed.all);
@@ -53,11 +54,11 @@
 //! # assert_eq!(told, 1000);
 //! ```
 //!
-//! With room for 256 pairs ([`ENOUGH_WORDS`]) a feed of a non-empty piece that is not refused consumes at least one byte, so such a loop ends.
+//! With [`ENOUGH_WORDS`] words a feed of a non-empty piece that is not refused consumes at least one byte, so such a loop ends.
 //!
 //! # Split tables
 //!
-//! A [`Table`] is an automaton worked out beforehand, with at most four rows read a byte. One that passes [`Table::check`] tells the same
+//! A [`Table`] is an automaton worked out beforehand, with at most [`MOST_BOUND`] rows read a byte. One that passes [`Table::check`] tells the same
 //! pairs as the plain feed.
 //!
 //! # Linking
@@ -73,21 +74,21 @@
 
 pub mod raw;
 mod refusal;
+mod sizes;
 
 pub use refusal::{Refusal, SplitError};
+pub use sizes::{
+    BYTE_VALUES, ENOUGH_WORDS, FLOW_SIZE, MOST_BOUND, MOST_CLASS, MOST_LIST, MOST_OFFSET, MOST_PARTS, MOST_RECORDS,
+    MOST_SPLITS, OFFSET_AT, RECORD_SIZE, RESERVED_AT, ROWS_AT, SET_SIZE, SIGNATURES, SLOTS, SPLIT_SIZE, STATES, UNUSED,
+};
 
 use std::fmt;
 
-/// Bytes in a flow record.
-pub const FLOW_SIZE: usize = 48;
-
-/// Words with which a feed never stands still: room for 256 pairs.
-pub const ENOUGH_WORDS: usize = 512;
-
 /// A signature list that has passed its check.
 ///
-/// It is 1 to 4,096 records of 8 bytes: edges `1 low high 0 from from to to`, starts `2 0 0 0 0 0 state state`, accepts
-/// `3 0 0 0 state state signature signature`. Two-byte numbers have the low byte first.
+/// It is 1 to [`MOST_RECORDS`] records of [`RECORD_SIZE`] bytes: edges `1 low high 0 from from to to`, starts `2 0 0 0 0 0 state state`,
+/// accepts `3 0 0 0 state state signature signature`. Two-byte numbers have the low byte first. States are below [`STATES`], signatures
+/// below [`SIGNATURES`].
 #[derive(Clone, Copy, PartialEq, Eq)]
 pub struct List<'a> {
     bytes: &'a [u8],
@@ -97,10 +98,11 @@ impl<'a> List<'a> {
     /// Checks a list: refusals 1 to 3.
     ///
     /// ```
-    /// use watch::{List, Refusal};
+    /// use watch::{List, Refusal, STATES};
     ///
-    /// assert!(List::check(&[2, 0, 0, 0, 0, 0, 255, 0]).is_ok());
-    /// assert_eq!(List::check(&[2, 0, 0, 0, 0, 0, 0, 1]), Err(Refusal::ListRecord)); // state 256
+    /// let start = |state: usize| [2, 0, 0, 0, 0, 0, state as u8, (state >> 8) as u8];
+    /// assert!(List::check(&start(STATES - 1)).is_ok());
+    /// assert_eq!(List::check(&start(STATES)), Err(Refusal::ListRecord));
     /// assert_eq!(List::check(&[1, 0, 9, 0, 0, 0, 0, 0]), Err(Refusal::NoStart));
     /// ```
     pub fn check(bytes: &'a [u8]) -> Result<List<'a>, Refusal> {
@@ -117,7 +119,7 @@ impl<'a> List<'a> {
 
     /// The number of records.
     pub fn records(&self) -> usize {
-        self.bytes.len() / 8
+        self.bytes.len() / RECORD_SIZE
     }
 }
 
@@ -127,20 +129,21 @@ impl fmt::Debug for List<'_> {
     }
 }
 
-/// A flow: its record of 48 bytes, which is all that has to be kept between two pieces.
+/// A flow: its record of [`FLOW_SIZE`] bytes, which is all that has to be kept between two pieces.
 ///
-/// Bytes 0-31 are the frontier, 32-35 the offset, 36-39 zero, 40-47 the rows read. Any 48 bytes make a `Flow`; a feed refuses those that
-/// can't have come from one. A record that was saved under another list is not told from a good one: it is run as it stands.
+/// It begins with the frontier, a set; then come the offset at [`OFFSET_AT`], 4 zeros at [`RESERVED_AT`] and the rows read at
+/// [`ROWS_AT`]. Any [`FLOW_SIZE`] bytes make a `Flow`; a feed refuses those that can't have come from one. A record that was saved under
+/// another list is not told from a good one: it is run as it stands.
 ///
 /// ```
-/// use watch::{Flow, List};
+/// use watch::{Flow, List, ENOUGH_WORDS, FLOW_SIZE};
 ///
 /// # let bytes = *b"\x01\x00\xFF\0\0\0\0\0\x01aa\0\0\0\x01\0\x01bb\0\x01\0\x02\0\x02\0\0\0\0\0\0\0\x03\0\0\0\x02\0\x07\0";
 /// let list = List::check(&bytes)?; // signature 7 after any "ab"
-/// let mut words = [0; 512];
+/// let mut words = [0; ENOUGH_WORDS];
 /// let mut flow = Flow::open(&list);
 /// flow.feed(&list, 0, b"a", &mut words)?;
-/// let saved: [u8; 48] = *flow.as_bytes();
+/// let saved: [u8; FLOW_SIZE] = *flow.as_bytes();
 ///
 /// let mut flow = Flow::from_bytes(saved);
 /// let fed = flow.feed(&list, 1, b"bab", &mut words)?;
@@ -180,12 +183,12 @@ impl Flow {
 
     /// The number of bytes consumed since the opening.
     pub fn offset(&self) -> u32 {
-        u32::from_le_bytes(self.bytes[32..36].try_into().expect("4 bytes"))
+        u32::from_le_bytes(self.bytes[OFFSET_AT..RESERVED_AT].try_into().expect("4 bytes"))
     }
 
     /// Rows read: for each byte consumed by a plain feed the states in the frontier before it, by a split feed the slots taken.
     pub fn rows_read(&self) -> u64 {
-        u64::from_le_bytes(self.bytes[40..48].try_into().expect("8 bytes"))
+        u64::from_le_bytes(self.bytes[ROWS_AT..].try_into().expect("8 bytes"))
     }
 
     /// The states in the frontier, rising.
@@ -195,10 +198,10 @@ impl Flow {
     /// # let bytes = *b"\x02\0\0\0\0\0\x03\0\x02\0\0\0\0\0\xFF\0";
     /// # let list = List::check(&bytes).unwrap();
     /// // A list with the start states 3 and 255:
-    /// assert_eq!(Flow::open(&list).frontier().collect::<Vec<u8>>(), [3, 255]);
+    /// assert_eq!(Flow::open(&list).frontier().collect::<Vec<u16>>(), [3, 255]);
     /// ```
-    pub fn frontier(&self) -> impl Iterator<Item = u8> + '_ {
-        (0..=255).filter(|&state| self.bytes[usize::from(state / 8)] >> (state % 8) & 1 == 1)
+    pub fn frontier(&self) -> impl Iterator<Item = u16> + '_ {
+        (0..STATES as u16).filter(|&state| self.bytes[usize::from(state / 8)] >> (state % 8) & 1 == 1)
     }
 
     /// The plain feed of a piece that begins at offset `start` of the flow: refusals 1 to 6, which change nothing.
@@ -249,15 +252,15 @@ impl Flow {
     /// A flow that was opened on the list and fed by nothing but the list and a table that has passed its check is never halted.
     ///
     /// ```
-    /// # use watch::{Flow, List, SplitError, Table, TableLists};
-    /// # fn set(states: &[u8]) -> [u8; 32] {
-    /// #     let mut set = [0; 32];
+    /// # use watch::{Flow, List, SplitError, Table, TableLists, BYTE_VALUES, FLOW_SIZE, SET_SIZE};
+    /// # fn set(states: &[u8]) -> [u8; SET_SIZE] {
+    /// #     let mut set = [0; SET_SIZE];
     /// #     states.iter().for_each(|s| set[usize::from(s / 8)] |= 1 << (s % 8));
     /// #     set
     /// # }
     /// # let bytes = *b"\x01\x00\xFF\0\0\0\0\0\x02\0\0\0\0\0\0\0\x03\0\0\0\0\0\x09\0";
     /// let list = List::check(&bytes)?; // signature 9 at every byte, by state 0
-    /// let classes = [0; 256];
+    /// let classes = [0; BYTE_VALUES];
     /// let parts = set(&[0]);
     /// let rows = set(&[0]);
     /// let splits = [&set(&[0])[..], &[0, 0, 255, 255, 255, 255, 255, 255]].concat();
@@ -269,7 +272,7 @@ impl Flow {
     /// assert_eq!((fed.all, words), (true, [9, 1, 0]));
     ///
     /// // A record from elsewhere, with a frontier that is no split: halted at its first byte.
-    /// let mut lost = Flow::from_bytes([0; 48]);
+    /// let mut lost = Flow::from_bytes([0; FLOW_SIZE]);
     /// assert_eq!(lost.split_feed(&table, 0, b"x", &mut words), Err(SplitError::Halted { bytes: 0, pairs: 0 }));
     /// # Ok::<(), SplitError>(())
     /// ```
@@ -324,7 +327,7 @@ impl From<[u8; FLOW_SIZE]> for Flow {
 impl TryFrom<&[u8]> for Flow {
     type Error = Refusal;
 
-    /// The flow with a saved record of any length: refusal 4 where it is not 48.
+    /// The flow with a saved record of any length: refusal 4 where it is not [`FLOW_SIZE`].
     fn try_from(bytes: &[u8]) -> Result<Flow, Refusal> {
         match bytes.try_into() {
             Ok(bytes) => Ok(Flow { bytes }),
@@ -341,7 +344,7 @@ impl AsRef<[u8]> for Flow {
 
 impl fmt::Debug for Flow {
     fn fmt(&self, f: &mut fmt::Formatter<'_>) -> fmt::Result {
-        let frontier: Vec<u8> = self.frontier().collect();
+        let frontier: Vec<u16> = self.frontier().collect();
         f.debug_struct("Flow")
             .field("offset", &self.offset())
             .field("rows_read", &self.rows_read())
@@ -406,16 +409,16 @@ impl fmt::Display for Pair {
 
 /// The four lists of a split table, as they are.
 ///
-/// A set is 32 bytes: state s is bit s mod 8 of byte s div 8.
+/// A set is [`SET_SIZE`] bytes: state s is bit s mod 8 of byte s div 8.
 #[derive(Clone, Copy, PartialEq, Eq)]
 pub struct TableLists<'a> {
-    /// The class of each byte: exactly 256 bytes, each 0 to 63.
+    /// The class of each byte: exactly [`BYTE_VALUES`] bytes, each 0 to [`MOST_CLASS`].
     pub classes: &'a [u8],
-    /// 1 to 1,024 sets.
+    /// 1 to [`MOST_PARTS`] sets.
     pub parts: &'a [u8],
     /// A set for each part and class: the row of part p and class k is number p × K + k, K the largest class plus 1.
     pub rows: &'a [u8],
-    /// 1 to 4,096 records of 40 bytes: a set, then four 2-byte part numbers, 65,535 for an unused slot.
+    /// 1 to [`MOST_SPLITS`] records of [`SPLIT_SIZE`] bytes: a set, then [`SLOTS`] slots, each a 2-byte part number, or [`UNUSED`].
     pub splits: &'a [u8],
 }
 
@@ -424,9 +427,9 @@ impl fmt::Debug for TableLists<'_> {
         write!(
             f,
             "TableLists({} parts, {} rows, {} splits)",
-            self.parts.len() / 32,
-            self.rows.len() / 32,
-            self.splits.len() / 40
+            self.parts.len() / SET_SIZE,
+            self.rows.len() / SET_SIZE,
+            self.splits.len() / SPLIT_SIZE
         )
     }
 }
@@ -440,14 +443,14 @@ pub struct Table<'a> {
 }
 
 impl<'a> Table<'a> {
-    /// Checks a table against a list, at a bound of 1 to 4 rows a byte: refusals 7 to 13.
+    /// Checks a table against a list, at a bound of 1 to [`MOST_BOUND`] rows a byte: refusals 7 to 13.
     ///
     /// ```
-    /// use watch::{List, Refusal, Table, TableLists};
+    /// use watch::{List, Refusal, Table, TableLists, MOST_BOUND};
     ///
     /// let list = List::check(&[2, 0, 0, 0, 0, 0, 0, 0]).unwrap();
     /// let none = TableLists { classes: &[], parts: &[], rows: &[], splits: &[] };
-    /// assert_eq!(Table::check(&list, 5, none), Err(Refusal::Bound));
+    /// assert_eq!(Table::check(&list, MOST_BOUND + 1, none), Err(Refusal::Bound));
     /// assert_eq!(Table::check(&list, 1, none), Err(Refusal::TableLists));
     /// ```
     pub fn check(list: &List<'a>, bound: u64, lists: TableLists<'a>) -> Result<Table<'a>, Refusal> {

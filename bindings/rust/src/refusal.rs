@@ -1,35 +1,37 @@
+use crate::{FLOW_SIZE, MOST_BOUND, MOST_CLASS, MOST_LIST, MOST_OFFSET, RECORD_SIZE, SIGNATURES, STATES};
 use std::error::Error;
 use std::fmt;
 
 /// Why a call was refused. Each has a [`number`](Refusal::number), 1 to 14; of several that apply, the lowest is given.
 ///
 /// ```
-/// use watch::{List, Refusal};
+/// use watch::{List, Refusal, MOST_LIST, RECORD_SIZE};
 ///
 /// let refusal = List::check(b"").unwrap_err();
 /// assert_eq!(refusal, Refusal::ListLength);
 /// assert_eq!(refusal.number(), 1);
-/// assert_eq!(refusal.to_string(), "list length is 0, over 32,768, or no multiple of 8");
+/// assert_eq!(refusal.to_string(), format!("list length is 0, over {MOST_LIST}, or no multiple of {RECORD_SIZE}"));
 /// ```
 #[derive(Clone, Copy, Debug, PartialEq, Eq, PartialOrd, Ord, Hash)]
 #[non_exhaustive]
 #[repr(u32)]
 pub enum Refusal {
-    /// 1: list length is 0, over 32,768, or no multiple of 8.
+    /// 1: list length is 0, over [`MOST_LIST`], or no multiple of [`RECORD_SIZE`].
     ListLength = 1,
-    /// 2: a record has another kind, a non-zero reserved byte, low > high, or a state or signature over 255.
+    /// 2: a record has another kind, a non-zero reserved byte, low > high, a state not below [`STATES`], or a signature not below
+    /// [`SIGNATURES`].
     ListRecord = 2,
     /// 3: no start record.
     NoStart = 3,
-    /// 4: flow record not 48 bytes; or, when fed, bytes 36-39 not zero, or rows read > 256 × offset.
+    /// 4: flow record not [`FLOW_SIZE`] bytes; or, when fed, its reserved bytes not zero, or rows read > [`STATES`] × offset.
     FlowRecord = 4,
     /// 5: the piece's stated start differs from the flow's offset.
     OtherStart = 5,
-    /// 6: offset + piece length > 4,294,967,295.
+    /// 6: offset + piece length > [`MOST_OFFSET`].
     TooLong = 6,
-    /// 7: bound not 1 to 4.
+    /// 7: bound not 1 to [`MOST_BOUND`].
     Bound = 7,
-    /// 8: a table list has the wrong length, or a class is over 63.
+    /// 8: a table list has the wrong length, or a class is over [`MOST_CLASS`].
     TableLists = 8,
     /// 9: a split has a used slot that names no part, a used slot after an unused one, slots not strictly rising, more
     /// than b used, or a set not greater (as byte strings) than the one before.
@@ -93,31 +95,37 @@ impl Refusal {
 
 impl fmt::Display for Refusal {
     fn fmt(&self, f: &mut fmt::Formatter<'_>) -> fmt::Result {
-        f.write_str(match self {
-            Refusal::ListLength => "list length is 0, over 32,768, or no multiple of 8",
-            Refusal::ListRecord => {
-                "a record has another kind, a non-zero reserved byte, low > high, or a state or signature over 255"
-            }
-            Refusal::NoStart => "no start record",
-            Refusal::FlowRecord => {
-                "flow record not 48 bytes; or, when fed, bytes 36-39 not zero, or rows read > 256 × offset"
-            }
-            Refusal::OtherStart => "the piece's stated start differs from the flow's offset",
-            Refusal::TooLong => "offset + piece length > 4,294,967,295",
-            Refusal::Bound => "bound not 1 to 4",
-            Refusal::TableLists => "a table list has the wrong length, or a class is over 63",
-            Refusal::SplitRecord => {
+        match self {
+            Refusal::ListLength => write!(f, "list length is 0, over {MOST_LIST}, or no multiple of {RECORD_SIZE}"),
+            Refusal::ListRecord => write!(
+                f,
+                "a record has another kind, a non-zero reserved byte, low > high, a state not below {STATES}, \
+                 or a signature not below {SIGNATURES}"
+            ),
+            Refusal::NoStart => f.write_str("no start record"),
+            Refusal::FlowRecord => write!(
+                f,
+                "flow record not {FLOW_SIZE} bytes; or, when fed, its reserved bytes not zero, \
+                 or rows read > {STATES} × offset"
+            ),
+            Refusal::OtherStart => f.write_str("the piece's stated start differs from the flow's offset"),
+            Refusal::TooLong => write!(f, "offset + piece length > {MOST_OFFSET}"),
+            Refusal::Bound => write!(f, "bound not 1 to {MOST_BOUND}"),
+            Refusal::TableLists => write!(f, "a table list has the wrong length, or a class is over {MOST_CLASS}"),
+            Refusal::SplitRecord => f.write_str(
                 "a split has a used slot that names no part, a used slot after an unused one, slots not strictly rising, \
-                 more than b used, or a set not greater (as byte strings) than the one before"
+                 more than b used, or a set not greater (as byte strings) than the one before",
+            ),
+            Refusal::WrongRow => {
+                f.write_str("a row that some byte selects differs from the NFA step of its part on that byte")
             }
-            Refusal::WrongRow => "a row that some byte selects differs from the NFA step of its part on that byte",
-            Refusal::WrongUnion => "a split's set is not the union of its parts",
-            Refusal::NoStartSplit => "the start set is no split",
-            Refusal::NotClosed => "for some split and byte, the NFA step of its set is no split",
-            Refusal::NoSplit => {
-                "split feed, at a byte: the frontier is no split, or the slots taken name no part or are more than b"
-            }
-        })
+            Refusal::WrongUnion => f.write_str("a split's set is not the union of its parts"),
+            Refusal::NoStartSplit => f.write_str("the start set is no split"),
+            Refusal::NotClosed => f.write_str("for some split and byte, the NFA step of its set is no split"),
+            Refusal::NoSplit => f.write_str(
+                "split feed, at a byte: the frontier is no split, or the slots taken name no part or are more than b",
+            ),
+        }
     }
 }
 

@@ -4,9 +4,13 @@ mod ordinary;
 
 use ordinary::Automaton;
 use watch::{Fed, Flow, List, Pair, Refusal, SplitError, Table, TableLists};
+use watch::{
+    BYTE_VALUES, ENOUGH_WORDS, FLOW_SIZE, MOST_OFFSET, MOST_RECORDS, OFFSET_AT, RECORD_SIZE, RESERVED_AT, ROWS_AT,
+    SLOTS, STATES, UNUSED,
+};
 
 /// Signature 7 after any "ab".
-const L: [u8; 40] = [
+const L: [u8; 5 * RECORD_SIZE] = [
     1, 0x00, 0xFF, 0, 0, 0, 0, 0, //
     1, 0x61, 0x61, 0, 0, 0, 1, 0, //
     1, 0x62, 0x62, 0, 1, 0, 2, 0, //
@@ -14,21 +18,33 @@ const L: [u8; 40] = [
     3, 0, 0, 0, 2, 0, 7, 0,
 ];
 
+/// The record of L with a number, from 0 on.
+fn record(i: usize) -> &'static [u8] {
+    &L[RECORD_SIZE * i..RECORD_SIZE * (i + 1)]
+}
+
+/// A list of one start record.
+fn start(state: usize) -> Vec<u8> {
+    let mut list = vec![2, 0, 0, 0, 0, 0];
+    list.extend((state as u16).to_le_bytes());
+    list
+}
+
 fn list() -> List<'static> {
     List::check(&L).unwrap()
 }
 
-fn set(states: &[u8]) -> Vec<u8> {
+fn set(states: &[u16]) -> Vec<u8> {
     ordinary::bytes_of(&states.iter().copied().collect()).to_vec()
 }
 
-fn split(states: &[u8], slots: [u16; 4]) -> Vec<u8> {
+fn split(states: &[u16], slots: [u16; SLOTS]) -> Vec<u8> {
     let mut record = set(states);
     slots.iter().for_each(|slot| record.extend(slot.to_le_bytes()));
     record
 }
 
-const NO: u16 = 65_535;
+const NO: u16 = UNUSED;
 
 /// The four lists of the table T.
 struct T {
@@ -40,7 +56,7 @@ struct T {
 
 impl T {
     fn new() -> T {
-        let mut classes = vec![0; 256];
+        let mut classes = vec![0; BYTE_VALUES];
         classes[usize::from(b'a')] = 1;
         classes[usize::from(b'b')] = 2;
         T {
@@ -76,7 +92,7 @@ impl T {
 #[test]
 fn plain_abab() {
     let mut flow = Flow::open(&list());
-    let mut words = [0; 512];
+    let mut words = [0; ENOUGH_WORDS];
     let fed = flow.feed(&list(), 0, b"abab", &mut words).unwrap();
     assert_eq!(fed, Fed { bytes: 4, pairs: 2, all: true });
     assert_eq!(words[..5], [7, 2, 7, 4, 0]);
@@ -88,21 +104,21 @@ fn plain_abab() {
 #[test]
 fn plain_aba_leaves_this_record() {
     let mut flow = Flow::open(&list());
-    flow.feed(&list(), 0, b"aba", &mut [0; 512]).unwrap();
-    let mut record = [0; 48];
+    flow.feed(&list(), 0, b"aba", &mut [0; ENOUGH_WORDS]).unwrap();
+    let mut record = [0; FLOW_SIZE];
     record[0] = 3;
-    record[32] = 3;
-    record[40] = 5;
+    record[OFFSET_AT] = 3;
+    record[ROWS_AT] = 5;
     assert_eq!(flow.as_bytes(), &record);
-    assert_eq!(flow.frontier().collect::<Vec<u8>>(), [0, 1]);
+    assert_eq!(flow.frontier().collect::<Vec<u16>>(), [0, 1]);
     assert_eq!(Flow::try_from(&record[..]), Ok(flow));
-    assert_eq!(Flow::try_from(&record[..47]), Err(Refusal::FlowRecord));
+    assert_eq!(Flow::try_from(&record[1..]), Err(Refusal::FlowRecord));
 }
 
 #[test]
 fn a_cut_changes_nothing() {
     let mut flow = Flow::open(&list());
-    let mut words = [0; 512];
+    let mut words = [0; ENOUGH_WORDS];
     assert_eq!(flow.feed(&list(), 0, b"a", &mut words).unwrap().pairs, 0);
     let before = flow.clone();
     assert_eq!(flow.feed(&list(), 0, b"bab", &mut words), Err(Refusal::OtherStart));
@@ -126,26 +142,26 @@ fn room() {
 #[test]
 fn the_last_offset() {
     let mut record = *Flow::open(&list()).as_bytes();
-    record[32..36].fill(255);
+    record[OFFSET_AT..RESERVED_AT].fill(255);
     let mut flow = Flow::from_bytes(record);
-    assert_eq!(flow.feed(&list(), 4_294_967_295, b"", &mut []).unwrap(), Fed { bytes: 0, pairs: 0, all: true });
-    assert_eq!(flow.feed(&list(), 4_294_967_295, b"a", &mut []), Err(Refusal::TooLong));
-    record[32] = 254;
+    assert_eq!(flow.feed(&list(), MOST_OFFSET, b"", &mut []).unwrap(), Fed { bytes: 0, pairs: 0, all: true });
+    assert_eq!(flow.feed(&list(), MOST_OFFSET, b"a", &mut []), Err(Refusal::TooLong));
+    record[OFFSET_AT] = 254;
     let mut flow = Flow::from_bytes(record);
-    assert!(flow.feed(&list(), 4_294_967_294, b"a", &mut []).unwrap().all);
-    assert_eq!(flow.offset(), 4_294_967_295);
+    assert!(flow.feed(&list(), MOST_OFFSET - 1, b"a", &mut []).unwrap().all);
+    assert_eq!(u64::from(flow.offset()), MOST_OFFSET);
 }
 
 #[test]
 fn lists() {
-    assert_eq!(List::check(&[&L[..24], &L[32..]].concat()), Err(Refusal::NoStart));
-    let mut long = L[..8].repeat(4095);
-    long.extend_from_slice(&L[24..32]);
-    assert_eq!(List::check(&long).unwrap().records(), 4096);
-    long.extend_from_slice(&L[..8]);
+    assert_eq!(List::check(&[record(0), record(1), record(2), record(4)].concat()), Err(Refusal::NoStart));
+    let mut long = record(0).repeat(MOST_RECORDS - 1);
+    long.extend_from_slice(record(3));
+    assert_eq!(List::check(&long).unwrap().records(), MOST_RECORDS);
+    long.extend_from_slice(record(0));
     assert_eq!(List::check(&long), Err(Refusal::ListLength));
-    assert!(List::check(&[2, 0, 0, 0, 0, 0, 255, 0]).is_ok());
-    assert_eq!(List::check(&[2, 0, 0, 0, 0, 0, 0, 1]), Err(Refusal::ListRecord));
+    assert!(List::check(&start(STATES - 1)).is_ok());
+    assert_eq!(List::check(&start(STATES)), Err(Refusal::ListRecord));
 }
 
 #[test]
@@ -161,7 +177,7 @@ fn split_abab() {
     T::new().check(2, |checked, _| {
         let table = checked.unwrap();
         let mut flow = Flow::open(&table.list());
-        let mut words = [0; 512];
+        let mut words = [0; ENOUGH_WORDS];
         let fed = flow.split_feed(&table, 0, b"abab", &mut words).unwrap();
         assert_eq!(fed, Fed { bytes: 4, pairs: 2, all: true });
         assert_eq!(words[..5], [7, 2, 7, 4, 0]);
@@ -175,7 +191,7 @@ fn a_halted_split_feed_keeps_what_was_before() {
     // Without {0, 2} the feed can't go on after "ab": 14 at the third byte.
     T::new().without(2).check(2, |_, table| {
         let mut flow = Flow::open(&list());
-        let mut words = [0; 512];
+        let mut words = [0; ENOUGH_WORDS];
         let halted = flow.split_feed(&table, 0, b"abab", &mut words).unwrap_err();
         assert_eq!(halted, SplitError::Halted { bytes: 2, pairs: 1 });
         assert_eq!((halted.refusal().number(), halted.bytes(), halted.pairs()), (14, 2, 1));
@@ -196,19 +212,19 @@ fn a_halted_split_feed_keeps_what_was_before() {
 #[test]
 fn the_ordinary_matcher_agrees() {
     let automaton = Automaton::read(&L);
-    let mut record = vec![0; 48];
+    let mut record = vec![0; FLOW_SIZE];
     assert_eq!(ordinary::open(&automaton, &mut record), 0);
     assert_eq!(record, Flow::open(&list()).as_bytes());
     let mut words = [0; 5];
     let answer = ordinary::feed(&automaton, &mut record, 0, b"abab", &mut words);
     assert_eq!(answer, ordinary::Answer { refusal: 0, bytes: 4, pairs: 2, all: true });
-    assert_eq!((words, record[40]), ([7, 2, 7, 4, 0], 7));
+    assert_eq!((words, record[ROWS_AT]), ([7, 2, 7, 4, 0], 7));
     let t = T::new();
     let table = ordinary::Table::read(&t.classes, &t.parts, &t.rows, &t.splits.concat());
     assert_eq!(ordinary::open(&automaton, &mut record), 0);
     let answer = ordinary::split_feed(&automaton, 2, &table, &mut record, 0, b"abab", &mut [0; 3]);
     assert_eq!(answer, ordinary::Answer { refusal: 0, bytes: 3, pairs: 1, all: false });
-    assert_eq!(record[40], 5);
+    assert_eq!(record[ROWS_AT], 5);
 }
 
 #[test]
@@ -234,9 +250,10 @@ fn nothing_is_read_where_a_length_is_0() {
         assert_eq!(raw::watch_check_list(null(), 0), 1);
         assert_eq!(raw::watch_open(null(), 0, null_mut(), 0), 1);
         assert_eq!(raw::watch_open(L.as_ptr(), L.len(), null_mut(), 0), 4);
-        let fed = raw::watch_feed(L.as_ptr(), L.len(), record.as_mut_ptr(), 48, 0, null(), 0, null_mut(), 0);
+        let fed = raw::watch_feed(L.as_ptr(), L.len(), record.as_mut_ptr(), FLOW_SIZE, 0, null(), 0, null_mut(), 0);
         assert_eq!(fed, raw::WatchFed { bytes: 0, pairs: 0, refusal: 0, all: true });
-        let fed = raw::watch_feed(L.as_ptr(), L.len(), record.as_mut_ptr(), 48, 0, b"ab".as_ptr(), 2, null_mut(), 0);
+        let fed =
+            raw::watch_feed(L.as_ptr(), L.len(), record.as_mut_ptr(), FLOW_SIZE, 0, b"ab".as_ptr(), 2, null_mut(), 0);
         assert_eq!(fed, raw::WatchFed { bytes: 1, pairs: 0, refusal: 0, all: false });
         let table = raw::watch_check_table(L.as_ptr(), L.len(), 1, null(), 0, null(), 0, null(), 0, null(), 0);
         assert_eq!(table, 8);

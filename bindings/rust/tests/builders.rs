@@ -1,21 +1,35 @@
 //! Random lists, tables, records and pieces: good ones, broken ones, and ones that are nonsense but well formed.
 
 use crate::dice::Dice;
-use crate::ordinary::{bytes_of, Automaton, Set, LAST_OFFSET, UNUSED};
+use crate::ordinary::{bytes_of, Automaton, Set};
 use std::collections::{BTreeMap, BTreeSet, VecDeque};
+use watch::{
+    BYTE_VALUES, ENOUGH_WORDS, FLOW_SIZE, MOST_BOUND, MOST_CLASS, MOST_OFFSET, MOST_PARTS, MOST_RECORDS, OFFSET_AT,
+    RECORD_SIZE, RESERVED_AT, ROWS_AT, SET_SIZE, SIGNATURES, SLOTS, SPLIT_SIZE, STATES, UNUSED,
+};
 
 // Lists.
 
-fn edge(low: u8, high: u8, from: u8, to: u8) -> [u8; 8] {
-    [1, low, high, 0, from, 0, to, 0]
+/// A record: four bytes and two numbers of two bytes.
+fn record(front: [u8; 4], middle: u16, last: u16) -> [u8; RECORD_SIZE] {
+    let ([a, b], [c, d]) = (middle.to_le_bytes(), last.to_le_bytes());
+    [front[0], front[1], front[2], front[3], a, b, c, d]
 }
 
-fn start(state: u8) -> [u8; 8] {
-    [2, 0, 0, 0, 0, 0, state, 0]
+fn edge(low: u8, high: u8, from: u16, to: u16) -> [u8; RECORD_SIZE] {
+    record([1, low, high, 0], from, to)
 }
 
-fn accept(state: u8, signature: u8) -> [u8; 8] {
-    [3, 0, 0, 0, state, 0, signature, 0]
+fn start(state: u16) -> [u8; RECORD_SIZE] {
+    record([2, 0, 0, 0], 0, state)
+}
+
+fn accept(state: u16, signature: u16) -> [u8; RECORD_SIZE] {
+    record([3, 0, 0, 0], state, signature)
+}
+
+fn any_state(dice: &mut Dice) -> u16 {
+    dice.below(STATES) as u16
 }
 
 /// The letters that pieces and edges are mostly made of.
@@ -23,8 +37,8 @@ const LETTERS: &[u8] = b"abcde\x00\xFF";
 
 /// A good list: some states, edges on letters and ranges, and accepts from none to all signatures at one state.
 pub fn good_list(dice: &mut Dice) -> Vec<u8> {
-    let states: Vec<u8> =
-        (0..dice.from(1, 9)).map(|_| if dice.once_in(2) { dice.below(12) as u8 } else { dice.byte() }).collect();
+    let states: Vec<u16> =
+        (0..dice.from(1, 9)).map(|_| if dice.once_in(2) { dice.below(12) as u16 } else { any_state(dice) }).collect();
     let mut records = Vec::new();
     for _ in 0..dice.from(0, 2 * states.len() + 4) {
         let (from, to) = (dice.pick(&states), dice.pick(&states));
@@ -53,17 +67,17 @@ pub fn good_list(dice: &mut Dice) -> Vec<u8> {
         records.push(start(dice.pick(&states)));
     }
     for _ in 0..dice.from(0, 6) {
-        let signature = if dice.once_in(2) { dice.below(4) as u8 } else { dice.byte() };
-        records.push(accept(dice.pick(&states), signature));
+        let signature = if dice.once_in(2) { dice.below(4) } else { dice.below(SIGNATURES) };
+        records.push(accept(dice.pick(&states), signature as u16));
     }
     if dice.once_in(25) {
         let state = dice.pick(&states);
-        let few = dice.from(1, 256);
-        records.extend((0..few).map(|signature| accept(state, signature as u8)));
+        let few = dice.from(1, SIGNATURES);
+        records.extend((0..few).map(|signature| accept(state, signature as u16)));
     }
     if dice.once_in(150) {
         // A long list: exactly the most records, or about that.
-        let most = if dice.once_in(2) { 4096 } else { dice.from(1000, 4095) };
+        let most = if dice.once_in(2) { MOST_RECORDS } else { dice.from(1000, MOST_RECORDS - 1) };
         while records.len() < most {
             let again = dice.pick(&records);
             records.push(again);
@@ -72,7 +86,7 @@ pub fn good_list(dice: &mut Dice) -> Vec<u8> {
     if dice.once_in(4) {
         let again = dice.pick(&records);
         records.push(again);
-        records.truncate(4096);
+        records.truncate(MOST_RECORDS);
         if !records.iter().any(|record| record[0] == 2) {
             records[0] = start(states[0]);
         }
@@ -88,15 +102,15 @@ pub fn broken_list(dice: &mut Dice) -> Vec<u8> {
         if list.is_empty() {
             break;
         }
-        let at = 8 * dice.below(list.len().div_ceil(8));
+        let at = RECORD_SIZE * dice.below(list.len().div_ceil(RECORD_SIZE));
         match dice.below(12) {
             0 => list.clear(),
-            1 => list.truncate(list.len() - dice.from(1, list.len().min(9))),
-            2 => list.extend((0..dice.from(1, 7)).map(|_| dice.byte())),
+            1 => list.truncate(list.len() - dice.from(1, list.len().min(RECORD_SIZE + 1))),
+            2 => list.extend((0..dice.from(1, RECORD_SIZE - 1)).map(|_| dice.byte())),
             3 => {
-                let record = list[at..list.len().min(at + 8)].to_vec();
-                let most = dice.pick(&[4097, 4098, 5000]);
-                while list.len() / 8 < most && record.len() == 8 {
+                let record = list[at..list.len().min(at + RECORD_SIZE)].to_vec();
+                let most = MOST_RECORDS + dice.pick(&[1, 2, 1000]);
+                while list.len() / RECORD_SIZE < most && record.len() == RECORD_SIZE {
                     list.extend(&record);
                 }
             }
@@ -109,7 +123,7 @@ pub fn broken_list(dice: &mut Dice) -> Vec<u8> {
             8 if at + 5 < list.len() => list[at + 5] = dice.from(1, 255) as u8,
             9 if at + 3 < list.len() => list[at + 3] = dice.from(1, 255) as u8,
             10 if at + 2 < list.len() => list.swap(at + 1, at + 2),
-            _ => list = list.chunks(8).filter(|record| record[0] != 2).collect::<Vec<_>>().concat(),
+            _ => list = list.chunks(RECORD_SIZE).filter(|record| record[0] != 2).collect::<Vec<_>>().concat(),
         }
     }
     list
@@ -126,15 +140,15 @@ pub struct Lists {
     pub splits: Vec<u8>,
 }
 
-fn random_set(dice: &mut Dice, states: &[u8]) -> Set {
+fn random_set(dice: &mut Dice, states: &[u16]) -> Set {
     match dice.below(8) {
         0 => Set::new(),
-        1 => (0..dice.from(0, 40)).map(|_| dice.byte()).collect(),
+        1 => (0..dice.from(0, 40)).map(|_| any_state(dice)).collect(),
         _ => (0..dice.from(1, 4)).map(|_| dice.pick(states)).collect(),
     }
 }
 
-fn states_of(automaton: &Automaton) -> Vec<u8> {
+fn states_of(automaton: &Automaton) -> Vec<u16> {
     let mut states = automaton.starts.clone();
     for (from, edges) in &automaton.edges {
         states.insert(*from);
@@ -157,7 +171,7 @@ fn corners(automaton: &Automaton) -> Vec<u8> {
 
 fn split_record(set: &Set, slots: &[u16]) -> Vec<u8> {
     let mut record = bytes_of(set).to_vec();
-    for i in 0..4 {
+    for i in 0..SLOTS {
         record.extend(slots.get(i).copied().unwrap_or(UNUSED).to_le_bytes());
     }
     record
@@ -186,8 +200,8 @@ pub fn good_table(dice: &mut Dice, automaton: &Automaton) -> Option<Lists> {
     }
 
     // The parts of each: its states by colour, sometimes with a state of another colour too.
-    let colours = dice.from(1, 4);
-    let colour: Vec<usize> = (0..256).map(|_| dice.below(colours)).collect();
+    let colours = dice.from(1, SLOTS);
+    let colour: Vec<usize> = (0..STATES).map(|_| dice.below(colours)).collect();
     let mut parts: Vec<Set> = Vec::new();
     let mut covers: Vec<(Set, Vec<Set>)> = Vec::new();
     for frontier in &frontiers {
@@ -198,7 +212,7 @@ pub fn good_table(dice: &mut Dice, automaton: &Automaton) -> Option<Lists> {
                 continue;
             }
             if dice.once_in(6) && !frontier.is_empty() {
-                let members: Vec<u8> = frontier.iter().copied().collect();
+                let members: Vec<u16> = frontier.iter().copied().collect();
                 part.insert(dice.pick(&members));
             }
             if cover.contains(&part) {
@@ -224,23 +238,23 @@ pub fn good_table(dice: &mut Dice, automaton: &Automaton) -> Option<Lists> {
     // The classes: bytes on which every part steps alike may share one.
     let column = |byte: u8| -> Vec<Set> { parts.iter().map(|part| automaton.step(part, byte)).collect() };
     let by_corner: Vec<Vec<Set>> = corners.iter().map(|&byte| column(byte)).collect();
-    let mut numbers: Vec<u8> = (0..64).collect();
+    let mut numbers: Vec<u8> = (0..=MOST_CLASS).collect();
     if dice.once_in(3) {
         dice.shuffle(&mut numbers);
     } else {
-        let few = dice.from(1, 64);
+        let few = dice.from(1, numbers.len());
         dice.shuffle(&mut numbers[..few]);
     }
     let mut given: BTreeMap<&Vec<Set>, u8> = BTreeMap::new();
-    let mut classes = vec![0; 256];
+    let mut classes = vec![0; BYTE_VALUES];
     let mut selected: BTreeMap<u8, &Vec<Set>> = BTreeMap::new();
     let mut taken = 0;
     for byte in 0..=255 {
         let corner = corners.partition_point(|&c| c <= byte) - 1;
         let steps = &by_corner[corner];
-        let fresh = !given.contains_key(steps) || (taken < 60 && dice.once_in(200));
+        let fresh = !given.contains_key(steps) || (taken + 4 < numbers.len() && dice.once_in(200));
         if fresh {
-            if taken == 64 {
+            if taken == numbers.len() {
                 return None;
             }
             given.insert(steps, numbers[taken]);
@@ -278,7 +292,7 @@ pub fn good_table(dice: &mut Dice, automaton: &Automaton) -> Option<Lists> {
     }
     splits.sort();
     Some(Lists {
-        bound: dice.from(most, 4) as u64,
+        bound: dice.from(most, MOST_BOUND as usize) as u64,
         classes,
         parts: parts.iter().flat_map(bytes_of).collect(),
         rows,
@@ -296,8 +310,8 @@ pub fn wild_table(dice: &mut Dice, automaton: &Automaton) -> Lists {
         pool.push(Set::new());
     }
     let (parts, width) = (dice.from(1, 5), dice.from(1, 6));
-    let mut classes: Vec<u8> = (0..256).map(|_| dice.below(width) as u8).collect();
-    classes[dice.below(256)] = width as u8 - 1;
+    let mut classes: Vec<u8> = (0..BYTE_VALUES).map(|_| dice.below(width) as u8).collect();
+    classes[dice.below(BYTE_VALUES)] = width as u8 - 1;
     let mut unions: Vec<Set> = pool.clone();
     for a in &pool {
         unions.extend(pool.iter().map(|b| a | b));
@@ -307,12 +321,12 @@ pub fn wild_table(dice: &mut Dice, automaton: &Automaton) -> Lists {
         if dice.once_in(12) {
             continue;
         }
-        let mut slots = [UNUSED; 4];
-        for slot in slots.iter_mut().take(dice.pick(&[0, 1, 1, 2, 2, 2, 3, 4])) {
+        let mut slots = [UNUSED; SLOTS];
+        for slot in slots.iter_mut().take(dice.pick(&[0, 1, 1, 2, 2, 2, 3, SLOTS])) {
             *slot = dice.below(parts) as u16;
         }
         if dice.once_in(15) {
-            slots[dice.below(4)] = dice.pick(&[parts as u16, 1024, 65_534, 256, UNUSED]);
+            slots[dice.below(SLOTS)] = dice.pick(&[parts as u16, MOST_PARTS as u16, UNUSED - 1, 256, UNUSED]);
         }
         splits.push(split_record(set, &slots));
     }
@@ -321,7 +335,7 @@ pub fn wild_table(dice: &mut Dice, automaton: &Automaton) -> Lists {
     }
     dice.shuffle(&mut splits);
     Lists {
-        bound: dice.from(1, 4) as u64,
+        bound: dice.from(1, MOST_BOUND as usize) as u64,
         classes,
         parts: (0..parts).flat_map(|_| bytes_of(&random_set(dice, &states))).collect(),
         rows: (0..parts * width).flat_map(|_| bytes_of(&dice.pick(&pool))).collect(),
@@ -331,11 +345,11 @@ pub fn wild_table(dice: &mut Dice, automaton: &Automaton) -> Lists {
 
 /// One fault, at a random place (some do no harm).
 pub fn damage(dice: &mut Dice, lists: &mut Lists) {
-    let splits = lists.splits.len() / 40;
-    let parts = lists.parts.len() / 32;
+    let splits = lists.splits.len() / SPLIT_SIZE;
+    let parts = lists.parts.len() / SET_SIZE;
     match dice.below(22) {
-        0 => lists.bound = dice.pick(&[0, 5, 6, 255, 256, 257, 4_294_967_297, u64::MAX]),
-        1 => lists.bound = dice.from(1, 4) as u64,
+        0 => lists.bound = dice.pick(&[0, MOST_BOUND + 1, MOST_BOUND + 2, 255, 256, 257, 4_294_967_297, u64::MAX]),
+        1 => lists.bound = dice.from(1, MOST_BOUND as usize) as u64,
         2 => lists.bound = lists.bound.saturating_sub(1),
         3 => {
             let list = [&mut lists.classes, &mut lists.parts, &mut lists.rows, &mut lists.splits];
@@ -345,20 +359,20 @@ pub fn damage(dice: &mut Dice, lists: &mut Lists) {
                 1 => drop(list.pop()),
                 2 => list.push(dice.byte()),
                 3 => list.extend(list.clone()),
-                _ => list.truncate(list.len().saturating_sub(dice.pick(&[32, 40]))),
+                _ => list.truncate(list.len().saturating_sub(dice.pick(&[SET_SIZE, SPLIT_SIZE]))),
             }
         }
         4 => {
             if !lists.classes.is_empty() {
                 let at = dice.below(lists.classes.len());
-                lists.classes[at] = dice.pick(&[0, 1, 63, 64, 65, 128, 255]);
+                lists.classes[at] = dice.pick(&[0, 1, MOST_CLASS, MOST_CLASS + 1, MOST_CLASS + 2, 128, 255]);
             }
         }
         5 | 6 => {
             // A byte moves to the class of another.
-            if lists.classes.len() == 256 {
-                let from = dice.below(256);
-                let to = if dice.once_in(2) { usize::from(dice.pick(LETTERS)) } else { dice.below(256) };
+            if lists.classes.len() == BYTE_VALUES {
+                let from = dice.below(BYTE_VALUES);
+                let to = if dice.once_in(2) { usize::from(dice.pick(LETTERS)) } else { dice.below(BYTE_VALUES) };
                 lists.classes[to] = lists.classes[from];
             }
         }
@@ -376,42 +390,45 @@ pub fn damage(dice: &mut Dice, lists: &mut Lists) {
             }
         }
         12 | 13 if splits > 0 => {
-            let at = 40 * dice.below(splits) + 32 + 2 * dice.below(4);
-            let slot =
-                if dice.once_in(2) { dice.below(parts + 2) as u16 } else { dice.pick(&[UNUSED, 65_534, 1024, 0]) };
+            let at = SPLIT_SIZE * dice.below(splits) + SET_SIZE + 2 * dice.below(SLOTS);
+            let slot = if dice.once_in(2) {
+                dice.below(parts + 2) as u16
+            } else {
+                dice.pick(&[UNUSED, UNUSED - 1, MOST_PARTS as u16, 0])
+            };
             lists.splits[at..at + 2].copy_from_slice(&slot.to_le_bytes());
         }
         14 if splits > 0 => {
             // Two slots change places.
-            let at = 40 * dice.below(splits) + 32;
-            let (a, b) = (dice.below(4), dice.below(4));
+            let at = SPLIT_SIZE * dice.below(splits) + SET_SIZE;
+            let (a, b) = (dice.below(SLOTS), dice.below(SLOTS));
             lists.splits.swap(at + 2 * a, at + 2 * b);
             lists.splits.swap(at + 2 * a + 1, at + 2 * b + 1);
         }
         15 if splits > 1 => {
             // Two splits change places.
             let (a, b) = (dice.below(splits), dice.below(splits));
-            for i in 0..40 {
-                lists.splits.swap(40 * a + i, 40 * b + i);
+            for i in 0..SPLIT_SIZE {
+                lists.splits.swap(SPLIT_SIZE * a + i, SPLIT_SIZE * b + i);
             }
         }
         16 if splits > 0 => {
-            let at = 40 * dice.below(splits);
-            let again = lists.splits[at..at + 40].to_vec();
+            let at = SPLIT_SIZE * dice.below(splits);
+            let again = lists.splits[at..at + SPLIT_SIZE].to_vec();
             lists.splits.splice(at..at, again);
         }
         17..=19 if splits > 1 => {
-            let at = 40 * dice.below(splits);
-            lists.splits.drain(at..at + 40);
+            let at = SPLIT_SIZE * dice.below(splits);
+            lists.splits.drain(at..at + SPLIT_SIZE);
         }
         20 if splits > 0 && parts > 0 => {
             // One more split, at its place in the order: a part by itself.
             let part = dice.below(parts);
-            let mut record = lists.parts[32 * part..32 * part + 32].to_vec();
+            let mut record = lists.parts[SET_SIZE * part..SET_SIZE * (part + 1)].to_vec();
             record.extend((part as u16).to_le_bytes());
-            record.extend([255; 6]);
-            let mut records: Vec<Vec<u8>> = lists.splits.chunks(40).map(|split| split.to_vec()).collect();
-            if records.iter().all(|split| split[..split.len().min(32)] != record[..32]) {
+            record.extend([UNUSED.to_le_bytes(); SLOTS - 1].concat());
+            let mut records: Vec<Vec<u8>> = lists.splits.chunks(SPLIT_SIZE).map(|split| split.to_vec()).collect();
+            if records.iter().all(|split| split[..split.len().min(SET_SIZE)] != record[..SET_SIZE]) {
                 records.push(record);
                 records.sort();
                 lists.splits = records.concat();
@@ -419,12 +436,12 @@ pub fn damage(dice: &mut Dice, lists: &mut Lists) {
         }
         _ => {
             if dice.once_in(2) {
-                lists.parts.extend([0; 32]);
+                lists.parts.extend([0; SET_SIZE]);
             } else {
                 // One part more, with rows for it, all empty.
                 let width = lists.rows.len() / lists.parts.len().max(1);
-                lists.parts.extend([0; 32]);
-                lists.rows.extend(vec![0; 32 * width]);
+                lists.parts.extend([0; SET_SIZE]);
+                lists.rows.extend(vec![0; SET_SIZE * width]);
             }
         }
     }
@@ -434,15 +451,15 @@ pub fn damage(dice: &mut Dice, lists: &mut Lists) {
 
 /// A record that no feed refuses with 4, with a frontier of the list's own states and any offset.
 pub fn saved_record(dice: &mut Dice, automaton: Option<&Automaton>) -> Vec<u8> {
-    let states = automaton.map_or(vec![0, 1, 255], states_of);
+    let states = automaton.map_or(vec![0, 1, STATES as u16 - 1], states_of);
     let mut record = bytes_of(&random_set(dice, &states)).to_vec();
     let offset = match dice.below(4) {
         0 => dice.below(100) as u64,
-        1 => LAST_OFFSET - dice.below(4) as u64,
-        2 => LAST_OFFSET - dice.below(70) as u64,
+        1 => MOST_OFFSET - dice.below(4) as u64,
+        2 => MOST_OFFSET - dice.below(70) as u64,
         _ => dice.next() >> 32,
     };
-    let most = 256 * offset;
+    let most = STATES as u64 * offset;
     let rows = match dice.below(4) {
         0 => most,
         1 => 0,
@@ -457,20 +474,20 @@ pub fn saved_record(dice: &mut Dice, automaton: Option<&Automaton>) -> Vec<u8> {
 /// One fault in a record (some do no harm).
 pub fn damage_record(dice: &mut Dice, record: &mut Vec<u8>) {
     match dice.below(8) {
-        0 => record.truncate(dice.below(48)),
+        0 => record.truncate(dice.below(FLOW_SIZE)),
         1 => record.extend((0..dice.from(1, 16)).map(|_| dice.byte())),
         2 => record.clear(),
-        3 if record.len() >= 48 => {
-            let at = dice.from(36, 39);
+        3 if record.len() >= FLOW_SIZE => {
+            let at = dice.from(RESERVED_AT, ROWS_AT - 1);
             record[at] = dice.from(1, 255) as u8;
         }
-        4 | 5 if record.len() >= 48 => {
+        4 | 5 if record.len() >= FLOW_SIZE => {
             // Rows read, just over what the offset allows, or just not.
-            let offset = u32::from_le_bytes(record[32..36].try_into().unwrap());
-            let rows = 256 * u64::from(offset) + dice.pick(&[0, 1, 2, 1 << 40]);
-            record[40..48].copy_from_slice(&rows.to_le_bytes());
+            let offset = u32::from_le_bytes(record[OFFSET_AT..RESERVED_AT].try_into().unwrap());
+            let rows = STATES as u64 * u64::from(offset) + dice.pick(&[0, 1, 2, 1 << 40]);
+            record[ROWS_AT..FLOW_SIZE].copy_from_slice(&rows.to_le_bytes());
         }
-        6 if record.len() >= 48 => record[dice.pick(&[40, 44, 47])] = dice.byte(),
+        6 if record.len() >= FLOW_SIZE => record[dice.pick(&[ROWS_AT, ROWS_AT + 4, FLOW_SIZE - 1])] = dice.byte(),
         _ => {
             if !record.is_empty() {
                 let at = dice.below(record.len());
@@ -498,6 +515,6 @@ pub fn words(dice: &mut Dice) -> usize {
         1 => 1,
         2..=5 => dice.from(2, 12),
         6..=8 => dice.from(2, 90),
-        _ => dice.from(500, 1200),
+        _ => dice.from(ENOUGH_WORDS - 12, 1200),
     }
 }

@@ -1,20 +1,22 @@
 //! An ordinary matcher, written from the rules alone with plain structures: a set of states is a `BTreeSet`, the automaton has
-//! its edges by state, a table is decoded into sets. It shares nothing with the matcher that it is compared with.
+//! its edges by state, a table is decoded into sets. It shares nothing with the matcher that it is compared with but the names of the
+//! sizes.
 #![allow(dead_code)]
 
 use std::collections::{BTreeMap, BTreeSet};
+use watch::{
+    BYTE_VALUES, FLOW_SIZE, MOST_BOUND, MOST_CLASS, MOST_LIST, MOST_OFFSET, MOST_PARTS, MOST_SPLITS, OFFSET_AT,
+    RECORD_SIZE, RESERVED_AT, ROWS_AT, SET_SIZE, SIGNATURES, SLOTS, SPLIT_SIZE, STATES, UNUSED,
+};
 
-pub type Set = BTreeSet<u8>;
-
-pub const LAST_OFFSET: u64 = 4_294_967_295;
-pub const UNUSED: u16 = 65_535;
+pub type Set = BTreeSet<u16>;
 
 pub fn set_of(bytes: &[u8]) -> Set {
-    (0..=255).filter(|&s: &u8| bytes[usize::from(s) / 8] & (1 << (s % 8)) != 0).collect()
+    (0..STATES as u16).filter(|&s| bytes[usize::from(s) / 8] & (1 << (s % 8)) != 0).collect()
 }
 
-pub fn bytes_of(set: &Set) -> [u8; 32] {
-    let mut bytes = [0; 32];
+pub fn bytes_of(set: &Set) -> [u8; SET_SIZE] {
+    let mut bytes = [0; SET_SIZE];
     for &s in set {
         bytes[usize::from(s) / 8] |= 1 << (s % 8);
     }
@@ -31,48 +33,56 @@ fn number(bytes: &[u8]) -> u64 {
 pub struct Edge {
     pub low: u8,
     pub high: u8,
-    pub to: u8,
+    pub to: u16,
 }
 
 #[derive(Clone, Debug, Default)]
 pub struct Automaton {
-    pub edges: BTreeMap<u8, Vec<Edge>>,
+    pub edges: BTreeMap<u16, Vec<Edge>>,
     pub starts: Set,
-    pub accepts: BTreeMap<u8, BTreeSet<u8>>,
+    pub accepts: BTreeMap<u16, BTreeSet<u16>>,
+}
+
+/// A state or a signature of a record, which has to be below a number: else refusal 2.
+fn below(most: usize, bytes: &[u8]) -> Result<u16, u32> {
+    let n = number(bytes);
+    if n < most as u64 {
+        Ok(n as u16)
+    } else {
+        Err(2)
+    }
 }
 
 impl Automaton {
     /// Reads a list, or gives the number of its refusal.
     pub fn read(list: &[u8]) -> Result<Automaton, u32> {
-        if list.is_empty() || list.len() > 32_768 || !list.len().is_multiple_of(8) {
+        if list.is_empty() || list.len() > MOST_LIST || !list.len().is_multiple_of(RECORD_SIZE) {
             return Err(1);
         }
         let mut automaton = Automaton::default();
-        for record in list.chunks(8) {
-            let (middle, last) = (number(&record[4..6]), number(&record[6..8]));
-            if middle > 255 || last > 255 {
-                return Err(2);
-            }
-            let (middle, last) = (middle as u8, last as u8);
+        for record in list.chunks(RECORD_SIZE) {
+            let (middle, last) = (&record[4..6], &record[6..8]);
             match record[0] {
                 1 => {
                     let (low, high) = (record[1], record[2]);
                     if low > high || record[3] != 0 {
                         return Err(2);
                     }
-                    automaton.edges.entry(middle).or_default().push(Edge { low, high, to: last });
+                    let to = below(STATES, last)?;
+                    automaton.edges.entry(below(STATES, middle)?).or_default().push(Edge { low, high, to });
                 }
                 2 => {
                     if record[1..6].iter().any(|&b| b != 0) {
                         return Err(2);
                     }
-                    automaton.starts.insert(last);
+                    automaton.starts.insert(below(STATES, last)?);
                 }
                 3 => {
                     if record[1..4].iter().any(|&b| b != 0) {
                         return Err(2);
                     }
-                    automaton.accepts.entry(middle).or_default().insert(last);
+                    let signature = below(SIGNATURES, last)?;
+                    automaton.accepts.entry(below(STATES, middle)?).or_default().insert(signature);
                 }
                 _ => return Err(2),
             }
@@ -97,7 +107,7 @@ impl Automaton {
     }
 
     /// The signatures that the states of a frontier accept, each once, rising.
-    pub fn accepted(&self, frontier: &Set) -> BTreeSet<u8> {
+    pub fn accepted(&self, frontier: &Set) -> BTreeSet<u16> {
         frontier.iter().filter_map(|state| self.accepts.get(state)).flatten().copied().collect()
     }
 }
@@ -122,17 +132,21 @@ impl Flow {
 
 /// Reads a record and holds a piece to it: refusals 4 to 6.
 fn flow_for(record: &[u8], start: u64, piece: &[u8]) -> Result<Flow, u32> {
-    if record.len() != 48 || record[36..40] != [0; 4] {
+    if record.len() != FLOW_SIZE || record[RESERVED_AT..ROWS_AT] != [0; 4] {
         return Err(4);
     }
-    let flow = Flow { frontier: set_of(&record[..32]), offset: number(&record[32..36]), rows: number(&record[40..48]) };
-    if flow.rows > 256 * flow.offset {
+    let flow = Flow {
+        frontier: set_of(&record[..SET_SIZE]),
+        offset: number(&record[OFFSET_AT..RESERVED_AT]),
+        rows: number(&record[ROWS_AT..]),
+    };
+    if flow.rows > STATES as u64 * flow.offset {
         return Err(4);
     }
     if start != flow.offset {
         return Err(5);
     }
-    if flow.offset + piece.len() as u64 > LAST_OFFSET {
+    if flow.offset + piece.len() as u64 > MOST_OFFSET {
         return Err(6);
     }
     Ok(flow)
@@ -143,7 +157,7 @@ pub fn open(list: &Result<Automaton, u32>, record: &mut Vec<u8>) -> u32 {
         Ok(automaton) => automaton,
         Err(refusal) => return *refusal,
     };
-    if record.len() != 48 {
+    if record.len() != FLOW_SIZE {
         return 4;
     }
     *record = Flow { frontier: automaton.starts.clone(), offset: 0, rows: 0 }.write();
@@ -154,9 +168,9 @@ pub fn open(list: &Result<Automaton, u32>, record: &mut Vec<u8>) -> u32 {
 
 #[derive(Clone, Debug)]
 pub struct Split {
-    pub bytes: [u8; 32],
+    pub bytes: [u8; SET_SIZE],
     pub set: Set,
-    pub slots: [u16; 4],
+    pub slots: [u16; SLOTS],
 }
 
 impl Split {
@@ -183,25 +197,28 @@ pub struct Table {
 impl Table {
     /// Reads the four lists; `None` is refusal 8.
     pub fn read(classes: &[u8], parts: &[u8], rows: &[u8], splits: &[u8]) -> Option<Table> {
-        if classes.len() != 256 || classes.iter().any(|&class| class > 63) {
+        if classes.len() != BYTE_VALUES || classes.iter().any(|&class| class > MOST_CLASS) {
             return None;
         }
         let width = usize::from(*classes.iter().max().unwrap()) + 1;
-        if !parts.len().is_multiple_of(32) || !(1..=1024).contains(&(parts.len() / 32)) {
+        if !parts.len().is_multiple_of(SET_SIZE) || !(1..=MOST_PARTS).contains(&(parts.len() / SET_SIZE)) {
             return None;
         }
         if rows.len() != parts.len() * width {
             return None;
         }
-        if !splits.len().is_multiple_of(40) || !(1..=4096).contains(&(splits.len() / 40)) {
+        if !splits.len().is_multiple_of(SPLIT_SIZE) || !(1..=MOST_SPLITS).contains(&(splits.len() / SPLIT_SIZE)) {
             return None;
         }
         let splits: Vec<Split> = splits
-            .chunks(40)
-            .map(|record| Split {
-                bytes: record[..32].try_into().unwrap(),
-                set: set_of(&record[..32]),
-                slots: [32, 34, 36, 38].map(|at| number(&record[at..at + 2]) as u16),
+            .chunks(SPLIT_SIZE)
+            .map(|record| {
+                let (set, slots) = record.split_at(SET_SIZE);
+                Split {
+                    bytes: set.try_into().unwrap(),
+                    set: set_of(set),
+                    slots: std::array::from_fn(|i| number(&slots[2 * i..2 * i + 2]) as u16),
+                }
             })
             .collect();
         let mut first = BTreeMap::new();
@@ -211,8 +228,8 @@ impl Table {
         Some(Table {
             classes: classes.iter().map(|&class| usize::from(class)).collect(),
             width,
-            parts: parts.chunks(32).map(set_of).collect(),
-            rows: rows.chunks(32).map(set_of).collect(),
+            parts: parts.chunks(SET_SIZE).map(set_of).collect(),
+            rows: rows.chunks(SET_SIZE).map(set_of).collect(),
             splits,
             first,
         })
@@ -257,7 +274,7 @@ pub fn check_table(list: &Result<Automaton, u32>, bound: u64, table: &Option<Tab
         Ok(automaton) => automaton,
         Err(refusal) => return *refusal,
     };
-    if !(1..=4).contains(&bound) {
+    if !(1..=MOST_BOUND).contains(&bound) {
         return 7;
     }
     let table = match table {
@@ -369,7 +386,7 @@ pub fn split_feed(
         Ok(flow) => flow,
         Err(refusal) => return refused(refusal),
     };
-    if !(1..=4).contains(&bound) {
+    if !(1..=MOST_BOUND).contains(&bound) {
         return refused(7);
     }
     let table = match table {

@@ -11,6 +11,7 @@ use dice::Dice;
 use ordinary::{Answer, Automaton};
 use std::collections::BTreeMap;
 use watch::{raw, Fed, Flow, List, Refusal, SplitError, Table, TableLists};
+use watch::{ENOUGH_WORDS, FLOW_SIZE, OFFSET_AT, RESERVED_AT};
 
 /// Bytes or words on either side of a buffer, which stay as they are.
 const BESIDE: usize = 16;
@@ -109,7 +110,7 @@ impl<'d> Case<'d> {
             lists: Lists::default(),
             table: None,
             accepted: false,
-            record: vec![0; 48],
+            record: vec![0; FLOW_SIZE],
             own: false,
         };
         case.another_table();
@@ -163,8 +164,8 @@ impl<'d> Case<'d> {
     fn open(&mut self, tally: &mut Tally) {
         if self.dice.once_in(6) {
             self.another_record();
-        } else if self.record.len() != 48 {
-            self.record = (0..48).map(|_| self.dice.byte()).collect();
+        } else if self.record.len() != FLOW_SIZE {
+            self.record = (0..FLOW_SIZE).map(|_| self.dice.byte()).collect();
         }
         let side = self.side();
         let mut buffer = between(&self.record, side);
@@ -206,7 +207,7 @@ impl<'d> Case<'d> {
 
     /// A stated start: mostly the right one.
     fn start(&mut self) -> u64 {
-        let offset = match self.record.get(32..36) {
+        let offset = match self.record.get(OFFSET_AT..RESERVED_AT) {
             Some(bytes) => u64::from(u32::from_le_bytes(bytes.try_into().unwrap())),
             None => 0,
         };
@@ -236,7 +237,7 @@ impl<'d> Case<'d> {
         let mut words_buffer = between(&words, words_side);
         let (length, mut words_left) = (self.record.len(), words);
         let list = List::check(&self.list);
-        let safe = list.is_ok() && length == 48 && self.dice.once_in(4);
+        let safe = list.is_ok() && length == FLOW_SIZE && self.dice.once_in(4);
         let t = &self.lists;
 
         let expected = if split {
@@ -249,7 +250,7 @@ impl<'d> Case<'d> {
         let words_slice = &mut words_buffer[BESIDE..BESIDE + count];
         let got = if safe {
             let list = list.unwrap();
-            let mut flow = Flow::try_from(&buffer[BESIDE..BESIDE + 48]).unwrap();
+            let mut flow = Flow::try_from(&buffer[BESIDE..BESIDE + FLOW_SIZE]).unwrap();
             let got = if split {
                 let lists = TableLists { classes: &t.classes, parts: &t.parts, rows: &t.rows, splits: &t.splits };
                 let table = Table::unchecked(&list, t.bound, lists);
@@ -263,7 +264,7 @@ impl<'d> Case<'d> {
             } else {
                 flow.feed(&list, start, piece, words_slice).map_or_else(refused, answer_of)
             };
-            buffer[BESIDE..BESIDE + 48].copy_from_slice(flow.as_bytes());
+            buffer[BESIDE..BESIDE + FLOW_SIZE].copy_from_slice(flow.as_bytes());
             tally.safe += 1;
             got
         } else if split {
@@ -310,8 +311,8 @@ impl<'d> Case<'d> {
         if self.own && self.accepted {
             assert_ne!(got.refusal, 14, "an accepted table never halts a flow of its own");
         }
-        if count >= 512 && !piece.is_empty() && got.refusal == 0 {
-            assert!(got.bytes > 0, "room for 256 pairs, and no byte consumed");
+        if count >= ENOUGH_WORDS && !piece.is_empty() && got.refusal == 0 {
+            assert!(got.bytes > 0, "room for a pair of each signature, and no byte consumed");
         }
         // After a split feed through a table that was not accepted the frontier may be anything.
         self.own = self.own && (!split || self.accepted);

@@ -1,0 +1,62 @@
+//! The sizes and limits of the formats, under the names that `include/watch.h` gives them after `WATCH_`. What follows from another one
+//! is written so. `tools/sizes` in the repository holds them to the constants of the proved code.
+
+/// States are the numbers below this one.
+pub const STATES: usize = 256;
+
+/// Signatures are the numbers below this one.
+pub const SIGNATURES: usize = 256;
+
+/// Bytes in a set of states: a bit for each.
+pub const SET_SIZE: usize = STATES / 8;
+
+/// Bytes in a record of a list.
+pub const RECORD_SIZE: usize = 8;
+
+/// The most records that a list may have.
+pub const MOST_RECORDS: usize = 4096;
+
+/// Bytes of a list of the most records.
+pub const MOST_LIST: usize = MOST_RECORDS * RECORD_SIZE;
+
+/// The place of the offset in a flow record, which begins with a set: 4 bytes.
+pub const OFFSET_AT: usize = SET_SIZE;
+
+/// The place of the reserved bytes in a flow record: 4 zeros.
+pub const RESERVED_AT: usize = OFFSET_AT + 4;
+
+/// The place of the rows read in a flow record: 8 bytes.
+pub const ROWS_AT: usize = RESERVED_AT + 4;
+
+/// Bytes in a flow record.
+pub const FLOW_SIZE: usize = ROWS_AT + 8;
+
+/// The largest offset.
+pub const MOST_OFFSET: u64 = 4_294_967_295;
+
+/// Words with which a feed never stands still: room for a pair of each signature.
+pub const ENOUGH_WORDS: usize = 2 * SIGNATURES;
+
+/// Bytes that a piece may have; each has a class.
+pub const BYTE_VALUES: usize = 256;
+
+/// The largest class.
+pub const MOST_CLASS: u8 = 63;
+
+/// The most parts of a table.
+pub const MOST_PARTS: usize = 1024;
+
+/// The most splits of a table.
+pub const MOST_SPLITS: usize = 4096;
+
+/// The largest bound.
+pub const MOST_BOUND: u64 = 4;
+
+/// Slots in a split.
+pub const SLOTS: usize = 4;
+
+/// The number in a slot that is not in use.
+pub const UNUSED: u16 = 65_535;
+
+/// Bytes in a split: its set, then its slots of two bytes.
+pub const SPLIT_SIZE: usize = SET_SIZE + 2 * SLOTS;
