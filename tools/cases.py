@@ -11,6 +11,17 @@ import sys
 
 CRATES = os.path.join(os.path.dirname(os.path.abspath(__file__)), "..", "crates")
 
+# The sizes and limits: states and signatures are the numbers below theirs.
+STATES = 256
+SIGNATURES = 256
+BYTE_VALUES = 256
+RECORD_SIZE = 8
+MOST_RECORDS = 4096
+MOST_LIST = MOST_RECORDS * RECORD_SIZE
+
+# Bytes of a piece of the program's input.
+PIECE = 4096
+
 
 def edge(low, high, source, target):
     return bytes([1, low, high, 0]) + source.to_bytes(2, "little") + target.to_bytes(2, "little")
@@ -28,20 +39,25 @@ def good(r):
     """Whether rule 2 lets a record pass."""
     first, second = int.from_bytes(r[4:6], "little"), int.from_bytes(r[6:8], "little")
     if r[0] == 1:
-        return r[3] == 0 and r[1] <= r[2] and first <= 255 and second <= 255
+        return r[3] == 0 and r[1] <= r[2] and first < STATES and second < STATES
     if r[0] == 2:
-        return not any(r[1:6]) and second <= 255
+        return not any(r[1:6]) and second < STATES
     if r[0] == 3:
-        return not any(r[1:4]) and first <= 255 and second <= 255
+        return not any(r[1:4]) and first < STATES and second < SIGNATURES
     return False
+
+
+def cut(rules):
+    """The records of a list."""
+    return [rules[i : i + RECORD_SIZE] for i in range(0, len(rules), RECORD_SIZE)]
 
 
 def output(rules, data):
     """The lines of the program. No rules.bin counts as an empty one."""
     rules = rules or b""
-    if len(rules) == 0 or len(rules) > 32768 or len(rules) % 8 != 0:
+    if len(rules) == 0 or len(rules) > MOST_LIST or len(rules) % RECORD_SIZE != 0:
         return "refused 1\n"
-    records = [rules[i : i + 8] for i in range(0, len(rules), 8)]
+    records = cut(rules)
     if not all(good(r) for r in records):
         return "refused 2\n"
     if not any(r[0] == 2 for r in records):
@@ -57,44 +73,54 @@ def output(rules, data):
 
 
 def mixed(n):
-    """n bytes: all values in a row, then values without order; a match of `ranges` lies across the cut at 4,096."""
-    bs, x = bytearray(range(256)), 1
+    """n bytes: all values in a row, then values without order; a match of `ranges` lies across the cut after a piece."""
+    bs, x = bytearray(range(BYTE_VALUES)), 1
     while len(bs) < n:
         x = (x * 1103515245 + 12345) % 2**31
         bs.append(x >> 16 & 255)
-    bs[4095:4098] = [0x05, 0x90, 0x40]
+    bs[PIECE - 1 : PIECE + 2] = [0x05, 0x90, 0x40]
     return bytes(bs)
 
 
 # signature 7 after any "ab"
 seven = [edge(0, 255, 0, 0), edge(0x61, 0x61, 0, 1), edge(0x62, 0x62, 1, 2), start(0), accept(2, 7)]
 
+# the last state and the last signature
+last, last_signature = STATES - 1, SIGNATURES - 1
+
 # two start states; ranges that overlap, of one byte, and up to 255; a loop; a state with two signatures and two states with one
 ranges = [
-    accept(255, 255), accept(3, 9), accept(2, 9), accept(2, 0), accept(2, 9),
-    edge(0x00, 0x1F, 0, 1), edge(0x80, 0xFF, 1, 2), edge(0x40, 0x7F, 2, 2), edge(0x60, 0x60, 2, 3), edge(0x90, 0xBF, 1, 255),
-    edge(0x00, 0xFF, 0, 0), start(254), start(0), edge(0x00, 0x00, 254, 255),
+    accept(last, last_signature), accept(3, 9), accept(2, 9), accept(2, 0), accept(2, 9),
+    edge(0x00, 0x1F, 0, 1), edge(0x80, 0xFF, 1, 2), edge(0x40, 0x7F, 2, 2), edge(0x60, 0x60, 2, 3), edge(0x90, 0xBF, 1, last),
+    edge(0x00, 0xFF, 0, 0), start(last - 1), start(0), edge(0x00, 0x00, last - 1, last),
 ]
+
+
+def many(n):
+    """n records: edges on all bytes at the last state, which accepts."""
+    edges = [edge(i % BYTE_VALUES, i % BYTE_VALUES, last, last) for i in range(n - 2)]
+    return edges + [accept(last, last_signature), start(last)]
+
 
 def example(name):
     """A file of the example of two breakfasts."""
     return open(os.path.join(CRATES, "..", "examples", "two-breakfasts", name), "rb").read()
 
 
-breakfasts = [example("rules.bin")[i : i + 8] for i in range(0, len(example("rules.bin")), 8)]
+breakfasts = cut(example("rules.bin"))
 
 # name: list, input
 cases = {
     "watchbox": (seven, b"abab"),
     "case_refused": ([r for r in seven if r[0] != 2], b"abab"),
     "case_missing": (None, b"abab"),
-    "case_pauses": ([start(0), edge(0, 255, 0, 0)] + [accept(0, g) for g in reversed(range(256))], bytes(range(246, 256)) + b"0123456789"),
+    "case_pauses": ([start(0), edge(0, 255, 0, 0)] + [accept(0, g) for g in reversed(range(SIGNATURES))], bytes(range(246, 256)) + b"0123456789"),
     "case_binary": (ranges, mixed(10000)),
-    "case_limits": ([edge(i % 256, i % 256, 255, 255) for i in range(4094)] + [accept(255, 255), start(255)], b"\x00a\xff"),
-    "case_long": ([edge(i % 256, i % 256, 255, 255) for i in range(4095)] + [accept(255, 255), start(255)], b"\x00a\xff"),
+    "case_limits": (many(MOST_RECORDS), b"\x00a\xff"),
+    "case_long": (many(MOST_RECORDS + 1), b"\x00a\xff"),
     "case_twice": (breakfasts, example("twice")),
     "case_once": (breakfasts, example("once")),
-    "case_state": (seven + [edge(0, 255, 256, 0)], b"abab"),
+    "case_state": (seven + [edge(0, 255, STATES, 0)], b"abab"),
 }
 
 

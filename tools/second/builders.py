@@ -1,11 +1,13 @@
 """Builders of lists, pieces, records and split tables."""
 
 import model
-from model import UNUSED, Flow, Table, pack_flow, pack_set
+from model import (BYTE_VALUES, MOST_CLASS, MOST_OFFSET, RECORD_SIZE, SIGNATURES, STATES, UNUSED,
+                   Flow, Table, pack_flow, pack_set, padded)
+from tape import MOST_WORDS
 
 LETTERS = [0, 1, 31, 32, 48, 64, 97, 98, 99, 122, 127, 128, 200, 254, 255]
-STATES = [0, 1, 2, 3, 5, 7, 8, 9, 15, 16, 31, 32, 62, 63, 64, 65, 71, 72, 127, 128,
-          129, 191, 192, 200, 248, 254, 255]
+SOME_STATES = [0, 1, 2, 3, 5, 7, 8, 9, 15, 16, 31, 32, 62, 63, 64, 65, 71, 72, 127, 128,
+               129, 191, 192, 200, 248, STATES - 2, STATES - 1]
 
 
 # Records of a list
@@ -37,7 +39,7 @@ class Sample:
 def search_list(dice):
     """A root that loops on all bytes, and one to three words behind it."""
     letters = dice.some(LETTERS, dice.between(2, 4))
-    states = dice.some(STATES, 12)
+    states = dice.some(SOME_STATES, 12)
     root, rest = states[0], states[1:]
     records = [start(root)]
     if dice.chance(85):
@@ -54,16 +56,16 @@ def search_list(dice):
             high = dice.between(low, 255) if dice.chance(20) else low
             records.append(edge(low, high, at, to))
             at = to
-        records.append(accept(at, dice.below(256)))
+        records.append(accept(at, dice.below(SIGNATURES)))
         if dice.chance(30):
-            records.append(accept(at, dice.pick([0, 7, 254, 255])))
+            records.append(accept(at, dice.pick([0, 7, SIGNATURES - 2, SIGNATURES - 1])))
     return Sample(dice.shuffled(records), letters, states)
 
 
 def web_list(dice):
     """Edges between few states at random, with repeats and several starts."""
     letters = dice.some(LETTERS, dice.between(1, 4))
-    states = dice.some(STATES, dice.between(2, 6))
+    states = dice.some(SOME_STATES, dice.between(2, 6))
     records = [start(dice.pick(states)) for _ in range(dice.pick([1, 1, 2, 3]))]
     for _ in range(dice.between(1, 9)):
         shape = dice.below(10)
@@ -78,7 +80,7 @@ def web_list(dice):
         else:
             low, high = dice.pick(letters), 255
         records.append(edge(low, high, dice.pick(states), dice.pick(states)))
-    signatures = [dice.below(256) for _ in range(3)] + [255]
+    signatures = [dice.below(SIGNATURES) for _ in range(3)] + [SIGNATURES - 1]
     for _ in range(dice.below(7)):
         records.append(accept(dice.pick(states), dice.pick(signatures)))
     if dice.chance(40):
@@ -89,14 +91,14 @@ def web_list(dice):
 def crowded_list(dice, accepts):
     """Many accept records on one looping state."""
     letters = dice.some(LETTERS, 2)
-    states = dice.some(STATES, 3)
+    states = dice.some(SOME_STATES, 3)
     records = [start(states[0]), edge(0, 255, states[0], states[0]),
                edge(letters[0], letters[0], states[0], states[1])]
     if dice.chance(50):
         records.append(edge(0, 255, states[1], states[2]))
     many = dice.pick(states[:2])
-    records += [accept(many, g) for g in dice.some(range(256), accepts)]
-    records += [accept(dice.pick(states), dice.below(256)) for _ in range(3)]
+    records += [accept(many, g) for g in dice.some(range(SIGNATURES), accepts)]
+    records += [accept(dice.pick(states), dice.below(SIGNATURES)) for _ in range(3)]
     return Sample(dice.shuffled(records), letters, states)
 
 
@@ -114,11 +116,12 @@ def broken_list(dice, sample, number):
     records = list(sample.records)
     if number == 1:
         data = sample.data
-        return dice.pick([b"", data[:-1], data + b"\0", data[:7], data + bytes(4)])
+        return dice.pick([b"", data[:-1], data + b"\0", data[:RECORD_SIZE - 1],
+                          data + bytes(4)])
     if number == 2:
-        bad = dice.pick([bytes([4, 0, 0, 0, 0, 0, 0, 0]), edge(9, 8, 0, 0), start(256),
-                         accept(0, 256), accept(300, 1), edge(0, 1, 256, 0),
-                         edge(0, 1, 0, 511), bytes([1, 0, 0, 1, 0, 0, 0, 0])])
+        bad = dice.pick([bytes([4, 0, 0, 0, 0, 0, 0, 0]), edge(9, 8, 0, 0), start(STATES),
+                         accept(0, SIGNATURES), accept(STATES + 44, 1), edge(0, 1, STATES, 0),
+                         edge(0, 1, 0, 2 * STATES - 1), bytes([1, 0, 0, 1, 0, 0, 0, 0])])
         records.insert(dice.below(len(records) + 1), bad)
         return b"".join(records)
     records = [record for record in records if record[0] != 2]
@@ -139,7 +142,7 @@ def a_piece(dice, sample, length):
         elif shape < 17:
             out.append(max(0, near - 1))
         else:
-            out.append(dice.below(256))
+            out.append(dice.below(BYTE_VALUES))
     return bytes(out)
 
 
@@ -160,7 +163,7 @@ def word_count(dice):
         return dice.below(8)
     if shape < 18:
         return dice.between(5, 60)
-    return dice.between(61, 1200) if dice.chance(20) else dice.between(61, 300)
+    return dice.between(61, MOST_WORDS) if dice.chance(20) else dice.between(61, 300)
 
 
 def any_frontier(dice, sample):
@@ -168,19 +171,20 @@ def any_frontier(dice, sample):
     if shape < 5:
         return dice.subset(sample.states, 60)
     if shape < 7:
-        return dice.subset(range(256), 10)
+        return dice.subset(range(STATES), 10)
     if shape < 8:
-        return frozenset(range(256))
+        return frozenset(range(STATES))
     if shape < 9:
         return frozenset()
-    return dice.subset(sample.states, 50) | dice.subset(STATES, 20)
+    return dice.subset(sample.states, 50) | dice.subset(SOME_STATES, 20)
 
 
 def any_flow(dice, frontier):
     offset = dice.pick([1, 2, dice.below(300), dice.below(70000), dice.below(2 ** 32),
-                        model.LAST_OFFSET - dice.below(50)])
-    rows = dice.pick([0, 256 * offset, 256 * offset - dice.below(256 * offset + 1)
-                      if offset < 2 ** 24 - 1 else 256 * offset - 1, offset])
+                        MOST_OFFSET - dice.below(50)])
+    most = STATES * offset
+    rows = dice.pick([0, most, most - dice.below(most + 1)
+                      if offset < 2 ** 32 // STATES - 1 else most - 1, offset])
     return pack_flow(Flow(frontier, offset, rows))
 
 
@@ -215,14 +219,10 @@ class Plan:
         return max(len([s for s in slots if s != UNUSED]) for _, slots in self.splits)
 
 
-def padded(slots):
-    return list(slots) + [UNUSED] * (4 - len(slots))
-
-
 def alike(nfa):
-    """The 256 bytes in groups that take the same edges, by lowest byte."""
+    """All bytes in groups that take the same edges, by lowest byte."""
     groups = {}
-    for byte in range(256):
+    for byte in range(BYTE_VALUES):
         taken = frozenset(e for e in nfa.edges if e.low <= byte <= e.high)
         groups.setdefault(taken, []).append(byte)
     return list(groups.values())
@@ -293,7 +293,7 @@ def build_plan(dice, sample, bound, most_sets=30, most_parts=12, wide=False):
     spare = dice.pick([0, 0, 0, 1, 2])
     for _ in range(spare):
         parts.append(dice.pick([frozenset(), dice.subset(sample.states, 50),
-                                dice.subset(range(256), 8)] + parts))
+                                dice.subset(range(STATES), 8)] + parts))
     if not parts:
         parts.append(dice.subset(sample.states, 50))
     if len(parts) > most_parts:
@@ -314,7 +314,7 @@ def build_plan(dice, sample, bound, most_sets=30, most_parts=12, wide=False):
 
     # Bytes of one class step alike for every part, perhaps finer than needed.
     groups = {}
-    for byte in range(256):
+    for byte in range(BYTE_VALUES):
         key = tuple(pack_set(nfa.step(part, byte)) for part in parts)
         groups.setdefault(key, []).append(byte)
     groups = list(groups.values())
@@ -326,13 +326,13 @@ def build_plan(dice, sample, bound, most_sets=30, most_parts=12, wide=False):
     if len(groups) > 9:
         return None
     if wide:
-        names = sorted(dice.some(range(63), len(groups) - 1)) + [63]
+        names = sorted(dice.some(range(MOST_CLASS), len(groups) - 1)) + [MOST_CLASS]
     elif dice.chance(25):
         names = dice.some(range(len(groups) + 2), len(groups))
     else:
         names = dice.shuffled(range(len(groups)))
     names = dice.shuffled(names)
-    classes = [0] * 256
+    classes = [0] * BYTE_VALUES
     rows = {}
     for name, group in zip(names, groups):
         for byte in group:
@@ -344,7 +344,7 @@ def build_plan(dice, sample, bound, most_sets=30, most_parts=12, wide=False):
         for name in range(width):
             if name not in names:
                 rows[p, name] = dice.pick([frozenset(), dice.subset(sample.states, 50),
-                                           dice.subset(range(256), 30)])
+                                           dice.subset(range(STATES), 30)])
     return Plan(classes, width, parts, rows, splits)
 
 
@@ -352,7 +352,7 @@ def good_table(dice, bound, most_sets=30, most_parts=12, wide=False):
     """A list and a plan accepted for it at bound."""
     while True:
         sample = any_list(dice)
-        if len(sample.data) > 320:
+        if len(sample.records) > 40:
             continue
         plan = build_plan(dice, sample, bound, most_sets, most_parts, wide)
         if plan is not None:

@@ -5,16 +5,22 @@ import examples
 import faults
 import model
 from builders import (Sample, a_piece, accept, any_flow, any_frontier, any_list, broken_list,
-                      crowded_list, edge, good_table, padded, short_length, start, word_count)
+                      crowded_list, edge, good_table, short_length, start, word_count)
 from faults import BAD_BOUNDS
-from model import LAST_OFFSET, UNUSED, Flow, Table, pack_flow, pack_set, unpack_flow
+from model import (BYTE_VALUES, ENOUGH_WORDS, FLOW_SIZE, MOST_BOUND, MOST_OFFSET, MOST_PARTS,
+                   MOST_RECORDS, MOST_SPLITS, OFFSET_AT, RECORD_SIZE, RESERVED_AT, ROWS_AT,
+                   SIGNATURES, SLOTS, SPLIT_SIZE, STATES, UNUSED, Flow, Table, pack_flow, padded,
+                   unpack_flow)
+from tape import MOST_WORDS
 
 EMPTY_TABLE = Table(b"", b"", b"", b"")
+BOUNDS = range(1, MOST_BOUND + 1)
+PIECE = 4096  # bytes of a long piece
 
 
 def offset_of(record):
     """The offset that a record of any length seems to have."""
-    return model.number(record[32:36])
+    return model.number(record[OFFSET_AT:RESERVED_AT])
 
 
 # The worked examples
@@ -22,17 +28,17 @@ def offset_of(record):
 def worked(tape):
     tape.load_list(examples.LIST)
     tape.load_table(examples.TABLE)
-    tape.load_record(b"\xff" * 48)
+    tape.load_record(b"\xff" * FLOW_SIZE)
     tape.check_list()
-    for bound in (1, 2, 3, 4, 0, 5, 257, 2 ** 32 + 1):
+    for bound in (*BOUNDS, 0, MOST_BOUND + 1, 257, 2 ** 32 + 1):
         tape.check_table(bound)
     tape.open()
     fresh = tape.record
-    for words in (0, 1, 2, 3, 4, 5, 512):
+    for words in (0, 1, 2, 3, 4, 5, ENOUGH_WORDS):
         for piece in (b"abab", b"aba", b""):
             tape.load_record(fresh)
             tape.feed(0, words, piece)
-            for bound in (1, 2, 3, 4):
+            for bound in BOUNDS:
                 tape.load_record(fresh)
                 tape.split_feed(bound, 0, words, piece)
     tape.load_record(fresh)
@@ -42,7 +48,7 @@ def worked(tape):
     tape.feed(0, 4, b"bab")
     for table in (examples.WITHOUT_02, examples.WITHOUT_0):
         tape.load_table(table)
-        for bound in (1, 2, 3, 4):
+        for bound in BOUNDS:
             tape.check_table(bound)
         for words in (0, 2, 8):
             tape.load_record(fresh)
@@ -59,17 +65,18 @@ def ask_list(tape, dice, often):
     """The list check, and now and then the other entry points on this list."""
     tape.check_list()
     if dice.chance(often):
-        tape.load_record(dice.bytes(48) if dice.chance(40)
-                         else dice.pick([b"\xff" * 48, bytes(48), bytes(47), b"\x01" * 49]))
+        tape.load_record(dice.bytes(FLOW_SIZE) if dice.chance(40)
+                         else dice.pick([b"\xff" * FLOW_SIZE, bytes(FLOW_SIZE),
+                                         bytes(FLOW_SIZE - 1), b"\x01" * (FLOW_SIZE + 1)]))
         tape.open()
     if dice.chance(often):
         at = offset_of(tape.record)
         tape.feed(dice.pick([at, at, at + 1]), word_count(dice), dice.bytes(dice.below(9)))
     if dice.chance(often):
-        tape.check_table(dice.pick([1, 2, 3, 4, 0, 5]))
+        tape.check_table(dice.pick([*BOUNDS, 0, MOST_BOUND + 1]))
     if dice.chance(often):
         at = offset_of(tape.record)
-        tape.split_feed(dice.pick([1, 2, 3, 4, 0, 5]), dice.pick([at, at, at + 1]),
+        tape.split_feed(dice.pick([*BOUNDS, 0, MOST_BOUND + 1]), dice.pick([at, at, at + 1]),
                         word_count(dice), dice.bytes(dice.below(9)))
 
 
@@ -78,6 +85,12 @@ def with_record(dice, records, record):
     records = list(records)
     records.insert(dice.pick([0, len(records), dice.below(len(records) + 1)]), record)
     return b"".join(records)
+
+
+def around(most):
+    """Numbers below a limit, and past it in either byte."""
+    return (0, 1, most // 2 - 1, most // 2, most - 2, most - 1, most, most + 1, 2 * most - 2,
+            2 * most - 1, 2 * most, 4096, 32768, 65280, 65534, 65535)
 
 
 def lists(tape, dice):
@@ -89,21 +102,21 @@ def lists(tape, dice):
         ask_list(tape, dice, often)
 
     # Every kind byte on a record that is sound as each of the three kinds.
-    for kind in range(256):
+    for kind in range(BYTE_VALUES):
         ask(with_record(dice, dice.some(sample.records, 2) + [start(1)],
-                        bytes([kind]) + bytes(7)))
+                        bytes([kind]) + bytes(RECORD_SIZE - 1)))
 
     # Every reserved byte of each kind, and every byte of a record in turn.
     for kind, places in ((1, [3]), (2, [1, 2, 3, 4, 5]), (3, [1, 2, 3])):
         for at in places:
             for value in (1, 2, 4, 8, 16, 32, 64, 128, 255, dice.between(1, 254)):
-                record = bytearray([kind]) + bytes(7)
+                record = bytearray([kind]) + bytes(RECORD_SIZE - 1)
                 record[at] = value
                 ask(with_record(dice, [start(3), edge(0, 255, 3, 3)], bytes(record)))
     for kind in (1, 2, 3):
-        for at in range(1, 8):
+        for at in range(1, RECORD_SIZE):
             for value in (0, 1, 255):
-                record = bytearray([kind]) + bytes(7)
+                record = bytearray([kind]) + bytes(RECORD_SIZE - 1)
                 record[at] = value
                 ask(with_record(dice, [start(3)], bytes(record)))
 
@@ -112,15 +125,16 @@ def lists(tape, dice):
                       (128, 127), (127, 128), (97, 96), (97, 97), (0, 1)):
         ask(with_record(dice, [start(3), accept(2, 4)], edge(low, high, 3, 2)))
     for _ in range(60):
-        ask(with_record(dice, [start(3)], edge(dice.below(256), dice.below(256), 3, 2)))
+        low, high = dice.below(BYTE_VALUES), dice.below(BYTE_VALUES)
+        ask(with_record(dice, [start(3)], edge(low, high, 3, 2)))
 
-    # States and signatures up to 255, and past it in either byte.
-    for value in (0, 1, 127, 128, 254, 255, 256, 257, 510, 511, 512, 4096, 32768, 65280, 65534,
-                  65535, dice.between(256, 65535)):
-        for record in (edge(1, 2, value, 3), edge(1, 2, 3, value), start(value),
-                       accept(value, 3), accept(3, value)):
+    # States and signatures up to the last, and past it.
+    past = dice.between(max(STATES, SIGNATURES), 65535)
+    for state, signature in zip((*around(STATES), past), (*around(SIGNATURES), past)):
+        for record in (edge(1, 2, state, 3), edge(1, 2, 3, state), start(state),
+                       accept(state, 3), accept(3, signature)):
             ask(with_record(dice, [start(3), edge(0, 255, 3, 3)], record))
-        ask(start(value))
+        ask(start(state))
 
     # No start, start last, and a bad record in a list without a start.
     for _ in range(60):
@@ -129,7 +143,8 @@ def lists(tape, dice):
         starts = [record for record in other.records if record[0] == 2]
         if bare:
             ask(b"".join(bare))
-            bad = dice.pick([edge(3, 2, 0, 0), start(256), accept(1, 999), bytes(8)])
+            bad = dice.pick([edge(3, 2, 0, 0), start(STATES), accept(1, 999),
+                             bytes(RECORD_SIZE)])
             ask(with_record(dice, bare, bad))
         ask(b"".join(bare + starts))
         ask(b"".join(starts + bare))
@@ -138,10 +153,10 @@ def lists(tape, dice):
 
     # Lengths: fronts of a good list and of a bad one, zeros, and the ends of the range.
     for length in range(0, 58):
-        for source in (b"".join([start(1), edge(0, 9, 1, 2), accept(2, 255)] * 3),
+        for source in (b"".join([start(1), edge(0, 9, 1, 2), accept(2, SIGNATURES - 1)] * 3),
                        b"".join([edge(1, 0, 0, 0), start(1), accept(2, 300)] * 3)):
             ask(source[:length], 30)
-    for length in (8, 16, 40):
+    for length in (RECORD_SIZE, 2 * RECORD_SIZE, 5 * RECORD_SIZE):
         ask(bytes(length))
         ask(b"\xff" * length)
 
@@ -150,27 +165,27 @@ def lists(tape, dice):
         other = any_list(dice)
         data = bytearray(other.data)
         at = dice.below(len(data))
-        data[at] = dice.pick([0, 1, 2, 3, 255, dice.below(256)])
+        data[at] = dice.pick([0, 1, 2, 3, 255, dice.below(BYTE_VALUES)])
         ask(bytes(data))
     for _ in range(80):
-        data = b"".join(bytes([dice.between(1, 3)]) + dice.bytes(7)
+        data = b"".join(bytes([dice.between(1, 3)]) + dice.bytes(RECORD_SIZE - 1)
                         for _ in range(dice.between(1, 4)))
         ask(data, 10)
 
 
 def longest_lists(tape, dice):
-    """4,096 records and one more, with the start at either end."""
+    """The most records and one more, with the start at either end."""
     tape.load_table(examples.TABLE)
-    body = [edge(b % 256, 255, b % 7, (b + 1) % 7) for b in range(2000)]
-    body += [accept(b % 7, b % 256) for b in range(4095 - len(body))]
+    body = [edge(b % BYTE_VALUES, 255, b % 7, (b + 1) % 7) for b in range(2000)]
+    body += [accept(b % 7, b % SIGNATURES) for b in range(MOST_RECORDS - 1 - len(body))]
     for data in (b"".join(body + [start(0)]), b"".join([start(0)] + body),
-                 b"".join(body + [accept(0, 0)]), b"".join(body + [accept(0, 256)]),
+                 b"".join(body + [accept(0, 0)]), b"".join(body + [accept(0, SIGNATURES)]),
                  b"".join([start(0)] + body + [start(0)]), b"".join([start(0)] + body) + b"\2"):
         tape.load_list(data)
         tape.check_list()
-        tape.load_record(b"\x55" * 48)
+        tape.load_record(b"\x55" * FLOW_SIZE)
         tape.open()
-        for words in (1200, 512, 511):
+        for words in (MOST_WORDS, ENOUGH_WORDS, ENOUGH_WORDS - 1):
             tape.feed(offset_of(tape.record), words, b"ab\xff")
         tape.check_table(2)
         tape.split_feed(2, offset_of(tape.record), 600, b"ab")
@@ -184,14 +199,15 @@ def openings(tape, dice):
         data = sample.data if turn % 3 else broken_list(dice, sample, 1 + turn // 3 % 3)
         tape.load_list(data)
         tape.check_list()
-        for length in dice.some(range(65), 3) + [dice.pick([47, 49])] + [48] * 4:
+        for length in (dice.some(range(FLOW_SIZE + 17), 3)
+                       + [dice.pick([FLOW_SIZE - 1, FLOW_SIZE + 1])] + [FLOW_SIZE] * 4):
             content = dice.pick([bytes(length), b"\xff" * length, dice.bytes(length)])
             tape.load_record(content)
             tape.open()
             if dice.chance(30):
                 tape.feed(offset_of(tape.record), word_count(dice),
                           a_piece(dice, sample, dice.below(6)))
-    for length in range(65):
+    for length in range(FLOW_SIZE + 17):
         tape.load_list(any_list(dice).data)
         tape.load_record(dice.bytes(length))
         tape.open()
@@ -222,7 +238,8 @@ class Walk:
 
     def begin(self):
         self.tape.load_list(self.sample.data)
-        self.tape.load_record(self.dice.pick([bytes(48), b"\xff" * 48, self.dice.bytes(48)]))
+        self.tape.load_record(self.dice.pick([bytes(FLOW_SIZE), b"\xff" * FLOW_SIZE,
+                                              self.dice.bytes(FLOW_SIZE)]))
         self.tape.open()
 
     def go_on(self):
@@ -256,25 +273,26 @@ class Walk:
         at = self.offset()
         shape = dice.below(6)
         if shape == 0:
-            bad = dice.pick([good[:47], good + b"\0", b"", good[:dice.below(48)],
-                             good + bytes(16)])
+            bad = dice.pick([good[:FLOW_SIZE - 1], good + b"\0", b"",
+                             good[:dice.below(FLOW_SIZE)], good + bytes(16)])
         elif shape in (1, 2):
-            spot = dice.between(36, 39)
+            spot = dice.between(RESERVED_AT, ROWS_AT - 1)
             bad = good[:spot] + bytes([dice.pick([1, 128, 255])]) + good[spot + 1:]
         else:
-            rows = dice.pick([256 * at + 1, 256 * at + 1, 256 * at + 256, 2 ** 63,
+            most = STATES * at
+            rows = dice.pick([most + 1, most + 1, most + STATES, 2 ** 63,
                               2 ** 64 - 1, 2 ** 40 + dice.below(1000)])
-            bad = good[:40] + rows.to_bytes(8, "little")
+            bad = good[:ROWS_AT] + rows.to_bytes(8, "little")
         self.tape.load_record(bad)
         self.feed(dice.pick([at, at, at + 1]), word_count(dice),
                   dice.pick([b"", self.piece(), self.piece()]))
         self.tape.load_record(good)
 
     def full_rows(self):
-        """Rows at exactly 256 times the offset, or just under it."""
+        """Rows at exactly the states times the offset, or just under it."""
         good = self.tape.record
-        rows = max(0, 256 * self.offset() - self.dice.pick([0, 0, 1]))
-        self.tape.load_record(good[:40] + rows.to_bytes(8, "little"))
+        rows = max(0, STATES * self.offset() - self.dice.pick([0, 0, 1]))
+        self.tape.load_record(good[:ROWS_AT] + rows.to_bytes(8, "little"))
         self.go_on()
 
     def other_frontier(self):
@@ -285,10 +303,10 @@ class Walk:
         """Offsets next to the last one."""
         dice = self.dice
         left = dice.pick([0, 0, 1, 2, 3, dice.below(12)])
-        longer = 4096 if dice.chance(2) else dice.pick([left + 2, 0, left + 40])
-        at = LAST_OFFSET - left
+        longer = PIECE if dice.chance(2) else dice.pick([left + 2, 0, left + 40])
+        at = MOST_OFFSET - left
         flow = unpack_flow(self.tape.record)
-        self.tape.load_record(pack_flow(Flow(flow.frontier, at, min(flow.rows, 256 * at))))
+        self.tape.load_record(pack_flow(Flow(flow.frontier, at, min(flow.rows, STATES * at))))
         for length in dice.shuffled([left + 1, left, longer]):
             at = self.offset()
             words = dice.pick([0, 1, 3, 20, 40, 64])
@@ -298,8 +316,8 @@ class Walk:
             self.tape.open()
 
     def every_byte(self):
-        self.feed(self.offset(), self.dice.pick([0, 40, 600, 1200]),
-                  bytes(self.dice.shuffled(range(256))))
+        self.feed(self.offset(), self.dice.pick([0, 40, 600, MOST_WORDS]),
+                  bytes(self.dice.shuffled(range(BYTE_VALUES))))
 
     def bad_bound(self):
         dice = self.dice
@@ -314,7 +332,8 @@ class Walk:
     def other_bound(self):
         """The next bound up or down, on the same table."""
         if self.bound is not None:
-            self.feed(self.offset(), word_count(self.dice), self.piece(), self.dice.between(1, 4))
+            self.feed(self.offset(), word_count(self.dice), self.piece(),
+                      self.dice.between(1, MOST_BOUND))
 
     def other_feed(self):
         """The plain feed in a flow of the split feed."""
@@ -341,35 +360,41 @@ def plain_flows(tape, dice):
             walk.move()
 
 
+def near(words):
+    return range(words - 2, words + 3)
+
+
 def crowded_flows(tape, dice):
-    """256 signatures on one state: a feed with less room pauses."""
+    """All signatures on one state: a feed with less room pauses."""
     for turn in range(14):
-        sample = crowded_list(dice, dice.pick([256, 256, 255, 100]))
+        sample = crowded_list(dice, dice.pick([SIGNATURES, SIGNATURES, SIGNATURES - 1, 100]))
         walk = Walk(tape, dice, sample)
         walk.begin()
         for _ in range(12):
             piece = a_piece(dice, sample, dice.between(1, 8))
-            words = dice.pick([0, 1, 510, 511, 512, 513, 514, 1022, 1023, 1024, 1025, 1199, 1200,
-                               dice.below(1201)])
+            words = dice.pick([0, 1, *near(ENOUGH_WORDS), 2 * ENOUGH_WORDS - 2,
+                               2 * ENOUGH_WORDS - 1, 2 * ENOUGH_WORDS, 2 * ENOUGH_WORDS + 1,
+                               MOST_WORDS - 1, MOST_WORDS, dice.below(MOST_WORDS + 1)])
             tape.feed(walk.offset(), words, piece)
             if dice.chance(20):
                 walk.begin()
 
 
 def long_pieces(tape, dice):
-    """Pieces of 4,096 bytes and near it."""
+    """Long pieces."""
     for turn in range(14):
-        bound = dice.between(1, 4)
+        bound = dice.between(1, MOST_BOUND)
         sample, plan = good_table(dice, bound)
         tape.load_table(plan.table())
         for engine in (None, bound):
             walk = Walk(tape, dice, sample, engine)
             walk.begin()
-            piece = a_piece(dice, sample, dice.pick([4096, 4096, 4095, 4097, 1500, 2048]))
-            answer = walk.feed(0, 1200, piece)
+            length = dice.pick([PIECE, PIECE, PIECE - 1, PIECE + 1, 1500, 2048])
+            piece = a_piece(dice, sample, length)
+            answer = walk.feed(0, MOST_WORDS, piece)
             rest = piece[answer.consumed:][:300]
             while rest and not answer.refusal and dice.chance(70):
-                answer = walk.feed(walk.offset(), dice.pick([100, 600, 1200]), rest)
+                answer = walk.feed(walk.offset(), dice.pick([100, 600, MOST_WORDS]), rest)
                 rest = rest[answer.consumed:]
 
 
@@ -377,16 +402,16 @@ def long_pieces(tape, dice):
 
 def agree(dice, sample, table, bound):
     """An accepted table tells what the plain feed tells, within its rows."""
-    record = model.open_flow(sample.data, bytes(48))[1]
+    record = model.open_flow(sample.data, bytes(FLOW_SIZE))[1]
     piece = a_piece(dice, sample, 40)
     plain = model.plain_feed(sample.data, record, 0, [0] * 900, piece)
     split = model.split_feed(sample.data, table, bound, record, 0, [0] * 900, piece)
-    assert split[:5] == plain[:5] and split.record[:40] == plain.record[:40]
+    assert split[:5] == plain[:5] and split.record[:ROWS_AT] == plain.record[:ROWS_AT]
     assert unpack_flow(split.record).rows <= bound * split.consumed
 
 
 def ask_bounds(tape, dice, bound):
-    for other in dice.shuffled([1, 2, 3, 4]):
+    for other in dice.shuffled(BOUNDS):
         if other == bound or dice.chance(60):
             tape.check_table(other)
     if dice.chance(35):
@@ -396,7 +421,7 @@ def ask_bounds(tape, dice, bound):
 def good_tables(tape, dice):
     """Accepted tables, and flows through them."""
     for turn in range(280):
-        bound = 1 + turn % 4
+        bound = 1 + turn % MOST_BOUND
         wide = turn % 16 == 3
         sample, plan = good_table(dice, bound, 30 if turn % 5 == 0 else 14,
                                   3 if wide else 12 if turn % 5 == 0 else 9, wide)
@@ -413,7 +438,7 @@ def good_tables(tape, dice):
         if dice.chance(30):
             # A list that is refused, or another list, beside this table.
             tape.load_list(broken_list(dice, sample, dice.between(1, 3)))
-            tape.check_table(dice.pick([bound, 0, 5]))
+            tape.check_table(dice.pick([bound, 0, MOST_BOUND + 1]))
             tape.load_list(any_list(dice).data)
             tape.check_table(bound)
             walk.go_on()
@@ -430,7 +455,7 @@ def good_tables(tape, dice):
 def crowded_tables(tape, dice):
     """Split feeds that pause."""
     for turn in range(6):
-        sample = crowded_list(dice, dice.pick([256, 250]))
+        sample = crowded_list(dice, dice.pick([SIGNATURES, SIGNATURES - 6]))
         bound = dice.between(1, 3)
         plan = builders.build_plan(dice, sample, bound)
         tape.load_table(plan.table())
@@ -439,7 +464,8 @@ def crowded_tables(tape, dice):
         tape.check_table(bound)
         for _ in range(14):
             piece = a_piece(dice, sample, dice.between(1, 8))
-            words = dice.pick([0, 1, 510, 511, 512, 513, 514, 1023, 1024, 1025, 1200])
+            words = dice.pick([0, 1, *near(ENOUGH_WORDS), 2 * ENOUGH_WORDS - 1, 2 * ENOUGH_WORDS,
+                               2 * ENOUGH_WORDS + 1, MOST_WORDS])
             walk.feed(walk.offset(), words, piece)
             if dice.chance(20):
                 walk.begin()
@@ -457,7 +483,7 @@ def ask_faulty(tape, dice, sample, plan, table, bound, number):
     tape.load_table(table)
     assert tape.check_table(bound) == number
     if dice.chance(60):
-        tape.check_table(dice.between(1, 4))
+        tape.check_table(dice.between(1, MOST_BOUND))
     if dice.chance(12):
         tape.check_table(dice.pick(BAD_BOUNDS))
     if dice.chance(8):
@@ -482,21 +508,23 @@ def ask_faulty(tape, dice, sample, plan, table, bound, number):
 
 
 def one_byte_tables(tape, dice):
-    """Faults that a single one of the 256 bytes shows: 10 and 13."""
+    """Faults that a single one of all bytes shows: 10 and 13."""
     for number in (10, 13):
         made = 0
         while made < 36:
-            letter = dice.pick([0, 255, 0, 255, 63, 64, dice.below(256)])
-            root, after = dice.some(builders.STATES, 2)
+            letter = dice.pick([0, 255, 0, 255, 63, 64, dice.below(BYTE_VALUES)])
+            root, after = dice.some(builders.SOME_STATES, 2)
             sample = Sample([edge(0, 255, root, root), start(root),
-                             edge(letter, letter, root, after), accept(after, dice.below(256))],
-                            [letter, dice.below(256)], [root, after])
+                             edge(letter, letter, root, after),
+                             accept(after, dice.below(SIGNATURES))],
+                            [letter, dice.below(BYTE_VALUES)], [root, after])
             bound = dice.between(1, 3)
             plan = builders.build_plan(dice, sample, bound)
             if plan is None:
                 continue
             if number == 10:
-                plan.classes[letter] = plan.classes[(letter + dice.pick([1, 255, 7])) % 256]
+                plan.classes[letter] = plan.classes[(letter + dice.pick([1, 255, 7]))
+                                                    % BYTE_VALUES]
                 plan.width = max(plan.classes) + 1
             else:
                 plan.splits = [split for split in plan.splits if split[0] != {root, after}]
@@ -511,7 +539,7 @@ def faulty_tables(tape, dice):
     for number, fault, times in faults.SINGLE:
         made = 0
         while made < times:
-            bound = dice.between(1, 4)
+            bound = dice.between(1, MOST_BOUND)
             sample, plan = good_table(dice, bound, 9, 7)
             changed = fault(dice, plan.copy(), bound, sample)
             if changed is None:
@@ -525,7 +553,7 @@ def faulty_tables(tape, dice):
     for low, high, first, second in faults.DOUBLE:
         made = 0
         while made < 9:
-            bound = dice.between(1, 4)
+            bound = dice.between(1, MOST_BOUND)
             sample, plan = good_table(dice, bound, 9, 7)
             alone = second(dice, plan.copy(), bound, sample)
             if alone is None or model.table_refusal(sample.data, alone.table(), bound) != high:
@@ -538,7 +566,7 @@ def faulty_tables(tape, dice):
 
     made = 0
     while made < 25:
-        bound = dice.between(1, 4)
+        bound = dice.between(1, MOST_BOUND)
         sample, plan = good_table(dice, bound, 9, 7)
         both = faults.last_9_first_11(dice, plan.copy(), bound, sample)
         if both is not None:
@@ -546,21 +574,21 @@ def faulty_tables(tape, dice):
             made += 1
 
     # Each wrong length and class, at each bound.
-    for bound in (1, 2, 3, 4):
+    for bound in BOUNDS:
         sample, plan = good_table(dice, bound, 9, 7)
         for table in faults.wrong_lists(dice, plan):
             ask_faulty(tape, dice, sample, plan, table, bound, 8)
 
     # 8 beside 9 to 13, and one more start record beside a good table: 12.
     for _ in range(20):
-        bound = dice.between(1, 4)
+        bound = dice.between(1, MOST_BOUND)
         sample, plan = good_table(dice, bound, 9, 7)
         changed = faults.order_9(dice, plan.copy(), bound, sample)
         table = faults.lists_8(dice, changed or plan, bound, sample)
         ask_faulty(tape, dice, sample, plan, table, bound, 8)
     made = 0
     while made < 20:
-        bound = dice.between(1, 4)
+        bound = dice.between(1, MOST_BOUND)
         sample, plan = good_table(dice, bound, 9, 7)
         more = Sample(dice.shuffled(sample.records + [start(dice.pick(sample.states))]),
                       sample.letters, sample.states)
@@ -573,7 +601,7 @@ def harmless_tables(tape, dice):
     """Changes that no rule sees: the check still gives 0."""
     made = 0
     while made < 40:
-        bound = dice.between(1, 4)
+        bound = dice.between(1, MOST_BOUND)
         sample, plan = good_table(dice, bound, 9, 5, made % 10 == 0)
         free = [(p, k) for p in range(len(plan.parts)) for k in range(plan.width)
                 if k not in plan.classes]
@@ -581,7 +609,7 @@ def harmless_tables(tape, dice):
             continue
         tape.load_list(sample.data)
         place = dice.pick(free)
-        plan.rows[place] = faults.toggled(plan.rows[place], dice.below(256))
+        plan.rows[place] = faults.toggled(plan.rows[place], dice.below(STATES))
         tape.load_table(plan.table())
         assert tape.check_table(bound) == 0
         ask_bounds(tape, dice, bound)
@@ -598,7 +626,8 @@ def harmless_tables(tape, dice):
         for nothing in ([], [2]):
             slots = {(): nothing, (8,): [0], (0,): [1], (0, 8): [0, 1]}
             parts = [frozenset({8}), frozenset({0}), frozenset()]
-            plan = builders.Plan([0] * 256, 1, parts, {(p, 0): frozenset() for p in range(3)},
+            plan = builders.Plan([0] * BYTE_VALUES, 1, parts,
+                                 {(p, 0): frozenset() for p in range(3)},
                                  [(frozenset(members), padded(slots[members]))
                                   for members in order])
             tape.load_list(dead.data)
@@ -629,22 +658,22 @@ def wild_tables(tape, dice):
                 for p in range(count) for k in range(width)}
         splits = []
         for members in dice.shuffled(sets + sets[:dice.below(4)]):
-            slots = [dice.below(count) for _ in range(4)]
+            slots = [dice.below(count) for _ in range(SLOTS)]
             if single:
                 slots[1] = UNUSED
-            for at in range(4):
+            for at in range(SLOTS):
                 if dice.chance(35):
                     slots[at] = UNUSED
                 elif dice.chance(5):
-                    slots[at] = dice.pick([count, 65534, 256, count + 1])
+                    slots[at] = dice.pick([count, UNUSED - 1, 256, count + 1])
             splits.append((members, slots))
-        classes = [dice.below(width) for _ in range(256)]
-        classes[dice.below(256)] = width - 1
+        classes = [dice.below(width) for _ in range(BYTE_VALUES)]
+        classes[dice.below(BYTE_VALUES)] = width - 1
         width = max(classes) + 1
         plan = builders.Plan(classes, width, parts, rows, splits)
         tape.load_list(sample.data)
         tape.load_table(plan.table())
-        bound = dice.between(1, 4)
+        bound = dice.between(1, MOST_BOUND)
         tape.check_table(bound)
         walk = Walk(tape, dice, sample, bound)
         walk.begin()
@@ -662,64 +691,66 @@ def wild_tables(tape, dice):
 
 
 def largest_tables(tape, dice):
-    """1,024 parts, 4,096 splits, and one more of each."""
-    tape.load_record(bytes(48))
+    """The most parts, the most splits, and one more of each."""
+    tape.load_record(bytes(FLOW_SIZE))
 
     # No edges: every step leads to the empty set.
-    states = sorted(dice.some(range(256), 20))
+    states = sorted(dice.some(range(STATES), 20))
     dead = Sample([start(states[0]), accept(states[1], 9), accept(states[0], 3)],
                   [0, 97], states)
     names = [[]] + [[p] for p in range(20)]
     names += [[p, q] for p in range(20) for q in range(p)]
     names += [[p, q, r] for p in range(20) for q in range(p) for r in range(q)]
     more = [[p, q, r, s] for p in range(20) for q in range(p) for r in range(q) for s in range(r)]
-    names += dice.some(more, 4096 - len(names))
+    names += dice.some(more, MOST_SPLITS - len(names))
     splits = [(frozenset(states[p] for p in slots), padded(sorted(slots))) for slots in names]
-    plan = builders.Plan([0] * 256, 1, [frozenset({state}) for state in states],
+    plan = builders.Plan([0] * BYTE_VALUES, 1, [frozenset({state}) for state in states],
                          {(p, 0): frozenset() for p in range(20)}, splits)
     plan.sort()
     table = plan.table()
     tape.load_list(dead.data)
     tape.load_table(table)
-    assert tape.check_table(4) == 0
-    assert tape.check_table(3) == 9
+    assert tape.check_table(MOST_BOUND) == 0
+    assert tape.check_table(MOST_BOUND - 1) == 9
     tape.open()
-    tape.split_feed(4, 0, 8, b"ab")
+    tape.split_feed(MOST_BOUND, 0, 8, b"ab")
     for _ in range(8):
         members, _ = dice.pick(plan.splits)
         tape.load_record(any_flow(dice, members))
-        tape.split_feed(dice.between(1, 4), offset_of(tape.record), 8, b"a")
-    tape.load_table(table._replace(splits=table.splits + b"\xff" * 40))
-    tape.load_record(bytes(48))
+        tape.split_feed(dice.between(1, MOST_BOUND), offset_of(tape.record), 8, b"a")
+    tape.load_table(table._replace(splits=table.splits + b"\xff" * SPLIT_SIZE))
+    tape.load_record(bytes(FLOW_SIZE))
     tape.open()
-    for bound in (1, 2, 3, 4):
+    for bound in BOUNDS:
         assert tape.check_table(bound) == 8
         tape.split_feed(bound, 0, 8, b"ab")
 
     # As many parts as there may be, in one class and in four, and one more.
     for classes, over in ((1, 0), (1, 1), (4, 0)):
+        last = STATES - 1
         sample = Sample([start(200), edge(0, 255, 200, 200), edge(97, 97, 200, 3),
-                         edge(98, 98, 3, 255), accept(255, 255), accept(3, 0)]
+                         edge(98, 98, 3, last), accept(last, SIGNATURES - 1), accept(3, 0)]
                         if classes == 4 else
                         [start(200), edge(0, 255, 200, 200), edge(0, 255, 200, 3), accept(3, 77)],
-                        [97, 98], [3, 200, 255])
-        groups = [3 if c == 97 else 1 if c == 98 else 0 for c in range(256)] if classes == 4 \
-            else [0] * 256
-        parts = [dice.subset(range(256), 3) - {3, 200, 255} for _ in range(1024 + over)]
-        parts[300], parts[1023], parts[256] = (frozenset({200}), frozenset({3}),
-                                               frozenset({255}))
+                        [97, 98], [3, 200, last])
+        groups = [3 if classes == 4 and c == 97 else 1 if classes == 4 and c == 98 else 0
+                  for c in range(BYTE_VALUES)]
+        parts = [dice.subset(range(STATES), 3) - {3, 200, last} for _ in range(MOST_PARTS + over)]
+        parts[300], parts[MOST_PARTS - 1], parts[256] = (frozenset({200}), frozenset({3}),
+                                                         frozenset({last}))
         byte_of = {0: 0, 1: 98, 2: 97, 3: 97}
         rows = {(p, k): sample.nfa.step(part, byte_of[k])
                 for p, part in enumerate(parts) for k in range(classes)}
-        splits = [(frozenset({200}), padded([300])), (frozenset({200, 3}), padded([300, 1023])),
-                  (frozenset({200, 255}), padded([256, 300]))]
+        splits = [(frozenset({200}), padded([300])),
+                  (frozenset({200, 3}), padded([300, MOST_PARTS - 1])),
+                  (frozenset({200, last}), padded([256, 300]))]
         plan = builders.Plan(groups, classes, parts, rows, splits)
         plan.sort()
         tape.load_list(sample.data)
         tape.load_table(plan.table())
         assert tape.check_table(2) == (8 if over else 0)
         tape.check_table(1)
-        tape.check_table(4)
+        tape.check_table(MOST_BOUND)
         walk = Walk(tape, dice, sample, 2)
         walk.begin()
         for _ in range(6):

@@ -1,11 +1,14 @@
 """The worked examples of the rules, as assertions on the model."""
 
 import model
-from model import Flow, Table, pack_flow, pack_set
+from model import (BYTE_VALUES, FLOW_SIZE, MOST_BOUND, MOST_OFFSET, MOST_RECORDS, RECORD_SIZE,
+                   SET_SIZE, STATES, Flow, Table, pack_flow, pack_set, padded)
 
 LIST = bytes.fromhex("0100FF0000000000" "0161610000000100" "0162620001000200"
                      "0200000000000000" "0300000002000700")
-NO_START = LIST[:24] + LIST[32:]
+RECORDS = model.cut(LIST, RECORD_SIZE)
+START = RECORDS[3]
+NO_START = b"".join(record for record in RECORDS if record != START)
 
 
 def _set(*states):
@@ -13,14 +16,13 @@ def _set(*states):
 
 
 def _split(states, *slots):
-    slots = list(slots) + [model.UNUSED] * (4 - len(slots))
-    return _set(*states) + b"".join(slot.to_bytes(2, "little") for slot in slots)
+    return _set(*states) + b"".join(slot.to_bytes(2, "little") for slot in padded(slots))
 
 
 # As byte strings {0} = 01 00.. comes before {0,1} = 03 00.., and {0,2} = 05 00.. is last.
 SPLITS = [_split([0], 0), _split([0, 1], 0, 1), _split([0, 2], 0, 2)]
 TABLE = Table(
-    bytes(1 if c == 97 else 2 if c == 98 else 0 for c in range(256)),
+    bytes(1 if c == 97 else 2 if c == 98 else 0 for c in range(BYTE_VALUES)),
     _set(0) + _set(1) + _set(2),
     _set(0) + _set(0, 1) + _set(0) + _set() + _set() + _set(2) + _set() * 3,
     b"".join(SPLITS))
@@ -29,8 +31,8 @@ WITHOUT_0 = TABLE._replace(splits=SPLITS[1] + SPLITS[2])
 
 
 def check():
-    opened = model.open_flow(LIST, b"\xff" * 48)
-    assert opened == (0, _set(0) + bytes(16))
+    opened = model.open_flow(LIST, b"\xff" * FLOW_SIZE)
+    assert opened == (0, _set(0) + bytes(FLOW_SIZE - SET_SIZE))
     fresh = opened[1]
     words = [11, 12, 13, 14, 15]
 
@@ -44,14 +46,14 @@ def check():
     whole = plain(fresh, 0, words, b"abab")
     assert whole == (0, 4, 2, True, [7, 2, 7, 4, 15],
                      pack_flow(Flow(frozenset({0, 2}), 4, 7)))
-    # 3: the same through the table at 2, 3 and 4.
-    for bound in (2, 3, 4):
+    # 3: the same through the table at 2 and the larger bounds.
+    for bound in range(2, MOST_BOUND + 1):
         assert model.table_refusal(LIST, TABLE, bound) == 0
         assert split(TABLE, bound, words, b"abab") == whole
     assert model.unpack_flow(whole.record).rows == 7 <= 2 * 4
     # 4: the record after "aba".
     assert plain(fresh, 0, words, b"aba").record == bytes.fromhex(
-        "03" + "00" * 31 + "03000000" + "00000000" + "05" + "00" * 7)
+        "03" + "00" * (SET_SIZE - 1) + "03000000" + "00000000" + "05" + "00" * 7)
     # 5 and 6: "a" then "bab"; "bab" from 0 is refused at offset 1 and at offset 4.
     first = plain(fresh, 0, words, b"a")
     assert (first.refusal, first.consumed, first.pairs, first.all) == (0, 1, 0, True)
@@ -82,14 +84,14 @@ def check():
     assert split(WITHOUT_02, 2, [], b"", after_ab, 2) == (0, 0, 0, True, [], after_ab)
 
     # Lengths, the highest state and the highest offset.
-    many = LIST[24:32] * 4096
+    many = START * MOST_RECORDS
     assert model.list_refusal(many) == 0
-    assert model.list_refusal(many + LIST[24:32]) == 1
-    assert model.list_refusal(bytes.fromhex("020000000000FF00")) == 0
-    assert model.list_refusal(bytes.fromhex("0200000000000001")) == 2
-    last = pack_flow(Flow(frozenset({0}), model.LAST_OFFSET, 256 * model.LAST_OFFSET))
-    assert plain(last, model.LAST_OFFSET, [], b"")[:4] == (0, 0, 0, True)
-    assert plain(last, model.LAST_OFFSET, [], b"x") == (6, 0, 0, False, [], last)
+    assert model.list_refusal(many + START) == 1
+    assert model.list_refusal(START[:6] + (STATES - 1).to_bytes(2, "little")) == 0
+    assert model.list_refusal(START[:6] + STATES.to_bytes(2, "little")) == 2
+    last = pack_flow(Flow(frozenset({0}), MOST_OFFSET, STATES * MOST_OFFSET))
+    assert plain(last, MOST_OFFSET, [], b"")[:4] == (0, 0, 0, True)
+    assert plain(last, MOST_OFFSET, [], b"x") == (6, 0, 0, False, [], last)
 
     # {8} comes before {0} in the order of byte strings.
     assert _set(8) < _set(0)

@@ -6,10 +6,11 @@ that the changed table gives.
 """
 
 import model
-from model import UNUSED, pack_set, union
+from model import (BYTE_VALUES, MOST_BOUND, MOST_CLASS, SET_SIZE, SLOTS, STATES, UNUSED, pack_set,
+                   padded, union)
 
-BAD_BOUNDS = [0, 5, 6, 255, 256, 257, 258, 65537, 2 ** 32, 2 ** 32 + 1, 2 ** 32 + 4,
-              2 ** 63, 2 ** 64 - 1]
+BAD_BOUNDS = [0, MOST_BOUND + 1, MOST_BOUND + 2, 255, 256, 257, 258, 65537, 2 ** 32,
+              2 ** 32 + 1, 2 ** 32 + 4, 2 ** 63, 2 ** 64 - 1]
 
 
 def toggled(members, state):
@@ -33,19 +34,19 @@ def wrong_lists(dice, plan):
     classes, parts, rows, splits = table
     count = len(plan.parts)
     out = []
-    for changed in (b"", classes[:1], classes[:255], classes + classes[:1], classes + bytes(44)):
+    for changed in (b"", classes[:1], classes[:-1], classes + classes[:1], classes + bytes(44)):
         out.append(table._replace(classes=changed))
-    for at in (0, 255, dice.below(256)):
-        over = dice.pick([64, 64, 65, 128, 255])
+    for at in (0, BYTE_VALUES - 1, dice.below(BYTE_VALUES)):
+        over = dice.pick([MOST_CLASS + 1, MOST_CLASS + 1, MOST_CLASS + 2, 128, 255])
         out.append(table._replace(classes=classes[:at] + bytes([over]) + classes[at + 1:]))
     out.append(table._replace(parts=b"", rows=b""))
-    for changed in (b"", parts[:-1], parts + b"\0", parts[:-32], parts + parts[:32]):
+    for changed in (b"", parts[:-1], parts + b"\0", parts[:-SET_SIZE], parts + parts[:SET_SIZE]):
         out.append(table._replace(parts=changed))
-    for changed in (b"", rows[:-1], rows + b"\0", rows[:-32], rows + rows[:32],
-                    rows[32 * count:], rows + rows[:32 * count]):
+    for changed in (b"", rows[:-1], rows + b"\0", rows[:-SET_SIZE], rows + rows[:SET_SIZE],
+                    rows[SET_SIZE * count:], rows + rows[:SET_SIZE * count]):
         out.append(table._replace(rows=changed))
-    for changed in (b"", splits[:-1], splits + b"\0", splits[:-8], splits[:-32],
-                    splits + splits[:8], splits + splits[:32]):
+    for changed in (b"", splits[:-1], splits + b"\0", splits[:-2 * SLOTS], splits[:-SET_SIZE],
+                    splits + splits[:2 * SLOTS], splits + splits[:SET_SIZE]):
         out.append(table._replace(splits=changed))
     return out
 
@@ -55,14 +56,14 @@ def lists_8(dice, plan, bound, sample):
 
 
 def wider_8(dice, plan, bound, sample):
-    """One class is 64 and the rows have the length that this asks for."""
+    """One class is over the largest, and the rows have the length that this asks for."""
     if len(plan.parts) > 3:
         return None
-    width = 65
+    width = MOST_CLASS + 2
     for p in range(len(plan.parts)):
         for k in range(width):
             plan.rows.setdefault((p, k), frozenset())
-    plan.classes[dice.below(256)] = 64
+    plan.classes[dice.below(BYTE_VALUES)] = MOST_CLASS + 1
     plan.width = width
     return plan
 
@@ -82,26 +83,26 @@ def no_part_9(dice, plan, bound, sample):
     at = _slots(dice, plan, lambda slots: True)
     members, slots = plan.splits[at]
     named = used(slots)
-    bad = dice.pick([count, count, 256 + dice.below(count), count + 1, 65534, 32768])
+    bad = dice.pick([count, count, 256 + dice.below(count), count + 1, UNUSED - 1, 32768])
     if len(named) < bound and dice.chance(60):
         named.append(bad)
     elif named:
         named[-1] = bad
     else:
         return None
-    plan.splits[at] = (members, named + [UNUSED] * (4 - len(named)))
+    plan.splits[at] = (members, padded(named))
     return plan
 
 
 def after_unused_9(dice, plan, bound, sample):
-    at = _slots(dice, plan, lambda slots: 1 <= len(slots) <= 3)
+    at = _slots(dice, plan, lambda slots: 1 <= len(slots) < SLOTS)
     if at is None:
         return None
     members, slots = plan.splits[at]
     named = used(slots)
     gap = dice.below(len(named))
-    moved = named[:gap] + [UNUSED] * dice.between(1, 4 - len(named)) + named[gap:]
-    plan.splits[at] = (members, moved + [UNUSED] * (4 - len(moved)))
+    moved = named[:gap] + [UNUSED] * dice.between(1, SLOTS - len(named)) + named[gap:]
+    plan.splits[at] = (members, padded(moved))
     return plan
 
 
@@ -112,7 +113,7 @@ def equal_slots_9(dice, plan, bound, sample):
     members, slots = plan.splits[at]
     named = used(slots)
     named.insert(0, dice.pick([named[0], named[-1]]))
-    plan.splits[at] = (members, named + [UNUSED] * (4 - len(named)))
+    plan.splits[at] = (members, padded(named))
     return plan
 
 
@@ -124,13 +125,13 @@ def falling_9(dice, plan, bound, sample):
     named = used(slots)
     turn = dice.below(len(named) - 1)
     named[turn], named[turn + 1] = named[turn + 1], named[turn]
-    plan.splits[at] = (members, named + [UNUSED] * (4 - len(named)))
+    plan.splits[at] = (members, padded(named))
     return plan
 
 
 def too_many_9(dice, plan, bound, sample):
     """One split uses one slot more than the bound, and its union stays."""
-    if bound == 4:
+    if bound == MOST_BOUND:
         return None
     places = []
     for i, (members, slots) in enumerate(plan.splits):
@@ -144,7 +145,7 @@ def too_many_9(dice, plan, bound, sample):
             if len(named) <= bound:
                 named.add(p)
         if len(named) == bound + 1:
-            plan.splits[i] = (members, sorted(named) + [UNUSED] * (4 - len(named)))
+            plan.splits[i] = (members, padded(sorted(named)))
             return plan
     return None
 
@@ -183,15 +184,15 @@ def equal_sets_9(dice, plan, bound, sample):
 
 def row_10(dice, plan, bound, sample):
     part = place(dice, len(plan.parts))
-    group = plan.classes[dice.pick([0, 255, dice.below(256), dice.pick(sample.letters)])]
-    state = dice.pick(sample.states + [0, 255])
+    group = plan.classes[dice.pick([0, 255, dice.below(BYTE_VALUES), dice.pick(sample.letters)])]
+    state = dice.pick(sample.states + [0, STATES - 1])
     plan.rows[part, group] = toggled(plan.rows[part, group], state)
     return plan
 
 
 def class_10(dice, plan, bound, sample):
     """One byte moves to a class whose other bytes step differently."""
-    byte = dice.pick([0, 255, dice.pick(sample.letters), dice.below(256)])
+    byte = dice.pick([0, 255, dice.pick(sample.letters), dice.below(BYTE_VALUES)])
     plan.classes[byte] = dice.pick(plan.classes)
     plan.width = max(plan.classes) + 1
     return plan
@@ -223,7 +224,7 @@ def swapped_10(dice, plan, bound, sample):
 def state_11(dice, plan, bound, sample):
     at = place(dice, len(plan.splits))
     members, slots = plan.splits[at]
-    state = dice.pick(sorted(members) + [dice.pick(sample.states)] + [255])
+    state = dice.pick(sorted(members) + [dice.pick(sample.states)] + [STATES - 1])
     plan.splits[at] = (toggled(members, state), slots)
     plan.sort()
     return plan
@@ -242,7 +243,7 @@ def slots_11(dice, plan, bound, sample):
         named = []
     else:
         named = sorted(dice.some(range(count), min(count, dice.between(1, bound))))
-    plan.splits[at] = (members, named + [UNUSED] * (4 - len(named)))
+    plan.splits[at] = (members, padded(named))
     return plan
 
 
@@ -275,7 +276,7 @@ def unclosed_13(dice, plan, bound, sample):
     members = union(plan.parts[p] for p in named)
     if members in [split[0] for split in plan.splits]:
         return None
-    plan.splits.append((members, named + [UNUSED] * (4 - len(named))))
+    plan.splits.append((members, padded(named)))
     plan.sort()
     return plan
 
@@ -307,7 +308,7 @@ def last_9_first_11(dice, plan, bound, sample):
     named = [slot for slot in range(len(plan.parts)) if plan.parts[slot] != members]
     if not named:
         return None
-    plan.splits[0] = (members, [named[0]] + [UNUSED] * 3)
+    plan.splits[0] = (members, padded(named[:1]))
     members, slots = plan.splits[-1]
-    plan.splits[-1] = (members, [len(plan.parts)] + [UNUSED] * 3)
+    plan.splits[-1] = (members, padded([len(plan.parts)]))
     return plan

@@ -8,8 +8,27 @@ bytes and gives the answer that the rules fix for them.
 from collections import namedtuple
 from functools import lru_cache
 
-LAST_OFFSET = 4294967295
-UNUSED = 65535
+# The sizes and limits of the rules. What follows from another one is written so.
+STATES = 256  # states are the numbers below this one
+SIGNATURES = 256  # and signatures those below this one
+SET_SIZE = STATES // 8  # bytes in a set
+RECORD_SIZE = 8  # bytes in a record of the list
+MOST_RECORDS = 4096
+MOST_LIST = MOST_RECORDS * RECORD_SIZE  # bytes of the longest list
+OFFSET_AT = SET_SIZE  # places in a flow record, which begins with a set
+RESERVED_AT = OFFSET_AT + 4
+ROWS_AT = RESERVED_AT + 4
+FLOW_SIZE = ROWS_AT + 8  # bytes in a flow record
+MOST_OFFSET = 4294967295
+ENOUGH_WORDS = 2 * SIGNATURES  # words with which a feed never stands still
+BYTE_VALUES = 256  # bytes that a piece may have, each with a class
+MOST_CLASS = 63
+MOST_PARTS = 1024
+MOST_SPLITS = 4096
+MOST_BOUND = 4
+SLOTS = 4  # in a split
+UNUSED = 65535  # the number in a slot that is not in use
+SPLIT_SIZE = SET_SIZE + 2 * SLOTS  # bytes in a split
 
 Edge = namedtuple("Edge", "low high source target")
 Accept = namedtuple("Accept", "state signature")
@@ -32,19 +51,20 @@ def cut(data, size):
 
 @lru_cache(maxsize=20000)
 def unpack_set(data):
-    return frozenset(s for s in range(256) if data[s // 8] // 2 ** (s % 8) % 2 == 1)
+    return frozenset(s for s in range(STATES) if data[s // 8] // 2 ** (s % 8) % 2 == 1)
 
 
 @lru_cache(maxsize=20000)
 def pack_set(members):
-    data = [0] * 32
+    data = [0] * SET_SIZE
     for state in members:
         data[state // 8] += 2 ** (state % 8)
     return bytes(data)
 
 
 def unpack_flow(record):
-    return Flow(unpack_set(record[0:32]), number(record[32:36]), number(record[40:48]))
+    return Flow(unpack_set(record[:SET_SIZE]), number(record[OFFSET_AT:RESERVED_AT]),
+                number(record[ROWS_AT:FLOW_SIZE]))
 
 
 def pack_flow(flow):
@@ -56,23 +76,22 @@ def pack_flow(flow):
 
 def sound(record):
     """Whether one record of a list passes by itself."""
-    kind = record[0]
+    kind, middle, last = record[0], number(record[4:6]), number(record[6:8])
     if kind == 1:
         return (record[1] <= record[2] and record[3] == 0
-                and number(record[4:6]) <= 255 and number(record[6:8]) <= 255)
+                and middle < STATES and last < STATES)
     if kind == 2:
-        return set(record[1:6]) == {0} and number(record[6:8]) <= 255
+        return set(record[1:6]) == {0} and last < STATES
     if kind == 3:
-        return (set(record[1:4]) == {0}
-                and number(record[4:6]) <= 255 and number(record[6:8]) <= 255)
+        return set(record[1:4]) == {0} and middle < STATES and last < SIGNATURES
     return False
 
 
 @lru_cache(maxsize=64)
 def list_refusal(data):
-    if len(data) == 0 or len(data) > 32768 or len(data) % 8 != 0:
+    if len(data) == 0 or len(data) > MOST_LIST or len(data) % RECORD_SIZE != 0:
         return 1
-    records = cut(data, 8)
+    records = cut(data, RECORD_SIZE)
     if not all(sound(record) for record in records):
         return 2
     if 2 not in {record[0] for record in records}:
@@ -84,7 +103,7 @@ class Automaton:
     """A good list, read into sets. Steps already worked out are kept."""
 
     def __init__(self, data):
-        records = cut(data, 8)
+        records = cut(data, RECORD_SIZE)
         self.edges = frozenset(
             Edge(r[1], r[2], number(r[4:6]), number(r[6:8])) for r in records if r[0] == 1)
         self.starts = frozenset(number(r[6:8]) for r in records if r[0] == 2)
@@ -114,7 +133,7 @@ def open_flow(data, record):
     refusal = list_refusal(data)
     if refusal:
         return refusal, record
-    if len(record) != 48:
+    if len(record) != FLOW_SIZE:
         return 4, record
     return 0, pack_flow(Flow(automaton(data).starts, 0, 0))
 
@@ -122,14 +141,15 @@ def open_flow(data, record):
 # The split table
 
 def wrong_lists(table):
-    if len(table.classes) != 256 or max(table.classes) > 63:
+    if len(table.classes) != BYTE_VALUES or max(table.classes) > MOST_CLASS:
         return True
-    if len(table.parts) % 32 != 0 or not 1 <= len(table.parts) // 32 <= 1024:
+    parts, splits = len(table.parts) // SET_SIZE, len(table.splits) // SPLIT_SIZE
+    if len(table.parts) % SET_SIZE != 0 or not 1 <= parts <= MOST_PARTS:
         return True
-    if len(table.splits) % 40 != 0 or not 1 <= len(table.splits) // 40 <= 4096:
+    if len(table.splits) % SPLIT_SIZE != 0 or not 1 <= splits <= MOST_SPLITS:
         return True
     width = max(table.classes) + 1
-    return len(table.rows) != (len(table.parts) // 32) * width * 32
+    return len(table.rows) != parts * width * SET_SIZE
 
 
 class Decoded:
@@ -138,14 +158,15 @@ class Decoded:
     def __init__(self, table):
         self.classes = list(table.classes)
         self.width = max(self.classes) + 1
-        self.parts = [unpack_set(data) for data in cut(table.parts, 32)]
-        rows = [unpack_set(data) for data in cut(table.rows, 32)]
+        self.parts = [unpack_set(data) for data in cut(table.parts, SET_SIZE)]
+        rows = [unpack_set(data) for data in cut(table.rows, SET_SIZE)]
         self.row = {(part, group): rows[part * self.width + group]
                     for part in range(len(self.parts)) for group in range(self.width)}
         self.splits = []
-        for record in cut(table.splits, 40):
-            slots = [number(record[at:at + 2]) for at in (32, 34, 36, 38)]
-            self.splits.append(Split(record[0:32], unpack_set(record[0:32]), slots))
+        for record in cut(table.splits, SPLIT_SIZE):
+            name = record[:SET_SIZE]
+            slots = [number(slot) for slot in cut(record[SET_SIZE:], 2)]
+            self.splits.append(Split(name, unpack_set(name), slots))
         self.first = {}
         for split in self.splits:
             self.first.setdefault(split.members, split)
@@ -154,6 +175,11 @@ class Decoded:
 @lru_cache(maxsize=8)
 def decoded(table):
     return Decoded(table)
+
+
+def padded(slots):
+    """The slots of a split that uses these: the rest are not in use."""
+    return list(slots) + [UNUSED] * (SLOTS - len(slots))
 
 
 def used_slots(split):
@@ -176,7 +202,7 @@ def breaks_9(table, bound):
         used = used_slots(split)
         if [slot for slot in used if slot >= len(table.parts)]:
             return True
-        if split.slots != used + [UNUSED] * (4 - len(used)):
+        if split.slots != padded(used):
             return True
         if used != sorted(set(used)):
             return True
@@ -190,7 +216,7 @@ def breaks_9(table, bound):
 
 def breaks_10(table, nfa):
     return any(table.row[part, table.classes[byte]] != nfa.step(members, byte)
-               for part, members in enumerate(table.parts) for byte in range(256))
+               for part, members in enumerate(table.parts) for byte in range(BYTE_VALUES))
 
 
 def breaks_11(table):
@@ -204,7 +230,7 @@ def breaks_12(table, nfa):
 
 def breaks_13(table, nfa):
     return any(nfa.step(split.members, byte) not in table.first
-               for split in table.splits for byte in range(256))
+               for split in table.splits for byte in range(BYTE_VALUES))
 
 
 @lru_cache(maxsize=8)
@@ -227,7 +253,7 @@ def table_refusal(data, table, bound):
     refusal = list_refusal(data)
     if refusal:
         return refusal
-    if bound not in (1, 2, 3, 4):
+    if not 1 <= bound <= MOST_BOUND:
         return 7
     if wrong_lists(table):
         return 8
@@ -243,14 +269,14 @@ def feed_refusal(data, record, start, piece):
     refusal = list_refusal(data)
     if refusal:
         return refusal
-    if len(record) != 48 or record[36:40] != bytes(4):
+    if len(record) != FLOW_SIZE or record[RESERVED_AT:ROWS_AT] != bytes(4):
         return 4
     flow = unpack_flow(record)
-    if flow.rows > 256 * flow.offset:
+    if flow.rows > STATES * flow.offset:
         return 4
     if start != flow.offset:
         return 5
-    if flow.offset + len(piece) > LAST_OFFSET:
+    if flow.offset + len(piece) > MOST_OFFSET:
         return 6
     return 0
 
@@ -298,7 +324,7 @@ def plain_feed(data, record, start, words, piece):
 
 def split_feed(data, table, bound, record, start, words, piece):
     refusal = feed_refusal(data, record, start, piece)
-    if not refusal and bound not in (1, 2, 3, 4):
+    if not refusal and not 1 <= bound <= MOST_BOUND:
         refusal = 7
     if not refusal and wrong_lists(table):
         refusal = 8

@@ -10,6 +10,17 @@ import model
 # Word i of a lent buffer holds this number plus i before each feed.
 WORD_FILL = 2774138880
 
+# The most words and the longest piece of a feed.
+MOST_WORDS = 1200
+MOST_PIECE = 4200
+
+# A block has at most this many bytes more than the longest good one. Of rows that is the most
+# parts on four classes.
+BEYOND = 256
+MOST_TABLE = model.Table(model.BYTE_VALUES, model.MOST_PARTS * model.SET_SIZE,
+                         4 * model.MOST_PARTS * model.SET_SIZE,
+                         model.MOST_SPLITS * model.SPLIT_SIZE)
+
 
 def digest(data):
     value = 0
@@ -46,20 +57,20 @@ class Tape:
     # Loading. Nothing is written when the content is already current.
 
     def load_list(self, data):
-        assert len(data) <= 33000
+        assert len(data) <= model.MOST_LIST + BEYOND
         if data != self.list or not self.commands:
             self.list = data
             self.commands.append(b"L" + block(data))
 
     def load_table(self, table):
-        for data, most in zip(table, (300, 33000, 131200, 164000)):
-            assert len(data) <= most
+        for data, most in zip(table, MOST_TABLE):
+            assert len(data) <= most + BEYOND
         if table != self.table:
             self.table = table
             self.commands.append(b"T" + b"".join(block(data) for data in table))
 
     def load_record(self, record):
-        assert len(record) <= 64
+        assert len(record) <= model.FLOW_SIZE + BEYOND
         if record != self.record:
             self.record = record
             self.commands.append(b"R" + block(record))
@@ -92,13 +103,13 @@ class Tape:
         return answer
 
     def feed(self, start, words, piece):
-        assert words <= 1200 and len(piece) <= 4200
+        assert words <= MOST_WORDS and len(piece) <= MOST_PIECE
         buffer = [WORD_FILL + i for i in range(words)]
         answer = model.plain_feed(self.list, self.record, start, buffer, piece)
         return self._fed(b"f" + u64(start) + u32(words) + block(piece), "f", answer)
 
     def split_feed(self, bound, start, words, piece):
-        assert words <= 1200 and len(piece) <= 4200
+        assert words <= MOST_WORDS and len(piece) <= MOST_PIECE
         buffer = [WORD_FILL + i for i in range(words)]
         answer = model.split_feed(self.list, self.table, bound, self.record, start,
                                   buffer, piece)
