@@ -102,14 +102,14 @@ fn feed_some(list: &[u8], flow: &mut [u8], offset: u64, rest: &[u8]) -> Stand
     let mut out = [0u32; PAIR_WORDS];
     let fed = plain::feed(list, flow, offset, rest, &mut out);
     tell(&out, fed.pairs);
-    if fed.refusal != 0 {
+    if fed.refusal != rules::PASSED {
         return Stand {
             refusal: fed.refusal,
             offset: offset,
         };
     }
     Stand {
-        refusal: 0,
+        refusal: rules::PASSED,
         offset: offset + fed.bytes as u64,
     }
 }
@@ -124,7 +124,7 @@ fn feed_piece(list: &[u8], flow: &mut [u8], offset: u64, piece: &[u8]) -> Stand
     let mut rest = piece;
     while rest.len() > 0 {
         let s = feed_some(list, flow, at, rest);
-        if s.refusal != 0 {
+        if s.refusal != rules::PASSED {
             return s;
         }
         let n = (s.offset - at) as usize;
@@ -132,7 +132,7 @@ fn feed_piece(list: &[u8], flow: &mut [u8], offset: u64, piece: &[u8]) -> Stand
         rest = &rest[n..];
     }
     Stand {
-        refusal: 0,
+        refusal: rules::PASSED,
         offset: at,
     }
 }
@@ -158,7 +158,7 @@ fn feed_all(list: &[u8], flow: &mut [u8]) -> Stand {
     let mut offset: u64 = 0;
     loop {
         let t = feed_input(list, flow, offset);
-        if t.refusal != 0 {
+        if t.refusal != rules::PASSED {
             return Stand {
                 refusal: t.refusal,
                 offset: offset,
@@ -167,7 +167,7 @@ fn feed_all(list: &[u8], flow: &mut [u8]) -> Stand {
         offset = t.offset;
         if t.read < PIECE {
             return Stand {
-                refusal: 0,
+                refusal: rules::PASSED,
                 offset: offset,
             };
         }
@@ -189,7 +189,7 @@ fn read_rules(list: &mut [u8]) -> usize
 
 // Writes the last line: a word, a space, a number, a line feed.
 fn finish(s: Stand) {
-    if s.refusal != 0 {
+    if s.refusal != rules::PASSED {
         io::write_all(1, b"refused ");
         io::print_decimal(1, s.refusal as u64);
     } else {
@@ -203,7 +203,7 @@ fn finish(s: Stand) {
 fn watch(list: &[u8]) {
     let mut flow = [0u8; flows::FLOW_SIZE];
     let refusal = plain::open_flow(list, &mut flow);
-    if refusal != 0 {
+    if refusal != rules::PASSED {
         finish(Stand {
             refusal: refusal,
             offset: 0,

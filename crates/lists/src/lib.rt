@@ -6,7 +6,8 @@ ghost use mathlib.Core.Bool.{cond};
 ghost use Prim.Native.Nat.{_+_, _*_, _<_, _^_};
 ghost use lib.ListN.{length, getD};
 ghost use Rattle.sets.specs.Set.{states, num, setOf, sigsOf, join, insert};
-ghost use Rattle.lists.specs.List.{recordSize, records, word, byteOf, wordOf, isEdge, isStart, isAccept, from, target, zeros, goodEdge, goodStart, goodAccept, goodRecord, badLength, badRecord, noStart, listRefusal};
+ghost use Rattle.lists.specs.List.{recordSize, records, word, byteOf, wordOf, isEdge, isStart, isAccept, from};
+ghost use Rattle.lists.specs.List.{target, zeros, goodEdge, goodStart, goodAccept, goodRecord, badLength, badRecord, noStart, listRefusal};
 ghost use Rattle.lists.specs.Automaton.{edge, leaves, start, step, accepted, accepting};
 
 // Bytes in a record.

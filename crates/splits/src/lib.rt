@@ -165,13 +165,12 @@ fn feed_bytes(
         }
         let next = t.next;
         let at = (offset + i as u64 + 1) as u32;
-        let words = ran.words;
         let mut told = Told {
             fits: true,
-            words: words,
+            words: ran.words,
         };
         if next.meets(accepting) {
-            told = flows::tell_accepted(list, next, pairs, words, at);
+            told = flows::tell_accepted(list, next, pairs, ran.words, at);
         }
         let fits = told.fits;
         if !fits {

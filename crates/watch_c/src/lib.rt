@@ -70,7 +70,8 @@ pub extern "C" fn watch_check_table(
     rows: &[u8],
     splits: &[u8],
 ) -> u32
-    ensures { λ r. ⌜ r ≡ tableRefusal (now (list .entry)) bound (table (now (classes .entry)) (now (parts .entry)) (now (rows .entry)) (now (splits .entry))) ⌝ }
+    ensures { λ r. ⌜ r ≡ tableRefusal (now (list .entry)) bound
+        (table (now (classes .entry)) (now (parts .entry)) (now (rows .entry)) (now (splits .entry))) ⌝ }
 {
     tables::check_table(list, bound, classes, parts, rows, splits)
 }
@@ -89,7 +90,9 @@ pub extern "C" fn watch_split_feed(
     piece: &[u8],
     pairs: &mut [u32],
 ) -> WatchFed
-    ensures { λ r. ⌜ FaceAnswers (splitFeed (now (list .entry)) bound (table (now (classes .entry)) (now (parts .entry)) (now (rows .entry)) (now (splits .entry))) (now (flow .entry)) start (now (piece .entry)) (now (pairs .entry))) r (now (pairs .exit)) (now (flow .exit)) ⌝ }
+    ensures { λ r. ⌜ FaceAnswers (splitFeed (now (list .entry)) bound
+        (table (now (classes .entry)) (now (parts .entry)) (now (rows .entry)) (now (splits .entry)))
+        (now (flow .entry)) start (now (piece .entry)) (now (pairs .entry))) r (now (pairs .exit)) (now (flow .exit)) ⌝ }
 {
     let f = splits::feed(
         list,

@@ -56,9 +56,14 @@ returns : tie.Need-returns
 returns c =
     let check = c .before .before in
     let a = entry check .args in
-    let e = check .feed-refusal .ensures in
     answers-refused (split (a .list .now) (a .bound) (given check)) flowLayout (a .flow .now) (a .piece .now) (a .pairs .now) (rules check) _
-    (λ z. c .before .if1 .taken (e ∙ z)) (rw e at (c .refused .ensures))
+    (λ z. c .before .if1 .taken (check .feed-refusal .ensures ∙ z)) (rw (check .feed-refusal .ensures) at (c .refused .ensures))
+
+same-length-2 : tie.Need-same-length-2
+same-length-2 c = search needs
+
+same-length-3 : tie.Need-same-length-3
+same-length-3 c = search needs
 
 load-requires : tie.Need-load-requires
 load-requires c κs = search needs
@@ -76,12 +81,6 @@ finish-requires c κs =
     let a = entry (passed ran .before) .args in
     let p = split-passes (a .list .now) (a .bound) (given (passed ran .before)) (a .flow .now) (a .start) (a .piece .now) (verdict-0 (passed ran)) in
     fits (a .flow .now) (a .piece .now) (p .0) (ran .feed-bytes .result) (p .2) (ran .feed-bytes .ensures .going .short) (few ran)
-
-same-length-2 : tie.Need-same-length-2
-same-length-2 c = search needs
-
-same-length-3 : tie.Need-same-length-3
-same-length-3 c = search needs
 
 returns-2 : tie.Need-returns-2
 returns-2 c =

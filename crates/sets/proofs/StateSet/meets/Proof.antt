@@ -21,17 +21,17 @@ abbrev μ-loop : tie.MeasureT-loop
 loop-holds : tie.Need-loop-holds Inv-loop μ-loop
 loop-holds c = (search needs, (λ j h. absurd (omega arith)))
 
-mul-if1 : tie.Need-mul-if1 Inv-loop μ-loop
-mul-if1 c = search needs
+mul-shared : tie.Need-mul-shared Inv-loop μ-loop
+mul-shared c = search needs
 
-array-read-if1 : tie.Need-array-read-if1 Inv-loop μ-loop
-array-read-if1 c = search needs
+array-read-shared : tie.Need-array-read-shared Inv-loop μ-loop
+array-read-shared c = search needs
 
-mul-if1-2 : tie.Need-mul-if1-2 Inv-loop μ-loop
-mul-if1-2 c = search needs
+mul-shared-2 : tie.Need-mul-shared-2 Inv-loop μ-loop
+mul-shared-2 c = search needs
 
-array-read-if1-2 : tie.Need-array-read-if1-2 Inv-loop μ-loop
-array-read-if1-2 c = search needs
+array-read-shared-2 : tie.Need-array-read-shared-2 Inv-loop μ-loop
+array-read-shared-2 c = search needs
 
 returns : tie.Need-returns Inv-loop μ-loop
 returns c =
@@ -56,4 +56,4 @@ returns-2 c =
 
 pub meets-spec : {M : Type 1} → statement M
 meets-spec =
-    tie.close (tie.spec Inv-loop μ-loop loop-holds mul-if1 array-read-if1 mul-if1-2 array-read-if1-2 returns add-i loop-less loop-again returns-2)
+    tie.close (tie.spec Inv-loop μ-loop loop-holds mul-shared array-read-shared mul-shared-2 array-read-shared-2 returns add-i loop-less loop-again returns-2)
