@@ -1,26 +1,31 @@
 -- Each promise of the public functions determines the outcome: two outcomes that meet it are equal. Assumes nothing.
-use mathlib.Core.Path.{_≡_, sym, _∙_}
+use mathlib.Core.Path.{_≡_, sym, ap, _∙_}
 use mathlib.Core.List.{List}
-use mathlib.Core.Bool.{cond}
-use Prim.Native.Nat.{ℕ}
+use mathlib.Core.Bool.{Bool, cond}
+use Prim.Native.Nat.{ℕ, _+_, _*_}
 use lib.ListN.{length}
 use lib.Dec.{eqb}
+use Rattle.sets.specs.Set.{signatures, size, members, placed}
 use Rattle.rules.specs.Rules.{verdict}
+use Rattle.feeds.specs.Engine.{pairsAt}
+use Rattle.flows.specs.declared.Told.{Told}
+use Rattle.flows.specs.Told.{TellsAll}
 use Rattle.feeds.specs.declared.Fed.{Fed}
 use Rattle.feeds.proofs.Unique.{fed-one}
 use Rattle.flows.specs.declared.Ran.{Ran}
 use Rattle.flows.specs.Ran.{Finishes}
 use Rattle.flows.specs.Flow.{flowSize, offsetOf, rowsOf, flowBytes, flowRules}
 
-module _ (r q : ℕ) (R : List ℕ) where
-  pub unique-offset-of : r ≡ offsetOf R → q ≡ offsetOf R → r ≡ q
-  unique-offset-of e f = e ∙ sym f
+pub unique-flow-refusal : (r q : ℕ) (R : List ℕ) (at : ℕ) (piece : List ℕ) → r ≡ verdict (flowRules R at piece) → q ≡ verdict (flowRules R at piece) → r ≡ q
+unique-flow-refusal r q R at piece e f = e ∙ sym f
 
-  pub unique-rows-of : r ≡ rowsOf R → q ≡ rowsOf R → r ≡ q
-  unique-rows-of e f = e ∙ sym f
-
-  pub unique-flow-refusal : (at : ℕ) (piece : List ℕ) → r ≡ verdict (flowRules R at piece) → q ≡ verdict (flowRules R at piece) → r ≡ q
-  unique-flow-refusal at piece e f = e ∙ sym f
+pub unique-tell-accepted : (G : ℕ) (out : List ℕ) (w k : ℕ) (t s : Told) (left end : List ℕ) → TellsAll G out w k t left → TellsAll G out w k s end → (t ≡ s) × (left ≡ end)
+unique-tell-accepted G out w k t s left end a b =
+    let f = a .fits ∙ sym (b .fits) in (
+      ap {B = Told} (λ (x : Bool). record { fits = x; words = t .words }) f
+          ∙ ap {B = Told} (λ (x : ℕ). record { fits = s .fits; words = x }) (a .words ∙ ap (λ (x : Bool). cond x (w + 2 * size signatures G) w) f ∙ sym (b .words)),
+      a .wrote ∙ ap (λ (x : Bool). cond x (placed out w (pairsAt k (members signatures G))) out) f ∙ sym (b .wrote),
+    )
 
 pub unique-save : (r q R : List ℕ) (F k n : ℕ) → r ≡ cond (eqb (length R) flowSize) (flowBytes F k n) R → q ≡ cond (eqb (length R) flowSize) (flowBytes F k n) R → r ≡ q
 unique-save r q R F k n e f = e ∙ sym f

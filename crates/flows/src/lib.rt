@@ -42,7 +42,7 @@ pub struct Told {
 }
 
 // The offset of a record.
-pub fn offset_of(flow: &[u8]) -> u64
+fn offset_of(flow: &[u8]) -> u64
     ensures { λ r. ⌜ r ≡ offsetOf (now (flow .entry)) ⌝ }
 {
     sets::number_at(flow, OFFSET_AT, 4)
@@ -56,7 +56,7 @@ fn reserved_of(flow: &[u8]) -> u64
 }
 
 // The rows read of a record.
-pub fn rows_of(flow: &[u8]) -> u64
+fn rows_of(flow: &[u8]) -> u64
     ensures { λ r. ⌜ r ≡ rowsOf (now (flow .entry)) ⌝ }
 {
     sets::number_at(flow, ROWS_AT, 8)

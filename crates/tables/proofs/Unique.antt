@@ -7,7 +7,7 @@ use Rattle.sets.specs.declared.StateSet.{StateSet}
 use Rattle.sets.specs.Set.{setWords, setOf}
 use Rattle.sets.proofs.Sets.{Words, set-one}
 use Rattle.rules.specs.Rules.{verdict}
-use Rattle.tables.specs.Table.{Table, classCount, partCount, splitCount, rowAt, slots, splitOf, sizeRules, tableRefusal}
+use Rattle.tables.specs.Table.{Table, classCount, partCount, splitCount, rowAt, slots, sizeRules, tableRefusal}
 
 -- ---- numbers and answers
 
@@ -29,9 +29,6 @@ module _ (x y : ℕ) where
 
   pub unique-slot : (S : List ℕ) (i j : ℕ) → x ≡ getD (slots S i) j 0 → y ≡ getD (slots S i) j 0 → x ≡ y
   unique-slot S i j p q = p ∙ sym q
-
-  pub unique-find-sorted : (S : List ℕ) (F : ℕ) → x ≡ splitOf S F → y ≡ splitOf S F → x ≡ y
-  unique-find-sorted S F p q = p ∙ sym q
 
 -- ---- sets that own as many words as their kind has, each of 64 bits
 

@@ -302,7 +302,7 @@ fn unions_good(parts: &[u8], splits: &[u8]) -> bool
 }
 
 // The split whose set is f, by halving, where the splits are in order; the number of splits where there is none.
-pub fn find_sorted(splits: &[u8], f: StateSet) -> usize
+fn find_sorted(splits: &[u8], f: StateSet) -> usize
     requires { ⌜ every (splitCount (now splits)) (inOrder (now splits)) ≡ true ⌝ }
     ensures { λ r. ⌜ r ≡ splitOf (now (splits .entry)) (setOf f) ⌝ }
 {
