@@ -1,16 +1,18 @@
 -- The table check in a reader's words: each refusal is given exactly when its row says and no earlier row does, and what each row says. Assumes nothing.
-use Prim.Native.Nat.{ℕ, zero, suc, _*_, _%_, _≤_, _<_}
-use mathlib.Core.Path.{_≡_, refl, sym, ap}
+use Prim.Native.Nat.{ℕ, zero, suc, _+_, _*_, _%_, _≤_, _<_}
+use mathlib.Core.Path.{_≡_, refl, sym, ap, _∙_}
 use mathlib.Core.Bool.{Bool, true, false, _&&_, _||_, not, true≢false}
 use mathlib.Core.List.{List, [], _∷_}
 use mathlib.Core.Logic.{_⊎_, inl, inr, _↔_}
 use native.Mathlib.Omega.{arith}
 use native.Mathlib.Nat.{lt-of-not-le}
 use native.Mathlib.Decide.{decLt}
-use lib.ListN.{length, getD}
+use lib.ListN.{length, getD, length-take, length-drop}
 use lib.Dec.{eqb, ltb}
 use borrow.Author.Tests.{eqb-false, eq-eqb, ne-eqb, ltb-true, lt-ltb, le-ltb, le-leb, not-true}
-use Rattle.sets.specs.Set.{setSize}
+use Rattle.sets.specs.Set.{setSize, bytesAt, before}
+use Rattle.sets.proofs.Order.{Smaller, before-exactly}
+use Rattle.sets.proofs.Sets.{byte-in}
 use Rattle.rules.specs.Scan.{every}
 use Rattle.rules.specs.Rules.{Refuses}
 use Rattle.lists.specs.Automaton.{start, step}
@@ -108,6 +110,44 @@ slots-exactly n b ss = (
   slots-said n b ss,
   λ g. rw (g .named, eq-eqb (length (usedSlots ss)) (length (takenSlots ss)) (sym (ap length (g .taken))), g .rise, le-leb (length (usedSlots ss)) b (g .few)),
 )
+
+-- split 0 has none before it
+pub in-order-first : (S : List ℕ) → inOrder S 0 ≡ true
+unfolding inOrder
+in-order-first S = refl
+
+-- a later split is in order exactly when the set before it has the smaller byte at the first place where the two sets differ
+pub in-order-exactly : (S : List ℕ) (i : ℕ) → suc i < splitCount S → inOrder S (suc i) ≡ true
+    ↔ Smaller setSize (λ j. getD S (splitSize * i + j) 0) (λ j. getD S (splitSize * suc i + j) 0)
+unfolding inOrder
+in-order-exactly S i h = (there, back)
+  where
+    long : (j : ℕ) → splitSize * j + setSize ≤ length S → length (bytesAt S (splitSize * j)) ≡ setSize
+    long j l = simp (length-take, length-drop) (omega arith)
+
+    one : length (bytesAt S (splitSize * i)) ≡ setSize
+    one = long i (omega arith)
+
+    same : length (bytesAt S (splitSize * i)) ≡ length (bytesAt S (splitSize * suc i))
+    same = one ∙ sym (long (suc i) (omega arith))
+
+    x : (j : ℕ) → j < setSize → getD (bytesAt S (splitSize * i)) j 0 ≡ getD S (splitSize * i + j) 0
+    x = byte-in S (splitSize * i)
+
+    y : (j : ℕ) → j < setSize → getD (bytesAt S (splitSize * suc i)) j 0 ≡ getD S (splitSize * suc i + j) 0
+    y = byte-in S (splitSize * suc i)
+
+    there : before (bytesAt S (splitSize * i)) (bytesAt S (splitSize * suc i)) ≡ true → Smaller setSize (λ j. getD S (splitSize * i + j) 0) (λ j. getD S (splitSize * suc i + j) 0)
+    there e =
+        let w = before-exactly (bytesAt S (splitSize * i)) (bytesAt S (splitSize * suc i)) same .0 e in
+        let k : w .0 < setSize = omega (arith, w .1, one) in
+        (w .0, k, λ j m. sym (x j (omega arith)) ∙ w .2 j m ∙ y j (omega arith), rw (← x (w .0) k, ← y (w .0) k) (w .3))
+
+    back : Smaller setSize (λ j. getD S (splitSize * i + j) 0) (λ j. getD S (splitSize * suc i + j) 0) → before (bytesAt S (splitSize * i)) (bytesAt S (splitSize * suc i)) ≡ true
+    back w =
+        let k : w .0 < setSize = w .1 in
+        before-exactly (bytesAt S (splitSize * i)) (bytesAt S (splitSize * suc i)) same .1
+        (w .0, omega (arith, k, one), λ j m. x j (omega arith) ∙ w .2 j m ∙ sym (y j (omega arith)), rw (x (w .0) k, y (w .0) k) (w .3))
 
 and-fails : (a b : Bool) → (a && b) ≡ false ↔ ((a ≡ false) ⊎ (b ≡ false))
 and-fails true b = (λ e. inr e, λ s. choose s (λ p. absurd (true≢false p)) (λ q. q))
