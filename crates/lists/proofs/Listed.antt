@@ -1,19 +1,19 @@
 -- The list check in a reader's words: each refusal is given exactly when its row says and no earlier row does, and what each row says. Assumes nothing.
 use Prim.Native.Nat.{ℕ, zero, suc, _+_, _*_, _%_, _≤_, _<_}
 use mathlib.Core.Path.{_≡_, refl, ap, _∙_}
-use mathlib.Core.Bool.{true, false, not}
+use mathlib.Core.Bool.{Bool, true, false, _||_, not}
 use mathlib.Core.List.{List}
 use mathlib.Core.Logic.{_⊎_, _↔_}
 use native.Mathlib.Omega.{arith}
 use native.Mathlib.Numerals.{add-one}
-use lib.ListN.{length}
+use lib.ListN.{length, getD}
 use lib.Dec.{eqb}
 use borrow.Author.Tests.{eqb-true, eq-eqb, ltb-true, lt-ltb, leb-true, le-leb, not-true}
 use Rattle.sets.specs.Set.{states, signatures}
 use Rattle.sets.proofs.Sets.{or-false}
 use Rattle.rules.specs.Rules.{Refuses}
-use Rattle.lists.specs.List.{recordSize, mostRecords, records, byteOf, isEdge, isStart, isAccept, from, target, zeros, goodEdge, goodStart, goodAccept, goodRecord, badLength, badRecord, noStart, listRules, listRefusal}
-use Rattle.rules.proofs.Scanning.{both, every-at, every-all, length-words, some-none, none-some, refuses-exactly}
+use Rattle.lists.specs.List.{recordSize, mostRecords, records, byteOf, isEdge, isStart, isAccept, low, high, from, target, zeros, goodEdge, goodStart, goodAccept, goodRecord, badLength, badRecord, noStart, listRules, listRefusal}
+use Rattle.rules.proofs.Scanning.{both, choose, either-words, equal-words, every-at, every-all, length-words, some-none, none-some, refuses-exactly}
 use Rattle.rules.proofs.Rules.{refuses}
 
 -- a row's number exactly when that row is the first that applies, 0 exactly when none applies
@@ -91,6 +91,112 @@ accept-good L i = (there, λ g. rw (g .0, zeros-exactly L i 3 .1 (g .1), lt-ltb 
         let f = both _ _ (t .0) in
         let k = both _ _ (f .0) in
         (k .0, zeros-exactly L i 3 .0 (k .1), ltb-true _ _ (f .1), ltb-true _ _ (t .1))
+
+-- ---- a record byte by byte
+
+-- as many records as there are whole groups of 8 bytes
+pub records-exactly : (L : List ℕ) (n : ℕ) → records L ≡ n ↔ ((8 * n ≤ length L) × (length L < 8 * suc n))
+records-exactly L n = (λ e. (omega arith, omega arith), λ w. omega (arith, w .0, w .1))
+
+module _ (L : List ℕ) (i : ℕ) where
+  -- byte 0 is the kind: 1 an edge, 2 a start, 3 an accept
+  first-byte : 8 * i + 0 ≡ 8 * i
+  first-byte = omega arith
+
+  pub kind-edge : isEdge L i ≡ true ↔ (getD L (8 * i) 0 ≡ 1)
+  kind-edge = rw first-byte (equal-words (getD L (8 * i) 0) 1)
+
+  pub kind-start : isStart L i ≡ true ↔ (getD L (8 * i) 0 ≡ 2)
+  kind-start = rw first-byte (equal-words (getD L (8 * i) 0) 2)
+
+  pub kind-accept : isAccept L i ≡ true ↔ (getD L (8 * i) 0 ≡ 3)
+  kind-accept = rw first-byte (equal-words (getD L (8 * i) 0) 3)
+
+  -- 1 low, 2 high, 4-5 from, 6-7 to, low byte first
+  pub low-byte : low L i ≡ getD L (8 * i + 1) 0
+  low-byte = refl
+
+  pub high-byte : high L i ≡ getD L (8 * i + 2) 0
+  high-byte = refl
+
+  pub from-bytes : from L i ≡ getD L (8 * i + 4) 0 + 256 * getD L (8 * i + 5) 0
+  from-bytes = let e : 8 * i + 4 + 1 ≡ 8 * i + 5 = omega arith in rw e
+
+  pub target-bytes : target L i ≡ getD L (8 * i + 6) 0 + 256 * getD L (8 * i + 7) 0
+  target-bytes = let e : 8 * i + 6 + 1 ≡ 8 * i + 7 = omega arith in rw e
+
+-- 1, edge: 1 low, 2 high, 3 zero, 4-5 from, 6-7 to
+pub record Edge-bytes (L : List ℕ) (i : ℕ) : Type 0 where
+  pub kind : getD L (8 * i) 0 ≡ 1
+  pub order : getD L (8 * i + 1) 0 ≤ getD L (8 * i + 2) 0
+  pub reserved : getD L (8 * i + 3) 0 ≡ 0
+  pub state : getD L (8 * i + 4) 0 + 256 * getD L (8 * i + 5) 0 < states
+  pub next : getD L (8 * i + 6) 0 + 256 * getD L (8 * i + 7) 0 < states
+
+-- 2, start: 1-5 zero, 6-7 state
+pub record Start-bytes (L : List ℕ) (i : ℕ) : Type 0 where
+  pub kind : getD L (8 * i) 0 ≡ 2
+  pub reserved : (k : ℕ) → 1 ≤ k → k ≤ 5 → getD L (8 * i + k) 0 ≡ 0
+  pub state : getD L (8 * i + 6) 0 + 256 * getD L (8 * i + 7) 0 < states
+
+-- 3, accept: 1-3 zero, 4-5 state, 6-7 signature
+pub record Accept-bytes (L : List ℕ) (i : ℕ) : Type 0 where
+  pub kind : getD L (8 * i) 0 ≡ 3
+  pub reserved : (k : ℕ) → 1 ≤ k → k ≤ 3 → getD L (8 * i + k) 0 ≡ 0
+  pub state : getD L (8 * i + 4) 0 + 256 * getD L (8 * i + 5) 0 < states
+  pub signature : getD L (8 * i + 6) 0 + 256 * getD L (8 * i + 7) 0 < signatures
+
+module _ (L : List ℕ) (i : ℕ) where
+  edge-bytes : goodEdge L i ≡ true ↔ Edge-bytes L i
+  edge-bytes = (there, back)
+    where
+      there : goodEdge L i ≡ true → Edge-bytes L i
+      there e =
+          let g = edge-good L i .0 e in
+          record { kind = kind-edge L i .0 (g .0); order = g .1; reserved = g .2; state = rw (← from-bytes L i) (g .3); next = rw (← target-bytes L i) (g .4) }
+
+      back : Edge-bytes L i → goodEdge L i ≡ true
+      back g =
+          edge-good L i .1 (kind-edge L i .1 (g .kind), g .order, g .reserved, rw (from-bytes L i) (g .state), rw (target-bytes L i) (g .next))
+
+  start-bytes : goodStart L i ≡ true ↔ Start-bytes L i
+  start-bytes = (there, back)
+    where
+      there : goodStart L i ≡ true → Start-bytes L i
+      there e =
+          let g = start-good L i .0 e in
+          record { kind = kind-start L i .0 (g .0); reserved = g .1; state = rw (← target-bytes L i) (g .2) }
+
+      back : Start-bytes L i → goodStart L i ≡ true
+      back g = start-good L i .1 (kind-start L i .1 (g .kind), g .reserved, rw (target-bytes L i) (g .state))
+
+  accept-bytes : goodAccept L i ≡ true ↔ Accept-bytes L i
+  accept-bytes = (there, back)
+    where
+      there : goodAccept L i ≡ true → Accept-bytes L i
+      there e =
+          let g = accept-good L i .0 e in
+          record { kind = kind-accept L i .0 (g .0); reserved = g .1; state = rw (← from-bytes L i) (g .2); signature = rw (← target-bytes L i) (g .3) }
+
+      back : Accept-bytes L i → goodAccept L i ≡ true
+      back g =
+          accept-good L i .1 (kind-accept L i .1 (g .kind), g .reserved, rw (from-bytes L i) (g .state), rw (target-bytes L i) (g .signature))
+
+  -- a record is good exactly when its bytes are those of an edge, of a start or of an accept
+  pub record-exactly : goodRecord L i ≡ true ↔ ((Edge-bytes L i ⊎ Start-bytes L i) ⊎ Accept-bytes L i)
+  unfolding goodRecord
+  record-exactly =
+      either-words (Edge-bytes L i ⊎ Start-bytes L i) (Accept-bytes L i) (goodEdge L i || goodStart L i) (goodAccept L i)
+      (either-words (Edge-bytes L i) (Start-bytes L i) (goodEdge L i) (goodStart L i) edge-bytes start-bytes)
+      accept-bytes
+
+  -- so one of another kind is not
+  pub other-kind : (getD L (8 * i) 0 ≡ 1 → ⊥) → (getD L (8 * i) 0 ≡ 2 → ⊥) → (getD L (8 * i) 0 ≡ 3 → ⊥) → goodRecord L i ≡ false
+  other-kind n1 n2 n3 = go (goodRecord L i) refl
+    where
+      go : (b : Bool) → goodRecord L i ≡ b → b ≡ false
+      go false e = refl
+      go true e = absurd (choose (record-exactly .0 e) (λ s. choose s (λ g. n1 (g .kind)) (λ g. n2 (g .kind))) (λ g. n3 (g .kind)))
 
 -- row 3: no record is a start
 pub no-start : (L : List ℕ) → noStart L ≡ true ↔ ((i : ℕ) → i < records L → isStart L i ≡ false)
