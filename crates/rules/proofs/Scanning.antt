@@ -198,6 +198,21 @@ some-first n p = go (some n p) refl
     go true e = e ∙ sym (lt-ltb (first n p) n (first-found n p e .0))
     go false e = e ∙ sym (le-ltb (first n p) n (omega (arith, first-none n p e)))
 
+-- the first is i exactly when p holds of i and of none before it, and n exactly when it holds of none
+pub first-exactly : (n : ℕ) (p : ℕ → Bool) (i : ℕ) → i < n → first n p ≡ i ↔ ((p i ≡ true) × ((j : ℕ) → j < i → p j ≡ false))
+first-exactly n p i l = (there (some n p) refl, λ w. first-at n p i l (some-none i p (w .1)) (w .0))
+  where
+    there : (b : Bool) → some n p ≡ b → first n p ≡ i → (p i ≡ true) × ((j : ℕ) → j < i → p j ≡ false)
+    there true q e = let r = first-found n p q in rw (← e) (r .1, none-some (first n p) p (r .2))
+    there false q e = absurd (omega (arith, first-none n p q))
+
+pub first-none-exactly : (n : ℕ) (p : ℕ → Bool) → first n p ≡ n ↔ ((j : ℕ) → j < n → p j ≡ false)
+first-none-exactly n p = (there (some n p) refl, λ h. first-none n p (some-none n p h))
+  where
+    there : (b : Bool) → some n p ≡ b → first n p ≡ n → (j : ℕ) → j < n → p j ≡ false
+    there true q e = absurd (omega (arith, first-found n p q .0))
+    there false q e = none-some n p q
+
 -- ---- rising
 
 -- a list that rises from `least` on: each number is at least that, and later ones are greater
