@@ -10,6 +10,7 @@ use Rattle.sets.specs.Set.{join, setOf}
 use Rattle.sets.proofs.Sets.{join-empty, join-comm, join-assoc}
 use Rattle.tables.specs.Table.{unusedSlot, slots, takenSlots, allBelow, joined}
 use Rattle.tables.proofs.Entries.{slots-length}
+use Rattle.tables.proofs.Joined.{taken-stop, taken-more}
 use Rattle.splits.specs.declared.Taken.{Taken}
 use Rattle.splits.specs.Taken.{TakesSlots}
 
@@ -21,15 +22,6 @@ pub record Taking (f : ℕ → ℕ) (n : ℕ) (ss : List ℕ) (all j : ℕ) : Ty
 
 pub taking-start : (f : ℕ → ℕ) (n : ℕ) (ss : List ℕ) (all : ℕ) → all ≡ 0 → Taking f n ss all 0
 taking-start f n ss all e = record { union = rw e (sym (join-empty _)); count = omega arith; named = refl }
-
--- at slot x
-taken-stop : (x : ℕ) (xs : List ℕ) → unusedSlot x ≡ true → takenSlots (x ∷ xs) ≡ []
-unfolding takenSlots
-taken-stop x xs e = rw e
-
-taken-more : (x : ℕ) (xs : List ℕ) → unusedSlot x ≡ false → takenSlots (x ∷ xs) ≡ x ∷ takenSlots xs
-unfolding takenSlots
-taken-more x xs e = rw e
 
 module _ (f : ℕ → ℕ) (n : ℕ) (ss : List ℕ) (t : Taken) (j : ℕ) (g : Taking f n ss (setOf (t .next)) j) where
   all-taken : t .halts ≡ false → t .rows ≡ j → takenSlots (drop j ss) ≡ [] → TakesSlots n f (takenSlots ss) t
