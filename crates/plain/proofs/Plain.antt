@@ -1,11 +1,11 @@
 -- The plain engine: it keeps to sets of states, costs at most all of them for a byte, and its feed refuses by its rules alone. Assumes nothing.
 use Prim.Native.Nat.{ℕ, _^_, _≤_, _<_}
-use mathlib.Core.Path.{_≡_}
+use mathlib.Core.Path.{_≡_, sym}
 use mathlib.Core.List.{List}
 use native.Mathlib.Decide.{ℕ-discrete}
 use lib.ListN.{length, take}
 use lib.Dec.{ltb}
-use Rattle.sets.specs.Set.{states}
+use Rattle.sets.specs.Set.{states, members}
 use Rattle.sets.proofs.Members.{members-size, members-most}
 use Rattle.rules.specs.Rules.{Rule, verdict}
 use Rattle.lists.proofs.Steps.{step-lt}
@@ -15,9 +15,13 @@ use Rattle.flows.specs.Flow.{feedRules}
 use Rattle.feeds.proofs.Moves.{feed-ends, feed-refused}
 use Rattle.plain.specs.Plain.{plain, plainFeed}
 
--- at most all states for a byte
+-- a byte costs as many rows as there are states in the frontier before it
+pub plain-rows : (L : List ℕ) (F : ℕ) → plain L .cost F ≡ length (members states F)
+plain-rows L F = sym (members-size states F)
+
+-- at most all states
 pub plain-cheap : (L : List ℕ) (F : ℕ) → plain L .cost F ≤ states
-plain-cheap L F = rw (← members-size states F) (members-most states F)
+plain-cheap L F = rw (plain-rows L F) (members-most states F)
 
 -- a step makes a set of states, whatever the list
 pub plain-kept : (L : List ℕ) (F c : ℕ) → c < 256 → F < 2 ^ states → plain L .next F c < 2 ^ states
