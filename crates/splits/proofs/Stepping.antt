@@ -3,14 +3,17 @@ use Prim.Native.Nat.{ℕ, _+_, _≤_, _<_}
 use mathlib.Core.Path.{_≡_, refl, sym, ap, _∙_}
 use mathlib.Core.Bool.{Bool, true, false, _||_, not, true≢false}
 use mathlib.Core.List.{List}
+use mathlib.Core.Logic.{_↔_}
 use native.Mathlib.Numerals.{add-one}
-use lib.ListN.{length}
+use lib.ListN.{length, getD}
 use lib.Dec.{ltb, leb, eqb}
 use borrow.Author.Tests.{eqb-true, le-leb, lt-leb}
-use Rattle.sets.specs.Set.{setOf}
+use Rattle.sets.specs.Set.{holds, setOf}
 use Rattle.rules.specs.Scan.{some, first}
 use Rattle.rules.proofs.Scanning.{neither, first-at, first-none, first-found}
 use Rattle.tables.specs.Table.{Table, partCount, splitCount, row, splitSet, slots, takenSlots, allBelow, joined, isSplit, splitOf}
+use Rattle.tables.proofs.Joined.{joined-exactly}
+use Rattle.tables.proofs.Found.{split-exactly}
 use Rattle.splits.specs.Split.{taken, stuck, splitStep}
 use Rattle.splits.specs.declared.Taken.{Taken}
 use Rattle.splits.specs.Taken.{TakesSlots, TakesStep}
@@ -54,6 +57,17 @@ found-split S F s =
 pub taken-at : (T : Table) (F i : ℕ) → i ≡ splitOf (T .splits) F → takenSlots (slots (T .splits) i) ≡ taken T F
 unfolding taken
 taken-at T F i e = ap (λ (n : ℕ). takenSlots (slots (T .splits) n)) e
+
+-- where split i is the first whose set equals F
+pub taken-first : (T : Table) (F i : ℕ) → i < splitCount (T .splits) → splitSet (T .splits) i ≡ F → ((j : ℕ) → j < i → splitSet (T .splits) j ≡ F → ⊥)
+    → taken T F ≡ takenSlots (slots (T .splits) i)
+taken-first T F i l e n = sym (taken-at T F i (sym (split-exactly (T .splits) F i l .1 (e, n))))
+
+-- s is in the next frontier exactly when it is in the row that c selects of some slot taken
+pub split-step-exactly : (T : Table) (F c s : ℕ)
+    → holds (splitStep T F c) s ≡ true ↔ ((i : ℕ) × (i < length (taken T F)) × (holds (row (T .classes) (T .rows) (getD (taken T F) i 0) c) s ≡ true))
+unfolding splitStep
+split-step-exactly T F c s = joined-exactly (λ p. row (T .classes) (T .rows) p c) (taken T F) s
 
 module _ (b : ℕ) (T : Table) (F c i : ℕ) (e : i ≡ splitOf (T .splits) F) where
   -- no split has the set F
