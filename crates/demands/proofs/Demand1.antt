@@ -17,18 +17,21 @@ use Rattle.lists.specs.List.{badLength, badRecord, noStart, listRules}
 use Rattle.rules.proofs.Scanning.{both}
 use Rattle.lists.proofs.Listed.{list-refuses}
 use Rattle.rules.proofs.Rules.{refuses, rises, exactly, numbered, number-lt, verdict-lt, passes-front, passes-changed}
-use Rattle.feeds.specs.Engine.{Engine, room, run, consumed, ended, feed, mostOffset}
+use Rattle.feeds.specs.Engine.{Engine, Outcome, room, run, consumed, ended, feed, mostOffset}
 use Rattle.flows.specs.Flow.{flowLayout, frontierOf, offsetOf, badFlow, otherStart, tooLong, feedRules}
-use Rattle.feeds.proofs.Runs.{consumed-most, consumed-again, length-take-most}
+use Rattle.feeds.proofs.Runs.{consumed-most, consumed-again, consumed-free, length-take-most}
 use Rattle.feeds.proofs.Going.{unfed}
 use Rattle.feeds.proofs.Moves.{no-refusal}
 use Rattle.flows.proofs.Passing.{feed-passes}
 use Rattle.plain.specs.Plain.{plain, openRules, openRefusal, openSaved}
 use Rattle.plain.proofs.Plain.{plain-refusal}
-use Rattle.tables.specs.Table.{Table, sizeRules, tableRules}
+use Rattle.tables.specs.Table.{Table, sizeRules, tableRules, tableRefusal}
 use Rattle.tables.proofs.Checked.{table-exactly}
 use Rattle.splits.specs.Split.{stuck, split, splitRules, splitFeed}
+use Rattle.splits.proofs.Halting.{stuck-exactly}
+use Rattle.demands.specs.Words.{First, InWords, tableWords, splitWords}
 use Rattle.demands.specs.Demands.{Unchanged, Same, Demand1}
+use Rattle.demands.proofs.Saying.{list-tells, open-tells, feed-tells, table-tells, split-tells}
 
 -- a feed that a rule refuses changes nothing
 pub refused-unchanged : {C : Type 0} (E : Engine C) (K : Rattle.feeds.specs.Engine.Layout C) (R piece out : List ℕ) (rules : List Rule) → (verdict rules ≡ 0 → ⊥)
@@ -88,6 +91,25 @@ module _ (L : List ℕ) (b : ℕ) (T : Table) (R : List ℕ) (at : ℕ) (piece o
 
   decide : (P : Type 0) → (verdict (splitRules L b T R at piece) ≡ 0 → P) → ((verdict (splitRules L b T R at piece) ≡ 0 → ⊥) → P) → P
   decide P f g = elim (native.Mathlib.Decide.ℕ-discrete (verdict (splitRules L b T R at piece)) 0) [ yes e ↦ f e | no n ↦ g n ]
+
+  -- no frontier before a byte consumed is stuck
+  first-free : (j : ℕ) → j < splitFeed L b T R at piece out .bytes → stuck b T (run (split L b T) (frontierOf R) (take j piece)) ≡ false
+  unfolding few
+  first-free j h =
+      decide (stuck b T (run (split L b T) (frontierOf R) (take j piece)) ≡ false) (λ v. consumed-free (split L b T) (frontierOf R) (room out) piece j (rw (bytes-few v) at h))
+      (λ v. absurd (omega (arith, ap (λ (o : Outcome). o .bytes) (unfed (split L b T) flowLayout R piece out (splitRules L b T R at piece) v), h)))
+
+  -- 1 to 8 in words
+  in-words : (n : ℕ) → (n ≡ 0 → ⊥) → (n ≡ 14 → ⊥) → (splitFeed L b T R at piece out .refusal ≡ n) ↔ First (splitWords L b T R at piece) n
+  in-words n z m =
+      let w = split-tells L b T R at piece .gives n z in (
+        λ e. decide (First (splitWords L b T R at piece) n) (λ v. absurd (either halting (sym (ended-refusal v) ∙ e))) (λ v. w .0 (sym (refused-refusal v) ∙ e)),
+        λ f. let e = w .1 f in refused-refusal (λ v. z (sym e ∙ v)) ∙ e,
+      )
+    where
+      either : (t : Bool) → _≡_ {A = ℕ} (cond t 14 0) n → ⊥
+      either true e = m (sym e)
+      either false e = z (sym e)
 
   -- 1 to 8
   by-rule : (i : ℕ) → i < 8 → (splitFeed L b T R at piece out .refusal ≡ number (splitRules L b T R at piece) i) ↔ Given (splitRules L b T R at piece) i
@@ -168,6 +190,11 @@ kept L b T R at piece out e =
     rw (bytes-few L b T R at piece out v, goes L b T R at piece out v, goes L b T R at (take n piece) out w, again)
     (record { bytes = sym (front-long L b T R at piece out); pairs = refl; words = refl; saved = refl })
 
+-- the table check in words
+table-said : (L : List ℕ) (b : ℕ) (T : Table) → InWords (tableWords L b T) (tableRefusal L b T)
+unfolding tableRefusal
+table-said = table-tells
+
 pub demand-1 : Demand1
 unfolding rising
 demand-1 =
@@ -181,16 +208,26 @@ demand-1 =
             rises 0 (splitRules L b T R at piece) refl,
           );
       lists = list-refuses;
+      lists-said = list-tells;
       opens = λ L R. refuses (openRules L R) refl;
+      opens-said = open-tells;
+      opens-passes = λ L R e. rw (eq-eqb (openRefusal L R) 0 e);
+      opens-length = λ L R Q e. rw e;
       opens-not = open-refused;
       feeds = λ L R at piece out. rw (plain-refusal L R at piece out) (refuses (feedRules L R at piece) refl);
+      feeds-said = λ L R at piece out. rw (plain-refusal L R at piece out) (feed-tells L R at piece);
       feeds-not = λ L R at piece out v. refused-unchanged (plain L) flowLayout R piece out (feedRules L R at piece) (rw (plain-refusal L R at piece out) at v);
       tables = table-exactly;
+      tables-said = table-said;
       splits = by-rule;
+      splits-said = in-words;
+      splits-none = λ L b T R at piece. split-tells L b T R at piece .passes;
       splits-not =
           λ L b T R at piece out v w.
           refused-unchanged (split L b T) flowLayout R piece out (splitRules L b T R at piece) (λ z. neither-of L b T R at piece out v w z);
       splits-passes = by-none;
+      stuck-said = stuck-exactly;
+      halts-first = first-free;
       halts = by-halt;
       halts-not-all = not-all;
       halts-kept = kept;

@@ -20,7 +20,7 @@ use Rattle.feeds.proofs.Runs.{run-more, consumed-most, consumed-fits, consumed-
 use Rattle.feeds.proofs.Told.{told-exactly, told-ordered}
 use Rattle.feeds.proofs.Follows.{follows-within}
 use Rattle.flows.proofs.Records.{frontier-lt, flow-good}
-use Rattle.feeds.proofs.Moves.{feed-bytes, no-refusal, feed-moves}
+use Rattle.feeds.proofs.Moves.{feed-bytes, feed-fits, feed-rest, feed-length, feed-all, no-refusal, feed-moves}
 use Rattle.feeds.proofs.Whole.{Sound, Pieces, Fair, whole, never-halts, one-engine, by-answer}
 use Rattle.flows.proofs.Saved.{flow-sound}
 use Rattle.feeds.proofs.Cuts.{Equal, One}
@@ -153,4 +153,15 @@ call-moves : (R : List ℕ) (c : Call) → outcome R c .refusal ≡ 0 → zero <
 call-moves R c z l r = feed-moves (asked c .engine) flowLayout R (asked c .rules R) (c .piece) (c .out) z l r
 
 pub one-call : OneCall
-one-call = record { longest = call-longest; elsewhere = call-elsewhere; never-4 = call-good; moves = call-moves }
+one-call =
+    record {
+      longest = call-longest;
+      all = λ R c v. feed-all (asked c .engine) flowLayout R (asked c .rules R) (c .piece) (c .out) v;
+      words-stay = λ R c i l. feed-rest (asked c .engine) flowLayout R (asked c .rules R) (c .piece) (c .out) i l;
+      words-many = λ R c. feed-length (asked c .engine) flowLayout R (asked c .rules R) (c .piece) (c .out);
+      pairs-fit = λ R c. omega (arith, feed-fits (asked c .engine) flowLayout R (asked c .rules R) (c .piece) (c .out));
+      room-whole = λ out. (omega arith, omega arith);
+      elsewhere = call-elsewhere;
+      never-4 = call-good;
+      moves = call-moves;
+    }

@@ -5,4 +5,5 @@ pub mod Demand2
 pub mod Demand3
 pub mod Cuts
 pub mod Instance
+pub mod Saying
 pub mod Made

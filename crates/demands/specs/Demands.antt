@@ -4,7 +4,7 @@ use mathlib.Core.Bool.{true, false}
 use mathlib.Core.List.{List, [], _∷_, _++_}
 use mathlib.Core.Logic.{_⊎_, _↔_}
 use mathlib.Core.Path.{_≡_}
-use lib.ListN.{length, take}
+use lib.ListN.{length, getD, take}
 use Rattle.sets.specs.Set.{signatures, holds}
 use Rattle.rules.specs.Rules.{verdict, number, Given, Rises, Refuses}
 use Rattle.lists.specs.List.{listRules, listRefusal}
@@ -16,6 +16,7 @@ use Rattle.feeds.specs.Calls.{Bytes, recordAfter, allTold, allBytes}
 use Rattle.plain.specs.Plain.{plain, opened, openPairs, pairsOf, openRules, openRefusal, openSaved, plainFeed}
 use Rattle.tables.specs.Table.{Table, tableRules, tableRefusal}
 use Rattle.splits.specs.Split.{taken, stuck, split, splitRules, splitFeed}
+use Rattle.demands.specs.Words.{None, First, InWords, listWords, openWords, feedWords, tableWords, splitWords, Stuck}
 use Rattle.demands.specs.Calls.{byList, byTable, Call, asked, allAsked, outcome}
 
 -- ==== Demand 1: each refusal has a number, is given exactly when the rules say, and changes nothing in the buffers;
@@ -40,25 +41,38 @@ pub record Demand1 : Type 0 where
   -- in the rules of each entry point the numbers rise: of those that apply, the lowest is given
   pub lowest : (L : List ℕ) (b : ℕ) (T : Table) (R : List ℕ) (at : ℕ) (piece : List ℕ)
       → Rises (listRules L) × Rises (openRules L R) × Rises (feedRules L R at piece) × Rises (tableRules L b T) × Rises (splitRules L b T R at piece)
-  -- the list check: 1 to 3
+  -- the list check: 1 to 3; and in words: each number exactly when its words hold and those of no row before it do
   pub lists : (L : List ℕ) → Refuses (listRules L) (listRefusal L)
-  -- opening: 1 to 4; a refusal leaves the record
+  pub lists-said : (L : List ℕ) → InWords (listWords L) (listRefusal L)
+  -- opening: 1 to 4; a refusal leaves the record, and else it is the start states at offset 0 with no rows read, whatever it held; only its length is looked at
   pub opens : (L R : List ℕ) → Refuses (openRules L R) (openRefusal L R)
+  pub opens-said : (L R : List ℕ) → InWords (openWords L R) (openRefusal L R)
+  pub opens-passes : (L R : List ℕ) → openRefusal L R ≡ 0 → openSaved L R ≡ opened L
+  pub opens-length : (L R Q : List ℕ) → length R ≡ length Q → openRefusal L R ≡ openRefusal L Q
   pub opens-not : (L R : List ℕ) → (openRefusal L R ≡ 0 → ⊥) → openSaved L R ≡ R
   -- the plain feed: 1 to 6
   pub feeds : (L R : List ℕ) (at : ℕ) (piece out : List ℕ) → Refuses (feedRules L R at piece) (plainFeed L R at piece out .refusal)
+  pub feeds-said : (L R : List ℕ) (at : ℕ) (piece out : List ℕ) → InWords (feedWords L R at piece) (plainFeed L R at piece out .refusal)
   pub feeds-not : (L R : List ℕ) (at : ℕ) (piece out : List ℕ) → (plainFeed L R at piece out .refusal ≡ 0 → ⊥) → Unchanged R out (plainFeed L R at piece out)
   -- the table check: 1 to 3 and 7 to 13
   pub tables : (L : List ℕ) (b : ℕ) (T : Table) → Refuses (tableRules L b T) (tableRefusal L b T)
+  pub tables-said : (L : List ℕ) (b : ℕ) (T : Table) → InWords (tableWords L b T) (tableRefusal L b T)
   -- the split feed: 1 to 8
   pub splits : (L : List ℕ) (b : ℕ) (T : Table) (R : List ℕ) (at : ℕ) (piece out : List ℕ) (i : ℕ) → i < 8
       → (splitFeed L b T R at piece out .refusal ≡ number (splitRules L b T R at piece) i) ↔ Given (splitRules L b T R at piece) i
+  pub splits-said : (L : List ℕ) (b : ℕ) (T : Table) (R : List ℕ) (at : ℕ) (piece out : List ℕ) (n : ℕ) → (n ≡ 0 → ⊥) → (n ≡ 14 → ⊥)
+      → (splitFeed L b T R at piece out .refusal ≡ n) ↔ First (splitWords L b T R at piece) n
+  pub splits-none : (L : List ℕ) (b : ℕ) (T : Table) (R : List ℕ) (at : ℕ) (piece : List ℕ) → (verdict (splitRules L b T R at piece) ≡ 0) ↔ None (splitWords L b T R at piece)
   pub splits-not : (L : List ℕ) (b : ℕ) (T : Table) (R : List ℕ) (at : ℕ) (piece out : List ℕ)
       → (splitFeed L b T R at piece out .refusal ≡ 0 → ⊥) → (splitFeed L b T R at piece out .refusal ≡ 14 → ⊥) → Unchanged R out (splitFeed L b T R at piece out)
   pub splits-passes : (L : List ℕ) (b : ℕ) (T : Table) (R : List ℕ) (at : ℕ) (piece out : List ℕ)
       → (splitFeed L b T R at piece out .refusal ≡ 0)
       ↔ ((verdict (splitRules L b T R at piece) ≡ 0)
       × (splitFeed L b T R at piece out .bytes < length piece → stuck b T (run (split L b T) (frontierOf R) (take (splitFeed L b T R at piece out .bytes) piece)) ≡ false))
+  -- a frontier is stuck exactly when 14 says; none is that stands before a byte consumed
+  pub stuck-said : (b : ℕ) (T : Table) (F : ℕ) → stuck b T F ≡ true ↔ Stuck b T F
+  pub halts-first : (L : List ℕ) (b : ℕ) (T : Table) (R : List ℕ) (at : ℕ) (piece out : List ℕ) (j : ℕ) → j < splitFeed L b T R at piece out .bytes
+      → stuck b T (run (split L b T) (frontierOf R) (take j piece)) ≡ false
   -- and 14: no other rule applies, bytes are left, and the frontier after those consumed is stuck; it never says that all was consumed
   pub halts : (L : List ℕ) (b : ℕ) (T : Table) (R : List ℕ) (at : ℕ) (piece out : List ℕ)
       → (splitFeed L b T R at piece out .refusal ≡ 14)
@@ -130,6 +144,14 @@ pub record Alike (R : List ℕ) (cs ds : List Call) : Type 0 where
 pub record OneCall : Type 0 where
   -- a call that no rule refuses consumes the longest front
   pub longest : (R : List ℕ) (c : Call) → verdict (asked c .rules R) ≡ 0 → Longest (asked c .engine) (frontierOf R) (room (c .out)) (c .piece) (outcome R c .bytes)
+  -- it says all exactly when that is the whole piece
+  pub all : (R : List ℕ) (c : Call) → verdict (asked c .rules R) ≡ 0 → outcome R c .all ≡ true ↔ (outcome R c .bytes ≡ length (c .piece))
+  -- whether refused or not: the words from the pairs on stay, an odd last word too; there are as many; the pairs fit half as many
+  pub words-stay : (R : List ℕ) (c : Call) (i : ℕ) → 2 * outcome R c .pairs ≤ i → getD (outcome R c .words) i 0 ≡ getD (c .out) i 0
+  pub words-many : (R : List ℕ) (c : Call) → length (outcome R c .words) ≡ length (c .out)
+  pub pairs-fit : (R : List ℕ) (c : Call) → 2 * outcome R c .pairs ≤ length (c .out)
+  -- the room is all that fits: two words more would be more than there are
+  pub room-whole : (out : List ℕ) → (2 * room out ≤ length out) × (length out < 2 * room out + 2)
   -- a piece that does not begin at the flow's offset is refused and changes nothing
   pub elsewhere : (R : List ℕ) (c : Call) → otherStart R (c .at) ≡ true → (outcome R c .refusal ≡ 0 → ⊥) × Unchanged R (c .out) (outcome R c)
   -- a feed leaves no record that a later feed refuses with 4

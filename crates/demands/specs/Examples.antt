@@ -1,5 +1,5 @@
 -- The barn examples marked P: the list L, the table T, and one table of rows, each what a definition gives beside what the example says.
-use Prim.Native.Nat.{ℕ, _-_, _*_}
+use Prim.Native.Nat.{ℕ, _-_, _*_, _+_}
 use mathlib.Core.Bool.{cond}
 use mathlib.Core.List.{List, [], _∷_, _++_}
 use mathlib.Core.Path.{_≡_}
@@ -8,7 +8,7 @@ use Rattle.sets.specs.Set.{states, signatures, setSize, digits, setBytes}
 use Rattle.lists.specs.List.{mostRecords, listRefusal}
 use Rattle.feeds.specs.Engine.{Outcome, mostOffset}
 use Rattle.flows.specs.Flow.{flowBytes, rowsOf}
-use Rattle.plain.specs.Plain.{opened}
+use Rattle.plain.specs.Plain.{opened, openRefusal, openSaved}
 use Rattle.tables.specs.Table.{Table, mostClass, mostParts, mostSplits, mostBound, tableRefusal}
 use Rattle.demands.specs.Calls.{Via, byList, byTable, outcome}
 
@@ -97,6 +97,10 @@ plainABAB n = fed byList (opened L) 0 (a ∷ b ∷ a ∷ b ∷ []) n
 abbrev pub splitABAB : ℕ → List ℕ → ℕ → Outcome
 splitABAB bound splits n = fed (byTable bound (tableOf splits)) (opened L) 0 (a ∷ b ∷ a ∷ b ∷ []) n
 
+-- "abab" plain with three words, each 9
+abbrev pub odd : Outcome
+odd = outcome (opened L) (record { list = L; via = byList; at = 0; piece = a ∷ b ∷ a ∷ b ∷ []; out = 9 ∷ 9 ∷ 9 ∷ [] })
+
 -- after "a", and after "bab" from there
 abbrev pub afterA : List ℕ
 afterA = fed byList (opened L) 0 (a ∷ []) 2 .saved
@@ -136,6 +140,15 @@ feedRows =
     ∷ (answered (plainABAB 0), 0 ∷ 1 ∷ 0 ∷ 0 ∷ [])
     -- empty piece, room 0: zero bytes, all consumed
     ∷ (answered (fed byList (opened L) 0 [] 0), 0 ∷ 0 ∷ 0 ∷ 1 ∷ [])
+    -- an odd buffer filled with other numbers, "abab": room for one pair, and the words behind it stay, the odd last one too
+    ∷ (odd .words, 7 ∷ 2 ∷ 9 ∷ [])
+    ∷ (answered odd, 0 ∷ 3 ∷ 1 ∷ 0 ∷ [])
+    -- opening a record full of FF: the record of the start states; one of another size: 4, and it stays
+    ∷ (openRefusal L (replicate (setSize + 16) 0xFF) ∷ openSaved L (replicate (setSize + 16) 0xFF), 0 ∷ opened L)
+    ∷ (openRefusal L (0xFF ∷ []) ∷ openSaved L (0xFF ∷ []), 4 ∷ 0xFF ∷ [])
+    -- state 255 passes, state 256 gives 2; a record of kind 4 gives 2
+    ∷ (listRefusal (L ++ (2 ∷ 0 ∷ 0 ∷ 0 ∷ 0 ∷ 0 ∷ 0xFF ∷ 0 ∷ [])) ∷ listRefusal (L ++ (2 ∷ 0 ∷ 0 ∷ 0 ∷ 0 ∷ 0 ∷ 0 ∷ 1 ∷ [])) ∷ [], 0 ∷ 2 ∷ [])
+    ∷ (listRefusal (L ++ (4 ∷ 0 ∷ 0 ∷ 0 ∷ 2 ∷ 0 ∷ 7 ∷ 0 ∷ [])) ∷ [], 2 ∷ [])
     -- L without its start record: 3
     ∷ (listRefusal (edges ++ accepts) ∷ [], 3 ∷ [])
     -- T without its split {0,2}, fed "abab": 14 at the third byte, after the pair (7, 2); with room 0 the pause comes first

@@ -1,4 +1,5 @@
 pub mod Calls
+pub mod Words
 pub mod Demands
 pub mod Made
 pub mod Examples

@@ -1,16 +1,18 @@
 -- A feed that gives no refusal consumes a front of its piece, and with room for all signatures at least a byte. Assumes nothing.
-use Prim.Native.Nat.{ℕ, zero, suc, _≤_, _<_}
+use Prim.Native.Nat.{ℕ, zero, suc, _+_, _*_, _-_, _/_, _≤_, _<_}
 use mathlib.Core.Path.{_≡_, refl, sym, ap, _∙_}
 use mathlib.Core.Bool.{Bool, true, false}
-use mathlib.Core.List.{List, [], _∷_}
+use mathlib.Core.List.{List, [], _∷_, _++_}
+use mathlib.Core.Logic.{_↔_}
 use native.Mathlib.Omega.{arith}
 use native.Mathlib.Decide.{ℕ-discrete}
-use lib.ListN.{length, take}
-use lib.Seq.{length-take-le}
+use lib.ListN.{length, getD, take, drop, length-append, length-drop}
+use lib.Seq.{length-take-le, getD-append-add, getD-drop}
 use borrow.Author.Tests.{eq-eqb, lt-ltb}
 use Rattle.sets.specs.Set.{signatures}
 use Rattle.rules.specs.Rules.{Rule, verdict}
-use Rattle.feeds.specs.Engine.{Engine, Layout, Outcome, room, run, consumed, ended, feed}
+use Rattle.rules.proofs.Scanning.{equal-words}
+use Rattle.feeds.specs.Engine.{Engine, Layout, Outcome, room, run, told, amount, consumed, ended, feed}
 use Rattle.feeds.proofs.Runs.{told-length, consumed-most, consumed-fits, moves}
 use Rattle.feeds.proofs.Going.{unfed}
 
@@ -59,6 +61,43 @@ module _ {C : Type 0} (E : Engine C) (K : Layout C) (R : List ℕ) where
               (omega (arith, consumed-fits E (K .config R) (room out) piece))
           | no n ↦ rw (unfed E K R piece out rules n) (omega arith)
         ]
+
+    -- the words from the pairs on stay, an odd last word too; there are as many; the pairs are whole
+    pub feed-rest : (i : ℕ) → 2 * feed rules E K R piece out .pairs ≤ i → getD (feed rules E K R piece out .words) i 0 ≡ getD out i 0
+    unfolding ended
+    feed-rest i l =
+        elim (ℕ-discrete (verdict rules) 0) [
+          | yes v ↦ rw (feed-ends v) (rest (told E (K .config R) (K .offset R) front) (told-length E (K .config R) (K .offset R) front) (rw (feed-ends v) at l))
+          | no n ↦ rw (unfed E K R piece out rules n)
+        ]
+      where
+        front : List ℕ
+        front = take (consumed E (K .config R) (room out) piece) piece
+
+        rest : (ws : List ℕ) → length ws ≡ 2 * amount E (K .config R) front → 2 * (length ws / 2) ≤ i → getD (ws ++ drop (length ws) out) i 0 ≡ getD out i 0
+        rest ws e h =
+            let d : length ws + (i - length ws) ≡ i = omega arith in
+            ap (λ (j : ℕ). getD (ws ++ drop (length ws) out) j 0) (sym d) ∙ getD-append-add ws (drop (length ws) out) (i - length ws) 0
+            ∙ getD-drop (length ws) out (i - length ws) 0 ∙ ap (λ (j : ℕ). getD out j 0) d
+
+    pub feed-length : length (feed rules E K R piece out .words) ≡ length out
+    unfolding ended
+    feed-length =
+        elim (ℕ-discrete (verdict rules) 0) [
+          | yes v ↦ rw (feed-ends v) (kept (told E (K .config R) (K .offset R) front) (told-length E (K .config R) (K .offset R) front) (consumed-fits E (K .config R) (room out) piece))
+          | no n ↦ rw (unfed E K R piece out rules n)
+        ]
+      where
+        front : List ℕ
+        front = take (consumed E (K .config R) (room out) piece) piece
+
+        kept : (ws : List ℕ) → length ws ≡ 2 * amount E (K .config R) front → amount E (K .config R) front ≤ room out → length (ws ++ drop (length ws) out) ≡ length out
+        kept ws e h = simp (length-append, length-drop) (omega arith)
+
+    -- all exactly when as many bytes are consumed as the piece has
+    pub feed-all : verdict rules ≡ 0 → feed rules E K R piece out .all ≡ true ↔ (feed rules E K R piece out .bytes ≡ length piece)
+    unfolding ended
+    feed-all v = rw (feed-ends v) (equal-words (length (take (consumed E (K .config R) (room out) piece) piece)) (length piece))
 
     -- where one does, the refusal is its number
     pub feed-refused : (verdict rules ≡ 0 → ⊥) → feed rules E K R piece out .refusal ≡ verdict rules

@@ -165,6 +165,21 @@ module _ {C : Type 0} (E : Engine C) where
       go false e true q l ih = inr (omega (arith, ltb-true room d q))
       go false e false q l ih = elim (ih (omega arith)) [ inl z ↦ inl z | inr z ↦ inr (omega (arith, z)) ]
 
+  -- before no byte that is consumed does the engine halt
+  pub consumed-free : (x : C) (room : ℕ) (xs : List ℕ) (j : ℕ) → j < consumed E x room xs → E .halts (run E x (take j xs)) ≡ false
+  unfolding consumed run
+  consumed-free x room [] j h = absurd (omega arith)
+  consumed-free x room (c ∷ xs) zero h = go (E .halts x) refl (ltb room (length (due E x c))) h
+    where
+      go : (t : Bool) → E .halts x ≡ t → (b : Bool) → zero < cond (t || b) 0 (suc (consumed E (E .next x c) (room - length (due E x c)) xs)) → E .halts x ≡ false
+      go true e b l = absurd (omega arith)
+      go false e b l = e
+  consumed-free x room (c ∷ xs) (suc j) h = consumed-free (E .next x c) (room - length (due E x c)) xs j (back (E .halts x || ltb room (length (due E x c))) h)
+    where
+      back : (b : Bool) → suc j < cond b 0 (suc (consumed E (E .next x c) (room - length (due E x c)) xs)) → j < consumed E (E .next x c) (room - length (due E x c)) xs
+      back true l = absurd (omega arith)
+      back false l = omega arith
+
   -- of what is consumed all is consumed
   pub consumed-again : (x : C) (room : ℕ) (xs : List ℕ) → consumed E x room (take (consumed E x room xs) xs) ≡ consumed E x room xs
   unfolding consumed

@@ -1,0 +1,205 @@
+-- Every rule of every entry point in words, and so each refusal: exactly when its words hold and those of no earlier row do. Assumes nothing.
+use Prim.Native.Nat.{ℕ, zero, suc, _+_, _*_, _≤_, _<_}
+use mathlib.Core.Path.{_≡_, refl, sym, ap, _∙_}
+use mathlib.Core.Bool.{Bool, true, false, cond, true≢false}
+use mathlib.Core.List.{List, [], _∷_, _++_}
+use mathlib.Core.Logic.{_⊎_, inl, inr, _↔_}
+use native.Mathlib.Omega.{arith}
+use native.Mathlib.Decide.{ℕ-discrete}
+use lib.ListN.{length, getD}
+use borrow.Author.Tests.{eqb-true}
+use Rattle.rules.specs.Scan.{rising}
+use Rattle.rules.specs.Rules.{Rule, verdict, applies}
+use Rattle.rules.proofs.Scanning.{choose, below-suc, rising-exactly}
+use Rattle.rules.proofs.Rules.{distinct, passes-exactly}
+use Rattle.lists.specs.List.{records, isStart, goodRecord, badLength, badRecord, noStart, listRules}
+use Rattle.lists.proofs.Listed.{Edge-bytes, Start-bytes, Accept-bytes, bad-length, bad-record, record-exactly, no-start, kind-start}
+use Rattle.flows.specs.Flow.{badFlow, otherStart, tooLong, wrongSize, flowRules, feedRules}
+use Rattle.flows.proofs.Refused.{wrong-size, bad-flow, other-start, too-long}
+use Rattle.plain.specs.Plain.{openRules}
+use Rattle.tables.specs.Table.{Table, partCount, splitCount, slots, usedSlots, takenSlots, goodSlots, inOrder, badSplits, badRows, badUnion, noStartSplit, notClosed, sizeRules, tableRules}
+use Rattle.tables.proofs.Accepted.{Slots-good}
+use Rattle.tables.proofs.Joined.{below-exactly}
+use Rattle.tables.proofs.Checked.{bad-bound, bad-classes, bad-rows-length, bad-lengths, bad-splits, bad-rows, bad-union, no-start-split, not-closed, slots-exactly, in-order-first, in-order-exactly}
+use Rattle.splits.specs.Split.{splitRules}
+use Rattle.demands.specs.Words.{Row, None, First, InWords, listWords, sizeRow, openWords, flowWords, feedWords, SlotsGood, Rises, sizeWords, entryWords, tableWords, splitWords}
+
+-- ---- a table of rules and a table of words
+
+-- row by row: the same number, and the test holds exactly when the words do
+abbrev Says : List Rule → List Row → Type 0
+Says [] [] = Unit {0}
+Says (r ∷ rs) (w ∷ ws) = (r .0 ≡ w .0) × ((r .1 ≡ true) ↔ w .1) × Says rs ws
+Says [] (w ∷ ws) = ⊥
+Says (r ∷ rs) [] = ⊥
+
+says-append : (rs qs : List Rule) (ws vs : List Row) → Says rs ws → Says qs vs → Says (rs ++ qs) (ws ++ vs)
+says-append [] qs [] vs s t = t
+says-append (r ∷ rs) qs (w ∷ ws) vs s t = (s .0, s .1, says-append rs qs ws vs (s .2) t)
+says-append [] qs (w ∷ ws) vs s t = absurd s
+says-append (r ∷ rs) qs [] vs s t = absurd s
+
+-- no test holds exactly when no words do
+says-none : (rs : List Rule) (ws : List Row) → Says rs ws → ((i : ℕ) → i < length rs → applies rs i ≡ false) ↔ None ws
+says-none [] [] s = (λ f. tt, λ n i h. absurd (omega arith))
+says-none (r ∷ rs) (w ∷ ws) s =
+    let ih = says-none rs ws (s .2) in (
+      λ f. (λ x. true≢false (sym (s .1 .1 x) ∙ f 0 (omega arith)), ih .0 (λ i h. f (suc i) (omega arith))),
+      λ n. at-each (r .1) refl n (ih .1 (n .1)),
+    )
+  where
+    at-each : (b : Bool) → r .1 ≡ b → (w .1 → ⊥) × None ws → ((i : ℕ) → i < length rs → applies rs i ≡ false) → (i : ℕ) → i < length (r ∷ rs) → applies (r ∷ rs) i ≡ false
+    at-each true e n f i h = absurd (n .0 (s .1 .0 e))
+    at-each false e n f zero h = e
+    at-each false e n f (suc i) h = f i (omega arith)
+says-none [] (w ∷ ws) s = absurd s
+says-none (r ∷ rs) [] s = absurd s
+
+-- a number is given exactly when it is that of the first row whose words hold
+says-first : (rs : List Rule) (ws : List Row) → Says rs ws → (n : ℕ) → (n ≡ 0 → ⊥) → (verdict rs ≡ n) ↔ First ws n
+unfolding verdict
+says-first [] [] s n z = (λ e. absurd (z (sym e)), λ x. absurd x)
+says-first (r ∷ rs) (w ∷ ws) s n z = go (r .1) refl (says-first rs ws (s .2) n z)
+  where
+    go : (b : Bool) → r .1 ≡ b → (verdict rs ≡ n) ↔ First ws n → (cond b (r .0) (verdict rs) ≡ n) ↔ (((w .0 ≡ n) × w .1) ⊎ ((w .1 → ⊥) × First ws n))
+    go true e ih = (λ q. inl (sym (s .0) ∙ q, s .1 .0 e), λ x. choose x (λ y. s .0 ∙ y .0) (λ y. absurd (y .0 (s .1 .0 e))))
+    go false e ih = (
+      λ q. inr (λ x. true≢false (sym (s .1 .1 x) ∙ e), ih .0 q),
+      λ x. choose x (λ y. absurd (true≢false (sym (s .1 .1 (y .1)) ∙ e))) (λ y. ih .1 (y .1)),
+    )
+says-first [] (w ∷ ws) s n z = absurd s
+says-first (r ∷ rs) [] s n z = absurd s
+
+tells : (rs : List Rule) (ws : List Row) → distinct rs ≡ true → Says rs ws → InWords ws (verdict rs)
+tells rs ws d s =
+    let p = passes-exactly rs d in
+    let n = says-none rs ws s in
+    record { passes = (λ e. n .0 (p .0 e), λ f. p .1 (n .1 f)); gives = says-first rs ws s }
+
+-- ---- the rows
+
+-- a test fails exactly when its words do
+fails : (A : Type 0) (b : Bool) → b ≡ true ↔ A → b ≡ false ↔ (A → ⊥)
+fails A true f = (λ e. absurd (true≢false e), λ n. absurd (n (f .0 refl)))
+fails A false f = (λ e x. true≢false (sym (f .1 x)), λ n. refl)
+
+via : {A B C : Type 0} → A ↔ B → B ↔ C → A ↔ C
+via f g = (λ a. g .0 (f .0 a), λ c. f .1 (g .1 c))
+
+same : {A : Type 0} → A ↔ A
+same = (λ x. x, λ x. x)
+
+sides : {A B C D : Type 0} → A ↔ B → C ↔ D → (A ⊎ C) ↔ (B ⊎ D)
+sides f g = (λ s. choose s (λ x. inl (f .0 x)) (λ y. inr (g .0 y)), λ s. choose s (λ x. inl (f .1 x)) (λ y. inr (g .1 y)))
+
+-- of each i below n
+some-of : (n : ℕ) (A B : ℕ → Type 0) → ((i : ℕ) → i < n → A i ↔ B i) → ((i : ℕ) × (i < n) × A i) ↔ ((i : ℕ) × (i < n) × B i)
+some-of n A B f = (λ w. (w .0, w .1, f (w .0) (w .1) .0 (w .2)), λ w. (w .0, w .1, f (w .0) (w .1) .1 (w .2)))
+
+module _ (L : List ℕ) where
+  Good : ℕ → Type 0
+  Good i = (Edge-bytes L i ⊎ Start-bytes L i) ⊎ Accept-bytes L i
+
+  list-says : Says (listRules L) (listWords L)
+  unfolding Good
+  list-says = (
+    refl,
+    bad-length L,
+    (
+      refl,
+      via (bad-record L) (some-of (records L) (λ i. goodRecord L i ≡ false) (λ i. Good i → ⊥) (λ i h. fails (Good i) (goodRecord L i) (record-exactly L i))),
+      (refl, via (no-start L) no-starts, tt),
+    ),
+  )
+    where
+      no-starts : ((i : ℕ) → i < records L → isStart L i ≡ false) ↔ ((i : ℕ) → i < records L → getD L (8 * i) 0 ≡ 2 → ⊥)
+      no-starts = (λ f i h e. true≢false (sym (kind-start L i .1 e) ∙ f i h), λ f i h. fails (getD L (8 * i) 0 ≡ 2) (isStart L i) (kind-start L i) .1 (f i h))
+
+  open-says : (R : List ℕ) → Says (openRules L R) (openWords L R)
+  open-says R = says-append (listRules L) ((4, wrongSize R) ∷ []) (listWords L) (sizeRow R) list-says (refl, wrong-size R, tt)
+
+  feed-says : (R : List ℕ) (at : ℕ) (piece : List ℕ) → Says (feedRules L R at piece) (feedWords L R at piece)
+  feed-says R at piece = says-append (listRules L) (flowRules R at piece) (listWords L) (flowWords R at piece) list-says (refl, bad-flow R, (refl, other-start R at, (refl, too-long R piece, tt)))
+
+-- the slots of a split in words
+slots-words : (n b : ℕ) (ss : List ℕ) → Slots-good n b ss ↔ SlotsGood n b ss
+slots-words n b ss = (there, back)
+  where
+    there : Slots-good n b ss → SlotsGood n b ss
+    there g = record { named = below-exactly n (usedSlots ss) .0 (g .named); taken = sym (g .taken); rise = λ i h. rising-exactly (usedSlots ss) .0 (g .rise) i (suc i) (omega arith) h; few = g .few }
+
+    up : (xs : List ℕ) → ((i : ℕ) → suc i < length xs → getD xs i 0 < getD xs (suc i) 0) → (i j : ℕ) → i < j → j < length xs → getD xs i 0 < getD xs j 0
+    up xs f i zero l h = absurd (omega arith)
+    up xs f i (suc j) l h = elim (ℕ-discrete i j) [ yes e ↦ rw e (f j h) | no n ↦ omega (arith, f j h, up xs f i j (below i j l n) (omega arith)) ]
+      where
+        below : (i j : ℕ) → i < suc j → (i ≡ j → ⊥) → i < j
+        below i j l n = choose (below-suc i j l) (λ m. m) (λ e. absurd (n e))
+
+    back : SlotsGood n b ss → Slots-good n b ss
+    back g = record { named = below-exactly n (usedSlots ss) .1 (g .named); taken = sym (g .taken); rise = rising-exactly (usedSlots ss) .1 (up (usedSlots ss) (g .rise)); few = g .few }
+
+module _ (b : ℕ) (T : Table) where
+  size-says : Says (sizeRules b T) (sizeWords b T)
+  size-says = (refl, bad-bound b, (refl, via (bad-lengths T) (sides (sides (sides (bad-classes (T .classes)) same) same) (bad-rows-length T)), tt))
+
+  -- some split's slots are not good, or it does not come after the one before
+  splits-words : badSplits b T ≡ true
+      ↔ (((i : ℕ) × (i < splitCount (T .splits)) × (SlotsGood (partCount (T .parts)) b (slots (T .splits) i) → ⊥))
+      ⊎ ((i : ℕ) × (suc i < splitCount (T .splits)) × (Rises (T .splits) i → ⊥)))
+  splits-words = via (bad-splits b T) (there, back)
+    where
+      S : List ℕ
+      S = T .splits
+
+      n : ℕ
+      n = partCount (T .parts)
+
+      slots-fail : (i : ℕ) → goodSlots (partCount (T .parts)) b (slots (T .splits) i) ≡ false ↔ (SlotsGood (partCount (T .parts)) b (slots (T .splits) i) → ⊥)
+      slots-fail i = fails (SlotsGood (partCount (T .parts)) b (slots (T .splits) i)) (goodSlots (partCount (T .parts)) b (slots (T .splits) i)) (via (slots-exactly (partCount (T .parts)) b (slots (T .splits) i)) (slots-words (partCount (T .parts)) b (slots (T .splits) i)))
+
+      order-fails : (i : ℕ) → suc i < splitCount (T .splits) → inOrder (T .splits) (suc i) ≡ false ↔ (Rises (T .splits) i → ⊥)
+      order-fails i h = fails (Rises (T .splits) i) (inOrder (T .splits) (suc i)) (in-order-exactly (T .splits) i h)
+
+      Bad : Type 0
+      Bad =
+          ((i : ℕ) × (i < splitCount (T .splits)) × (SlotsGood (partCount (T .parts)) b (slots (T .splits) i) → ⊥))
+          ⊎ ((i : ℕ) × (suc i < splitCount (T .splits)) × (Rises (T .splits) i → ⊥))
+
+      later : (i : ℕ) → i < splitCount (T .splits) → inOrder (T .splits) i ≡ false → Bad
+      later zero h e = absurd (true≢false (sym (in-order-first (T .splits)) ∙ e))
+      later (suc i) h e = inr (i, h, order-fails i h .0 e)
+
+      there : (i : ℕ) × (i < splitCount (T .splits)) × ((goodSlots (partCount (T .parts)) b (slots (T .splits) i) ≡ false) ⊎ (inOrder (T .splits) i ≡ false)) → Bad
+      there w = choose (w .2) (λ e. inl (w .0, w .1, slots-fail (w .0) .0 e)) (λ e. later (w .0) (w .1) e)
+
+      back : Bad → (i : ℕ) × (i < splitCount (T .splits)) × ((goodSlots (partCount (T .parts)) b (slots (T .splits) i) ≡ false) ⊎ (inOrder (T .splits) i ≡ false))
+      back s = choose s (λ w. (w .0, w .1, inl (slots-fail (w .0) .1 (w .2)))) (λ w. (suc (w .0), w .1, inr (order-fails (w .0) (w .1) .1 (w .2))))
+
+  table-says : (L : List ℕ) → Says (tableRules L b T) (tableWords L b T)
+  table-says L =
+      says-append (listRules L) (sizeRules b T ++ entries) (listWords L) (sizeWords b T ++ entryWords L b T) (list-says L)
+      (says-append (sizeRules b T) entries (sizeWords b T) (entryWords L b T) size-says
+      (refl, splits-words, (refl, bad-rows L T, (refl, bad-union L T, (refl, no-start-split L T, (refl, not-closed L T, tt))))))
+    where
+      entries : List Rule
+      entries = (9, badSplits b T) ∷ (10, badRows L T) ∷ (11, badUnion T) ∷ (12, noStartSplit L T) ∷ (13, notClosed L T) ∷ []
+
+  split-says : (L R : List ℕ) (at : ℕ) (piece : List ℕ) → Says (splitRules L b T R at piece) (splitWords L b T R at piece)
+  split-says L R at piece = says-append (feedRules L R at piece) (sizeRules b T) (feedWords L R at piece) (sizeWords b T) (feed-says L R at piece) size-says
+
+-- ---- each entry point
+
+pub list-tells : (L : List ℕ) → InWords (listWords L) (verdict (listRules L))
+list-tells L = tells (listRules L) (listWords L) refl (list-says L)
+
+pub open-tells : (L R : List ℕ) → InWords (openWords L R) (verdict (openRules L R))
+open-tells L R = tells (openRules L R) (openWords L R) refl (open-says L R)
+
+pub feed-tells : (L R : List ℕ) (at : ℕ) (piece : List ℕ) → InWords (feedWords L R at piece) (verdict (feedRules L R at piece))
+feed-tells L R at piece = tells (feedRules L R at piece) (feedWords L R at piece) refl (feed-says L R at piece)
+
+pub table-tells : (L : List ℕ) (b : ℕ) (T : Table) → InWords (tableWords L b T) (verdict (tableRules L b T))
+table-tells L b T = tells (tableRules L b T) (tableWords L b T) refl (table-says b T L)
+
+pub split-tells : (L : List ℕ) (b : ℕ) (T : Table) (R : List ℕ) (at : ℕ) (piece : List ℕ) → InWords (splitWords L b T R at piece) (verdict (splitRules L b T R at piece))
+split-tells L b T R at piece = tells (splitRules L b T R at piece) (splitWords L b T R at piece) refl (split-says b T L R at piece)

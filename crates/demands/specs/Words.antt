@@ -1,0 +1,120 @@
+-- The table of refusals in words: for each entry point its numbers in their order, and what each is given for, said of bytes, places and sets.
+use Prim.Native.Nat.{ℕ, suc, _+_, _*_, _%_, _≤_, _<_}
+use mathlib.Core.Path.{_≡_}
+use mathlib.Core.List.{List, [], _∷_, _++_}
+use mathlib.Core.Logic.{_⊎_, _↔_}
+use lib.ListN.{length, getD}
+use Rattle.sets.specs.Set.{states, signatures, setSize}
+use Rattle.lists.specs.List.{recordSize, mostRecords, records}
+use Rattle.lists.specs.Automaton.{start, step}
+use Rattle.lists.proofs.Listed.{Edge-bytes, Start-bytes, Accept-bytes}
+use Rattle.sets.proofs.Order.{Smaller}
+use Rattle.feeds.specs.Engine.{mostOffset}
+use Rattle.flows.specs.Flow.{flowSize, offsetOf, reservedOf, rowsOf}
+use Rattle.tables.specs.Table.{Table, byteValues, mostClass, mostParts, mostSplits, mostBound, splitSize, classCount, partCount, splitCount}
+use Rattle.tables.specs.Table.{part, row, splitSet, slots, usedSlots, takenSlots, joined}
+use Rattle.splits.specs.Split.{taken}
+
+-- a row: a number, and what it is given for
+abbrev pub Row : Type 1
+Row = ℕ × Type 0
+
+-- what no row is given for
+abbrev pub None : List Row → Type 0
+None [] = Unit {0}
+None (w ∷ ws) = (w .1 → ⊥) × None ws
+
+-- n is the number of the first row that is given
+abbrev pub First : List Row → ℕ → Type 0
+First [] n = ⊥
+First (w ∷ ws) n = ((w .0 ≡ n) × w .1) ⊎ ((w .1 → ⊥) × First ws n)
+
+-- a refusal is 0 exactly when no row is given, and n exactly when n is the number of the first that is
+pub record InWords (ws : List Row) (refusal : ℕ) : Type 0 where
+  pub passes : (refusal ≡ 0) ↔ None ws
+  pub gives : (n : ℕ) → (n ≡ 0 → ⊥) → (refusal ≡ n) ↔ First ws n
+
+-- ---- list: 1 to 3
+
+abbrev pub listWords : List ℕ → List Row
+listWords L =
+    (1, ((length L ≡ 0) ⊎ (recordSize * mostRecords < length L)) ⊎ (length L % recordSize ≡ 0 → ⊥))
+    ∷ (2, (i : ℕ) × (i < records L) × ((Edge-bytes L i ⊎ Start-bytes L i) ⊎ Accept-bytes L i → ⊥))
+    ∷ (3, (i : ℕ) → i < records L → getD L (8 * i) 0 ≡ 2 → ⊥)
+    ∷ []
+
+-- ---- opening: 1 to 4; the feeds: 1 to 6
+
+abbrev pub sizeRow : List ℕ → List Row
+sizeRow R = (4, length R ≡ flowSize → ⊥) ∷ []
+
+abbrev pub openWords : List ℕ → List ℕ → List Row
+openWords L R = listWords L ++ sizeRow R
+
+abbrev pub flowWords : List ℕ → ℕ → List ℕ → List Row
+flowWords R k piece =
+    (4, ((length R ≡ flowSize → ⊥) ⊎ (reservedOf R ≡ 0 → ⊥)) ⊎ (states * offsetOf R < rowsOf R))
+    ∷ (5, k ≡ offsetOf R → ⊥)
+    ∷ (6, mostOffset < offsetOf R + length piece)
+    ∷ []
+
+abbrev pub feedWords : List ℕ → List ℕ → ℕ → List ℕ → List Row
+feedWords L R k piece = listWords L ++ flowWords R k piece
+
+-- ---- the table: 7 to 13
+
+-- a list of entries is empty, has more than the most, or a broken one
+abbrev pub Miscounted : ℕ → ℕ → List ℕ → Type 0
+Miscounted entry most xs = ((length xs ≡ 0) ⊎ (entry * most < length xs)) ⊎ (length xs % entry ≡ 0 → ⊥)
+
+-- the slots of a split: those in use name parts, stand before the unused ones, rise strictly, and are at most b
+pub record SlotsGood (n b : ℕ) (ss : List ℕ) : Type 0 where
+  pub named : (i : ℕ) → i < length (usedSlots ss) → getD (usedSlots ss) i 0 < n
+  pub taken : usedSlots ss ≡ takenSlots ss
+  pub rise : (i : ℕ) → suc i < length (usedSlots ss) → getD (usedSlots ss) i 0 < getD (usedSlots ss) (suc i) 0
+  pub few : length (usedSlots ss) ≤ b
+
+-- the set of split i comes before the next as a byte string: it has the smaller byte at the first place where the two differ
+abbrev pub Rises : List ℕ → ℕ → Type 0
+Rises S i = Smaller setSize (λ j. getD S (splitSize * i + j) 0) (λ j. getD S (splitSize * suc i + j) 0)
+
+-- F is the set of no split
+abbrev pub NoSplit : List ℕ → ℕ → Type 0
+NoSplit S F = (j : ℕ) → j < splitCount S → splitSet S j ≡ F → ⊥
+
+abbrev pub sizeWords : ℕ → Table → List Row
+sizeWords b T =
+    (7, (b ≡ 0) ⊎ (mostBound < b))
+    ∷ (
+      8,
+      ((((length (T .classes) ≡ byteValues → ⊥) ⊎ ((i : ℕ) × (i < length (T .classes)) × (mostClass < getD (T .classes) i 0))) ⊎ Miscounted setSize mostParts (T .parts))
+          ⊎ Miscounted splitSize mostSplits (T .splits))
+          ⊎ (length (T .rows) ≡ setSize * (partCount (T .parts) * classCount (T .classes)) → ⊥),
+    )
+    ∷ []
+
+abbrev pub entryWords : List ℕ → ℕ → Table → List Row
+entryWords L b T = (
+  9,
+  ((i : ℕ) × (i < splitCount (T .splits)) × (SlotsGood (partCount (T .parts)) b (slots (T .splits) i) → ⊥))
+      ⊎ ((i : ℕ) × (suc i < splitCount (T .splits)) × (Rises (T .splits) i → ⊥)),
+)
+    ∷ (10, (p : ℕ) × (p < partCount (T .parts)) × ((c : ℕ) × (c < byteValues) × (row (T .classes) (T .rows) p c ≡ step L (part (T .parts) p) c → ⊥)))
+    ∷ (11, (i : ℕ) × (i < splitCount (T .splits)) × (splitSet (T .splits) i ≡ joined (part (T .parts)) (usedSlots (slots (T .splits) i)) → ⊥))
+    ∷ (12, NoSplit (T .splits) (start L))
+    ∷ (13, (i : ℕ) × (i < splitCount (T .splits)) × ((c : ℕ) × (c < byteValues) × NoSplit (T .splits) (step L (splitSet (T .splits) i) c)))
+    ∷ []
+
+abbrev pub tableWords : List ℕ → ℕ → Table → List Row
+tableWords L b T = listWords L ++ (sizeWords b T ++ entryWords L b T)
+
+-- ---- the split feed: 1 to 8; and 14 at a frontier
+
+abbrev pub splitWords : List ℕ → ℕ → Table → List ℕ → ℕ → List ℕ → List Row
+splitWords L b T R k piece = feedWords L R k piece ++ sizeWords b T
+
+-- no split has the set F, or a slot taken names no part, or more than b are taken
+abbrev pub Stuck : ℕ → Table → ℕ → Type 0
+Stuck b T F =
+    (NoSplit (T .splits) F ⊎ ((i : ℕ) × (i < length (taken T F)) × (partCount (T .parts) ≤ getD (taken T F) i 0)))
+    ⊎ (b < length (taken T F))
