@@ -7,3 +7,4 @@ pub mod Cuts
 pub mod Instance
 pub mod Saying
 pub mod Made
+pub mod Driving

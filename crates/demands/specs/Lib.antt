@@ -2,4 +2,5 @@ pub mod Calls
 pub mod Words
 pub mod Demands
 pub mod Made
+pub mod Drivers
 pub mod Examples
