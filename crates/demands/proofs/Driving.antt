@@ -1,32 +1,38 @@
 -- From the promises of the functions that a driver calls to the demand that it promises. Assumes nothing.
-use Prim.Native.Nat.{ℕ, _*_}
+use Prim.Native.Nat.{ℕ, zero, _*_, _<_}
 use mathlib.Core.Path.{_≡_, refl, sym, ap, _∙_}
-use mathlib.Core.Bool.{Bool, true, cond, _&&_, true≢false}
-use native.Mathlib.Decide.{ℕ-discrete}
-use mathlib.Core.List.{List, [], _∷_, _++_}
+use mathlib.Core.Bool.{Bool, true, false, _&&_, not, cond, true≢false}
+use mathlib.Core.List.{List, [], _∷_, _++_, append-nil}
 use mathlib.Core.Logic.{_↔_}
 use native.Mathlib.Omega.{arith}
+use native.Mathlib.Decide.{ℕ-discrete}
 use lib.ListN.{length, take}
+use lib.Seq.{length-take-le}
 use lib.Dec.{ltb, eqb}
-use borrow.Author.Tests.{eq-eqb, eqb-true, le-ltb}
+use borrow.Author.Tests.{eq-eqb, eqb-true, le-ltb, ne-eqb}
 use Rattle.rules.specs.Rules.{verdict}
-use Rattle.lists.specs.List.{listRefusal}
+use Rattle.rules.proofs.Rules.{verdict-then, passes-front, skip, stop}
+use Rattle.lists.specs.List.{listRefusal, listRules}
 use Rattle.feeds.specs.Engine.{Outcome, ended}
 use Rattle.feeds.specs.Calls.{Bytes}
 use Rattle.feeds.specs.Fed.{Answers}
-use Rattle.feeds.specs.declared.Fed.{Fed}
 use Rattle.feeds.proofs.Going.{unfed}
-use Rattle.feeds.proofs.Moves.{feed-ends}
-use Rattle.flows.specs.Flow.{flowLayout}
-use Rattle.plain.specs.Plain.{opened, openRefusal, openSaved}
+use Rattle.feeds.proofs.Moves.{feed-ends, no-refusal}
+use Rattle.flows.specs.Flow.{flowLayout, offsetOf, badFlow, otherStart, tooLong, flowRules, feedRules}
+use Rattle.plain.specs.Plain.{plain, opened, openRefusal, plainFeed}
 use Rattle.plain.specs.Opens.{Opens}
+use Rattle.plain.proofs.Plain.{plain-refusal}
 use Rattle.tables.specs.Table.{Table, tableRefusal}
 use Rattle.splits.specs.Split.{splitFeed}
-use Rattle.demands.specs.Calls.{Via, byTable, Call, asked, outcome}
-use Rattle.demands.specs.Demands.{InBytes, Each, Through, bytesOf, wordsOf}
+use Rattle.demands.specs.Calls.{Via, byList, byTable, Call, asked, outcome}
+use Rattle.demands.specs.Demands.{Unchanged, InBytes, Each, Plainly, Through, bytesOf, wordsOf}
 use Rattle.demands.specs.Made.{Made, Promised, callsOf, toldBy, eatenBy, leftBy}
-use Rattle.demands.specs.Drivers.{Seen, sight, callOf, wordsSeen, bytesSeen, EachSeen, Answered, SaysAll, SplitKept, SplitDriven}
-use Rattle.demands.proofs.Demand3.{demand-3}
+use Rattle.demands.specs.Drivers.{Seen, callOf, wordsSeen, bytesSeen, EachSeen, EachOn, Answered, SaysAll, Untouched}
+use Rattle.demands.specs.Drivers.{OpenKept, FeedKept, SplitFeedKept, PlainKept, PlainDriven, SplitKept, SplitDriven}
+use Rattle.demands.proofs.Engines.{call-passes}
+use Rattle.demands.proofs.Demand1.{demand-1}
+use Rattle.demands.proofs.Demand2.{demand-2, one-call}
+use Rattle.demands.proofs.Demand3.{opened-frontier, opened-offset, demand-3}
 use Rattle.demands.proofs.Made.{as-defined}
 
 -- ---- feeds seen as calls made, each with the record that it leaves
@@ -97,14 +103,129 @@ all-said L via R (k ∷ ks) h = (rw (h .0 .all, h .0 .refusal, h .0 .bytes) (out
 opens-0 : (L R : List ℕ) (n : ℕ) (Q : List ℕ) → Opens L R n Q → n ≡ 0 → Q ≡ opened L
 opens-0 L R n Q o z = o .saved ∙ rw (eq-eqb (openRefusal L R) 0 (sym (o .refusal) ∙ z))
 
+-- ---- demand 1
+
+pub open-kept : (L R : List ℕ) (n : ℕ) (Q : List ℕ) → Opens L R n Q → OpenKept L R n Q
+open-kept L R n Q o =
+    record {
+      refuses = rw (o .refusal) (demand-1 .opens L R);
+      unchanged = λ v. o .saved ∙ demand-1 .opens-not L R (λ z. v (o .refusal ∙ z));
+      opens = opens-0 L R n Q o;
+    }
+
+untouched : (R : List ℕ) (s : Seen) (Q : List ℕ) (o : Outcome) → Answers o (s .fed) (s .words) Q → Unchanged R (s .out) o → Untouched R s Q
+untouched R s Q o a u =
+    record { bytes = a .bytes ∙ u .bytes; pairs = a .pairs ∙ u .pairs; all = a .all ∙ u .all; words = a .words ∙ u .words; saved = a .saved ∙ u .saved }
+
+pub feed-kept : (L R : List ℕ) (s : Seen) (Q : List ℕ) → Answers (plainFeed L R (s .at) (s .piece) (s .out)) (s .fed) (s .words) Q → FeedKept L R s Q
+feed-kept L R s Q a =
+    record {
+      refuses = rw (a .refusal) (demand-1 .feeds L R (s .at) (s .piece) (s .out));
+      unchanged = λ v. untouched R s Q _ a (demand-1 .feeds-not L R (s .at) (s .piece) (s .out) (λ z. v (a .refusal ∙ z)));
+      says-all = rw (a .all, a .refusal, a .bytes) (outcome-all R (callOf L byList s));
+      longest =
+          λ z. rw (a .bytes)
+          (one-call .longest R (callOf L byList s) (no-refusal (plain L) flowLayout R (feedRules L R (s .at) (s .piece)) (s .piece) (s .out) (sym (a .refusal) ∙ z)));
+    }
+
+pub split-feed-kept : (L : List ℕ) (b : ℕ) (T : Table) (R : List ℕ) (s : Seen) (Q : List ℕ)
+    → Answers (splitFeed L b T R (s .at) (s .piece) (s .out)) (s .fed) (s .words) Q → SplitFeedKept L b T R s Q
+split-feed-kept L b T R s Q a =
+    record {
+      refuses = rw (a .refusal) (demand-1 .splits L b T R (s .at) (s .piece) (s .out));
+      unchanged =
+          λ v w. untouched R s Q _ a (demand-1 .splits-not L b T R (s .at) (s .piece) (s .out) (λ z. v (a .refusal ∙ z)) (λ z. w (a .refusal ∙ z)));
+      passes = rw (a .refusal, a .bytes) (demand-1 .splits-passes L b T R (s .at) (s .piece) (s .out));
+      halts = rw (a .refusal, a .bytes) (demand-1 .halts L b T R (s .at) (s .piece) (s .out));
+      halts-kept =
+          λ z. let k = demand-1 .halts-kept L b T R (s .at) (s .piece) (s .out) (sym (a .refusal) ∙ z) in
+          rw (a .bytes) (a .pairs ∙ k .pairs, a .words ∙ k .words, a .saved ∙ k .saved);
+      says-all = rw (a .all, a .refusal, a .bytes) (outcome-all R (callOf L (byTable b T) s));
+      longest = λ v. rw (a .bytes) (one-call .longest R (callOf L (byTable b T) s) v);
+    }
+
+-- ---- demand 2
+
+each-on : (L : List ℕ) (via : Via) (P : List ℕ → Seen → List ℕ → Type 0)
+    → ((R : List ℕ) (s : Seen) (Q : List ℕ) → Answers (outcome R (callOf L via s)) (s .fed) (s .words) Q → P R s Q)
+    → (R : List ℕ) (ss : List Seen) (Q : List ℕ) → Answered L via R ss Q → EachOn L via P R ss
+each-on L via P f R [] Q h = tt
+each-on L via P f R (s ∷ ss) Q h = (f R s _ (h .0), each-on L via P f _ ss Q (h .1))
+
+plainly-all : (L R : List ℕ) (ks : List Kept) → Each (Plainly L) R (callsOf (made L byList ks))
+plainly-all L R [] = tt
+plainly-all L R (k ∷ ks) = (λ v. (refl, refl), plainly-all L _ ks)
+
+plain-kept : (L R : List ℕ) (ks : List Kept) → Bytes R → InBytes (callsOf (made L byList ks)) → Promised R (made L byList ks)
+    → PlainKept L R (seen ks) (leftBy R (made L byList ks))
+plain-kept L R ks hR hb hp =
+    let ms = made L byList ks in
+    let d = demand-2 L R (callsOf ms) hR hb (plainly-all L R ks) in
+    let a = as-defined R ms hp in
+    let w : wordsSeen (seen ks) ≡ wordsOf R (callsOf ms) = words-seen L byList ks ∙ a .words in
+    let e : bytesSeen (seen ks) ≡ bytesOf R (callsOf ms) = bytes-seen L byList ks ∙ a .bytes in
+    record {
+      each = each-on L byList (FeedKept L) (feed-kept L) R (seen ks) (leftBy R ms) (all-answered L byList R ks hp);
+      tells = rw (w, e) (d .tells);
+      due = rw (w, e) (d .due);
+      ordered = rw w (d .ordered);
+      frontier = rw (a .left, e) (d .frontier);
+      offset = rw (a .left, e) (d .offset);
+      rows = rw (a .left, e) (d .rows);
+    }
+
+-- a piece sent again, of which a byte was consumed, is refused with 5
+resent-5 : (L R : List ℕ) (s : Seen) (Q out : List ℕ) → Bytes R → Bytes (s .piece)
+    → Answers (plainFeed L R (s .at) (s .piece) (s .out)) (s .fed) (s .words) Q
+    → s .fed .refusal ≡ 0 → zero < s .fed .bytes → plainFeed L Q (s .at) (s .piece) out .refusal ≡ 5
+unfolding leftBy
+resent-5 L R s Q out hR hb a z l =
+    let v = no-refusal (plain L) flowLayout R (feedRules L R (s .at) (s .piece)) (s .piece) (s .out) (sym (a .refusal) ∙ z) in
+    let p = call-passes R (callOf L byList s) v in
+    let good : badFlow Q ≡ false = rw (a .saved) (one-call .never-4 R (callOf L byList s) hb (p .0)) in
+    let front = length-take-le (s .fed .bytes) (s .piece) (feed-kept L R s Q a .longest z .front) in
+    let on = plain-kept L R ((s, Q) ∷ []) hR (hb, tt) (a, tt) .offset in
+    let other : otherStart Q (s .at) ≡ true =
+    ap not (ne-eqb (s .at) (offsetOf Q) (λ e. omega (arith, l, p .1, e, front, rw (append-nil (take (s .fed .bytes) (s .piece))) at on))) in
+    plain-refusal L Q (s .at) (s .piece) out
+    ∙ verdict-then (listRules L) (flowRules Q (s .at) (s .piece)) refl (passes-front (listRules L) (flowRules R (s .at) (s .piece)) v)
+    ∙ skip 4 ((5, otherStart Q (s .at)) ∷ (6, tooLong Q (s .piece)) ∷ []) good
+    ∙ stop 5 ((6, tooLong Q (s .piece)) ∷ []) other
+
+-- four feeds, from the promises of the six calls
+pub plain-driven : (L R : List ℕ) (l n : ℕ) (S : List ℕ) (s₁ : Seen) (S₁ : List ℕ) (s₂ : Seen) (S₂ : List ℕ) (s₃ : Seen) (S₃ : List ℕ) (s₄ : Seen) (S₄ : List ℕ)
+    → l ≡ listRefusal L → Opens L R n S → s₂ .at ≡ s₁ .at → s₂ .piece ≡ s₁ .piece
+    → Answers (plainFeed L S (s₁ .at) (s₁ .piece) (s₁ .out)) (s₁ .fed) (s₁ .words) S₁
+    → Answers (plainFeed L S₁ (s₂ .at) (s₂ .piece) (s₂ .out)) (s₂ .fed) (s₂ .words) S₂
+    → Answers (plainFeed L S₂ (s₃ .at) (s₃ .piece) (s₃ .out)) (s₃ .fed) (s₃ .words) S₃
+    → Answers (plainFeed L S₃ (s₄ .at) (s₄ .piece) (s₄ .out)) (s₄ .fed) (s₄ .words) S₄
+    → Bytes S → Bytes (s₁ .piece) → Bytes (s₃ .piece) → Bytes (s₄ .piece)
+    → PlainDriven L R l n s₁ s₂ (s₃ ∷ s₄ ∷ []) S₄
+unfolding leftBy
+plain-driven L R l n S s₁ S₁ s₂ S₂ s₃ S₃ s₄ S₄ lists opens same-at same-piece a₁ a₂ a₃ a₄ hS h₁ h₃ h₄ =
+    let ks : List Kept = (s₁, S₁) ∷ (s₂, S₂) ∷ (s₃, S₃) ∷ (s₄, S₄) ∷ [] in
+    let made-so : Promised S (made L byList ks) = (a₁, (a₂, (a₃, (a₄, tt)))) in
+    let kept = plain-kept L S ks hS (h₁, (rw same-piece h₁, (h₃, (h₄, tt)))) made-so in
+    record {
+      lists = lists;
+      opens = opens .refusal;
+      answered = rw (← opens .saved) (all-answered L byList S ks made-so);
+      kept = rw (← opens .saved) kept;
+      tells = λ z. rw (opens-0 L R n S opens z, opened-frontier L, opened-offset L) at (kept .tells);
+      resent = λ z b. a₂ .refusal ∙ rw (same-at, same-piece) (resent-5 L S s₁ S₁ (s₂ .out) hS h₁ a₁ z b);
+    }
+
 -- ---- demand 3
 
+through-all : (L : List ℕ) (b : ℕ) (T : Table) (R : List ℕ) (ks : List Kept) → Each (Through L b T) R (callsOf (made L (byTable b T) ks))
+through-all L b T R [] = tt
+through-all L b T R (k ∷ ks) = (λ v. (refl, refl), through-all L b T _ ks)
+
 split-kept : (L : List ℕ) (b : ℕ) (T : Table) → tableRefusal L b T ≡ 0 → (ks : List Kept) → InBytes (callsOf (made L (byTable b T) ks))
-    → Each (Through L b T) (opened L) (callsOf (made L (byTable b T) ks)) → Promised (opened L) (made L (byTable b T) ks)
-    → SplitKept L b T (seen ks) (leftBy (opened L) (made L (byTable b T) ks))
-split-kept L b T ok ks hb ht hp =
+    → Promised (opened L) (made L (byTable b T) ks) → SplitKept L b T (seen ks) (leftBy (opened L) (made L (byTable b T) ks))
+split-kept L b T ok ks hb hp =
     let ms = made L (byTable b T) ks in
-    let d = demand-3 L b T ok (callsOf ms) hb ht in
+    let d = demand-3 L b T ok (callsOf ms) hb (through-all L b T (opened L) ks) in
     let a = as-defined (opened L) ms hp in
     let w : wordsSeen (seen ks) ≡ wordsOf (opened L) (callsOf ms) = words-seen L (byTable b T) ks ∙ a .words in
     let e : bytesSeen (seen ks) ≡ bytesOf (opened L) (callsOf ms) = bytes-seen L (byTable b T) ks ∙ a .bytes in
@@ -121,22 +242,19 @@ split-kept L b T ok ks hb ht hp =
     }
 
 -- two feeds, from the promises of the five calls
-pub split-driven : (L : List ℕ) (b : ℕ) (T : Table) (R : List ℕ) (l n m : ℕ) (S : List ℕ)
-    (at₁ : ℕ) (p₁ o₁ : List ℕ) (f₁ : Fed) (w₁ S₁ : List ℕ)
-    (at₂ : ℕ) (p₂ o₂ : List ℕ) (f₂ : Fed) (w₂ S₂ : List ℕ)
+pub split-driven : (L : List ℕ) (b : ℕ) (T : Table) (R : List ℕ) (l n m : ℕ) (S : List ℕ) (s₁ : Seen) (S₁ : List ℕ) (s₂ : Seen) (S₂ : List ℕ)
     → l ≡ listRefusal L → n ≡ tableRefusal L b T → Opens L R m S
-    → Answers (splitFeed L b T S at₁ p₁ o₁) f₁ w₁ S₁ → Answers (splitFeed L b T S₁ at₂ p₂ o₂) f₂ w₂ S₂
-    → Bytes p₁ → Bytes p₂
-    → SplitDriven L b T R l n m (sight at₁ p₁ o₁ f₁ w₁ ∷ sight at₂ p₂ o₂ f₂ w₂ ∷ []) S₂
+    → Answers (splitFeed L b T S (s₁ .at) (s₁ .piece) (s₁ .out)) (s₁ .fed) (s₁ .words) S₁
+    → Answers (splitFeed L b T S₁ (s₂ .at) (s₂ .piece) (s₂ .out)) (s₂ .fed) (s₂ .words) S₂
+    → Bytes (s₁ .piece) → Bytes (s₂ .piece)
+    → SplitDriven L b T R l n m (s₁ ∷ s₂ ∷ []) S₂
 unfolding leftBy
-split-driven L b T R l n m S at₁ p₁ o₁ f₁ w₁ S₁ at₂ p₂ o₂ f₂ w₂ S₂ lists check opens a₁ a₂ h₁ h₂ =
-    let ks : List Kept = (sight at₁ p₁ o₁ f₁ w₁, S₁) ∷ (sight at₂ p₂ o₂ f₂ w₂, S₂) ∷ [] in
+split-driven L b T R l n m S s₁ S₁ s₂ S₂ lists check opens a₁ a₂ h₁ h₂ =
+    let ks : List Kept = (s₁, S₁) ∷ (s₂, S₂) ∷ [] in
     record {
       lists = lists;
       tables = check;
       opens = opens .refusal;
       answered = rw (← opens .saved) (all-answered L (byTable b T) S ks (a₁, (a₂, tt)));
-      kept =
-          λ z y. split-kept L b T (sym check ∙ z) ks (h₁, (h₂, tt)) ((λ v. (refl, refl)), ((λ v. (refl, refl)), tt))
-          (rw (opens-0 L R m S opens y) at a₁, (a₂, tt));
+      kept = λ z y. split-kept L b T (sym check ∙ z) ks (h₁, (h₂, tt)) (rw (opens-0 L R m S opens y) at a₁, (a₂, tt));
     }

@@ -1,20 +1,24 @@
 -- What the drivers promise: the demands said of the numbers that the code answered and the buffers that it left.
-use Prim.Native.Nat.{ℕ, _*_, _≤_}
-use mathlib.Core.Bool.{true}
+use Prim.Native.Nat.{ℕ, zero, suc, _+_, _*_, _≤_, _<_}
+use mathlib.Core.Bool.{Bool, true, false}
 use mathlib.Core.List.{List, [], _∷_, _++_}
 use mathlib.Core.Logic.{_↔_}
 use mathlib.Core.Path.{_≡_}
 use lib.ListN.{length, take}
+use Rattle.sets.specs.Set.{holds}
+use Rattle.rules.specs.Rules.{verdict, number, Given, Refuses}
 use Rattle.lists.specs.List.{listRefusal}
-use Rattle.lists.specs.Automaton.{start}
-use Rattle.feeds.specs.Engine.{run, costs}
+use Rattle.lists.specs.Automaton.{start, accepted}
+use Rattle.feeds.specs.Pairs.{Pair, Before}
+use Rattle.feeds.specs.Engine.{run, costs, told, room}
 use Rattle.feeds.specs.Fed.{Answers}
 use Rattle.feeds.specs.declared.Fed.{Fed}
-use Rattle.flows.specs.Flow.{frontierOf, offsetOf, rowsOf}
-use Rattle.plain.specs.Plain.{plain, openPairs, pairsOf, openRefusal, openSaved}
+use Rattle.flows.specs.Flow.{frontierOf, offsetOf, rowsOf, feedRules}
+use Rattle.plain.specs.Plain.{plain, opened, openPairs, pairsOf, openRules, openRefusal, openSaved}
 use Rattle.tables.specs.Table.{Table, tableRefusal}
-use Rattle.demands.specs.Calls.{Via, byTable, Call, outcome}
-use Rattle.demands.specs.Demands.{activeParts}
+use Rattle.splits.specs.Split.{stuck, split, splitRules, splitFeed}
+use Rattle.demands.specs.Calls.{Via, byList, byTable, Call, outcome}
+use Rattle.demands.specs.Demands.{Longest, activeParts}
 
 -- ---- feeds as their caller sees them
 
@@ -56,6 +60,81 @@ Answered L via R (s ∷ ss) Q =
 -- it says that all was consumed exactly where it gives no refusal and has consumed each byte
 abbrev pub SaysAll : Seen → Type 0
 SaysAll s = (s .fed .all ≡ true) ↔ ((s .fed .refusal ≡ 0) × (s .fed .bytes ≡ length (s .piece)))
+
+-- P holds of each, at the record that it meets and the record that it leaves
+abbrev pub EachOn : List ℕ → Via → (List ℕ → Seen → List ℕ → Type 0) → List ℕ → List Seen → Type 0
+EachOn L via P R [] = Unit {0}
+EachOn L via P R (s ∷ ss) =
+    let Q = outcome R (callOf L via s) .saved in P R s Q × EachOn L via P Q ss
+
+-- ---- demand 1 of each entry point, made once; a feed on the record R leaves the record Q
+
+-- zero bytes, zero pairs, not all, and both buffers as they were
+pub record Untouched (R : List ℕ) (s : Seen) (Q : List ℕ) : Type 0 where
+  pub bytes : s .fed .bytes ≡ 0
+  pub pairs : s .fed .pairs ≡ 0
+  pub all : s .fed .all ≡ false
+  pub words : s .words ≡ s .out
+  pub saved : Q ≡ R
+
+-- opening answers its rules' number; a refusal leaves the record, and no refusal leaves the opened one
+pub record OpenKept (L R : List ℕ) (refusal : ℕ) (Q : List ℕ) : Type 0 where
+  pub refuses : Refuses (openRules L R) refusal
+  pub unchanged : (refusal ≡ 0 → ⊥) → Q ≡ R
+  pub opens : refusal ≡ 0 → Q ≡ opened L
+
+-- the plain feed: 1 to 6, each exactly where its rule says; a refusal changes nothing, and no refusal consumes the longest front
+pub record FeedKept (L R : List ℕ) (s : Seen) (Q : List ℕ) : Type 0 where
+  pub refuses : Refuses (feedRules L R (s .at) (s .piece)) (s .fed .refusal)
+  pub unchanged : (s .fed .refusal ≡ 0 → ⊥) → Untouched R s Q
+  pub says-all : SaysAll s
+  pub longest : s .fed .refusal ≡ 0 → Longest (plain L) (frontierOf R) (room (s .out)) (s .piece) (s .fed .bytes)
+
+-- the frontier after the bytes that a split feed consumed is stuck
+abbrev pub endsStuck : List ℕ → ℕ → Table → List ℕ → Seen → Bool
+endsStuck L b T R s = stuck b T (run (split L b T) (frontierOf R) (take (s .fed .bytes) (s .piece)))
+
+-- the split feed: 1 to 8 so, and 14 where bytes are left and the frontier after those consumed is stuck; what it leaves then is what the bytes before it leave
+pub record SplitFeedKept (L : List ℕ) (b : ℕ) (T : Table) (R : List ℕ) (s : Seen) (Q : List ℕ) : Type 0 where
+  pub refuses : (i : ℕ) → i < 8 → (s .fed .refusal ≡ number (splitRules L b T R (s .at) (s .piece)) i) ↔ Given (splitRules L b T R (s .at) (s .piece)) i
+  pub unchanged : (s .fed .refusal ≡ 0 → ⊥) → (s .fed .refusal ≡ 14 → ⊥) → Untouched R s Q
+  pub passes : (s .fed .refusal ≡ 0)
+      ↔ ((verdict (splitRules L b T R (s .at) (s .piece)) ≡ 0) × (s .fed .bytes < length (s .piece) → endsStuck L b T R s ≡ false))
+  pub halts : (s .fed .refusal ≡ 14)
+      ↔ ((verdict (splitRules L b T R (s .at) (s .piece)) ≡ 0) × (s .fed .bytes < length (s .piece)) × (endsStuck L b T R s ≡ true))
+  pub halts-kept : s .fed .refusal ≡ 14
+      → let o = splitFeed L b T R (s .at) (take (s .fed .bytes) (s .piece)) (s .out) in (s .fed .pairs ≡ o .pairs) × (s .words ≡ o .words) × (Q ≡ o .saved)
+  pub says-all : SaysAll s
+  pub longest : verdict (splitRules L b T R (s .at) (s .piece)) ≡ 0
+      → Longest (split L b T) (frontierOf R) (room (s .out)) (s .piece) (s .fed .bytes)
+
+-- ---- demand 2 of plain feeds seen on the record R, and of the record Q after them
+
+pub record PlainKept (L R : List ℕ) (ss : List Seen) (Q : List ℕ) : Type 0 where
+  -- demand 1 of each
+  pub each : EachOn L byList (FeedKept L) R ss
+  -- exactly the pairs of the definition on the bytes consumed, going on from the saved frontier
+  pub tells : wordsSeen ss ≡ told (plain L) (frontierOf R) (offsetOf R) (bytesSeen ss)
+  -- (g, k) is told exactly when k is the offset after one of those bytes and a state of the frontier there accepts g
+  pub due : (g k : ℕ) → Pair (wordsSeen ss) g k
+      ↔ ((n : ℕ) × (n < length (bytesSeen ss)) × (k ≡ offsetOf R + suc n) × (holds (accepted L (run (plain L) (frontierOf R) (take (suc n) (bytesSeen ss)))) g ≡ true))
+  -- by offset and then signature, both rising
+  pub ordered : (i j : ℕ) → i < j → 2 * j + 1 < length (wordsSeen ss) → Before (wordsSeen ss) i j
+  -- and the record goes on from there
+  pub frontier : frontierOf Q ≡ run (plain L) (frontierOf R) (bytesSeen ss)
+  pub offset : offsetOf Q ≡ offsetOf R + length (bytesSeen ss)
+  pub rows : rowsOf Q ≡ rowsOf R + costs (plain L) (frontierOf R) (bytesSeen ss)
+
+-- the check of L answered `listed`, and opening on the record R answered `answer`; then the plain feeds, the second a resend of the first, which left Q
+pub record PlainDriven (L R : List ℕ) (listed answer : ℕ) (first again : Seen) (rest : List Seen) (Q : List ℕ) : Type 0 where
+  pub lists : listed ≡ listRefusal L
+  pub opens : answer ≡ openRefusal L R
+  pub answered : Answered L byList (openSaved L R) (first ∷ again ∷ rest) Q
+  pub kept : PlainKept L (openSaved L R) (first ∷ again ∷ rest) Q
+  -- opened: all pairs of the flow, from the start set on
+  pub tells : answer ≡ 0 → openPairs L ++ wordsSeen (first ∷ again ∷ rest) ≡ pairsOf L (bytesSeen (first ∷ again ∷ rest))
+  -- resent: 5, once a byte of the piece was consumed
+  pub resent : first .fed .refusal ≡ 0 → zero < first .fed .bytes → again .fed .refusal ≡ 5
 
 -- ---- demand 3 of the feeds seen, and of the record Q after them
 

@@ -1,8 +1,118 @@
 // The drivers: code for no user. Each calls the entry points as a caller would, and promises a demand of what they answered and left.
 use feeds::Fed;
 ghost use mathlib.Core.List.{[], _∷_};
-ghost use Rattle.tables.specs.Table.{table};
-ghost use Rattle.demands.specs.Drivers.{sight, SplitDriven};
+ghost use Rattle.rules.specs.Rules.{Refuses};
+ghost use Rattle.lists.specs.List.{listRules};
+ghost use Rattle.tables.specs.Table.{table, tableRules};
+ghost use Rattle.demands.specs.Drivers.{sight, OpenKept, FeedKept, SplitFeedKept, PlainDriven, SplitDriven};
+
+// What the calls of `drive_each` answered: the two checks, the opening, and both feeds.
+struct DroveEach {
+    listed: u32,
+    checked: u32,
+    opened: u32,
+    fed: Fed,
+    split: Fed,
+}
+
+// Demand 1: calls each entry point once, each on buffers of its own.
+fn drive_each(
+    list: &[u8],
+    bound: u64,
+    classes: &[u8],
+    parts: &[u8],
+    rows: &[u8],
+    splits: &[u8],
+    start: u64,
+    piece: &[u8],
+    opening: &mut [u8],
+    flow: &mut [u8],
+    pairs: &mut [u32],
+    split_flow: &mut [u8],
+    split_pairs: &mut [u32],
+) -> DroveEach
+    ensures lists { λ r. ⌜ Refuses (listRules (now (list .entry))) (r .listed) ⌝ }
+    ensures tables { λ r. ⌜ Refuses (tableRules (now (list .entry)) bound
+        (table (now (classes .entry)) (now (parts .entry)) (now (rows .entry)) (now (splits .entry)))) (r .checked) ⌝ }
+    ensures opens { λ r. ⌜ OpenKept (now (list .entry)) (now (opening .entry)) (r .opened) (now (opening .exit)) ⌝ }
+    ensures feeds { λ r. ⌜ FeedKept (now (list .entry)) (now (flow .entry))
+        (sight start (now (piece .entry)) (now (pairs .entry)) (r .fed) (now (pairs .exit))) (now (flow .exit)) ⌝ }
+    ensures split_feeds { λ r. ⌜ SplitFeedKept (now (list .entry)) bound
+        (table (now (classes .entry)) (now (parts .entry)) (now (rows .entry)) (now (splits .entry))) (now («split_flow» .entry))
+        (sight start (now (piece .entry)) (now («split_pairs» .entry)) (r .split) (now («split_pairs» .exit))) (now («split_flow» .exit)) ⌝ }
+{
+    let listed = lists::check_list(list);
+    let checked = tables::check_table(list, bound, classes, parts, rows, splits);
+    let opened = plain::open_flow(list, opening);
+    let fed = plain::feed(list, flow, start, piece, pairs);
+    let split = splits::feed(
+        list,
+        bound,
+        classes,
+        parts,
+        rows,
+        splits,
+        split_flow,
+        start,
+        piece,
+        split_pairs,
+    );
+    DroveEach {
+        listed: listed,
+        checked: checked,
+        opened: opened,
+        fed: fed,
+        split: split,
+    }
+}
+
+// What the calls of `drive_plain` answered: the check, the opening, and four feeds.
+struct DrovePlain {
+    listed: u32,
+    opened: u32,
+    first: Fed,
+    again: Fed,
+    other: Fed,
+    last: Fed,
+}
+
+// Demand 2: checks a list, opens a flow, feeds it, sends the same piece again, and feeds it two pieces more, each from the start that it states, be it the flow's offset or not.
+fn drive_plain(
+    list: &[u8],
+    flow: &mut [u8],
+    start1: u64,
+    piece1: &[u8],
+    pairs1: &mut [u32],
+    pairs2: &mut [u32],
+    start3: u64,
+    piece3: &[u8],
+    pairs3: &mut [u32],
+    start4: u64,
+    piece4: &[u8],
+    pairs4: &mut [u32],
+) -> DrovePlain
+    ensures { λ r. ⌜ PlainDriven (now (list .entry)) (now (flow .entry)) (r .listed) (r .opened)
+        (sight start1 (now (piece1 .entry)) (now (pairs1 .entry)) (r .first) (now (pairs1 .exit)))
+        (sight start1 (now (piece1 .entry)) (now (pairs2 .entry)) (r .again) (now (pairs2 .exit)))
+        (sight start3 (now (piece3 .entry)) (now (pairs3 .entry)) (r .other) (now (pairs3 .exit))
+        ∷ sight start4 (now (piece4 .entry)) (now (pairs4 .entry)) (r .last) (now (pairs4 .exit)) ∷ [])
+        (now (flow .exit)) ⌝ }
+{
+    let listed = lists::check_list(list);
+    let opened = plain::open_flow(list, flow);
+    let first = plain::feed(list, flow, start1, piece1, pairs1);
+    let again = plain::feed(list, flow, start1, piece1, pairs2);
+    let other = plain::feed(list, flow, start3, piece3, pairs3);
+    let last = plain::feed(list, flow, start4, piece4, pairs4);
+    DrovePlain {
+        listed: listed,
+        opened: opened,
+        first: first,
+        again: again,
+        other: other,
+        last: last,
+    }
+}
 
 // What the calls of `drive_split` answered: the two checks, the opening, and two feeds.
 struct DroveSplit {

@@ -37,9 +37,20 @@ returns c =
     let listing = checking .before in
     let known2 = listing .before .before in
     let known1 = known2 .before .before in
-    split-driven _ _ _ _ _ _ _ _ _ _ _ _ _ _ _ _ _ _ _ _
+    split-driven _ _ _ _ _ _ _ _ _ _ _ _
     (listing .check-list .ensures) (checking .check-table .ensures) (opening .open-flow .ensures) (first .feed .ensures) (second .feed2 .ensures)
     (λ i. known1 .shared-slice-known6 .given i .fits) (λ i. known2 .shared-slice-known7 .given i .fits)
 
 pub drive-split-spec : {M : Type 1} → statement M
-drive-split-spec = tie.close (tie.spec check-list-requires check-table-requires open-flow-requires feed-requires feed-requires-2 same-length same-length-2 same-length-3 returns)
+drive-split-spec =
+    tie.close
+    (tie.spec
+    check-list-requires
+    check-table-requires
+    open-flow-requires
+    feed-requires
+    feed-requires-2
+    same-length
+    same-length-2
+    same-length-3
+    returns)
