@@ -1,0 +1,9 @@
+-- What a caller of the C face holds after a feed, as an outcome: one equation with the definition then says every number and both buffers.
+use Prim.Native.Nat.{ℕ}
+use mathlib.Core.List.{List}
+use Rattle.feeds.specs.Engine.{Outcome}
+use Rattle.watch_c.specs.declared.WatchFed.{WatchFed}
+
+abbrev pub held : WatchFed → List ℕ → List ℕ → Outcome
+held w words saved =
+    record { refusal = w .refusal; bytes = w .bytes; pairs = w .pairs; all = w .all; words = words; saved = saved }

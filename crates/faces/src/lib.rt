@@ -1,0 +1,69 @@
+// The driver of the C face: code for no user. It calls each exported name, and promises that what they answer and leave is the definitions'.
+use watch_c::WatchFed;
+ghost use mathlib.Core.Path.{_≡_};
+ghost use Rattle.lists.specs.List.{listRefusal};
+ghost use Rattle.plain.specs.Plain.{openRefusal, openSaved, plainFeed};
+ghost use Rattle.tables.specs.Table.{table, tableRefusal};
+ghost use Rattle.splits.specs.Split.{splitFeed};
+ghost use Rattle.faces.specs.Faced.{held};
+
+// What the calls answered: the two checks, the opening, and both feeds.
+struct Drove {
+    listed: u32,
+    checked: u32,
+    opened: u32,
+    fed: WatchFed,
+    split: WatchFed,
+}
+
+// Calls each exported name once, each on buffers of its own.
+fn drive_faces(
+    list: &[u8],
+    bound: u64,
+    classes: &[u8],
+    parts: &[u8],
+    rows: &[u8],
+    splits: &[u8],
+    start: u64,
+    piece: &[u8],
+    opening: &mut [u8],
+    flow: &mut [u8],
+    pairs: &mut [u32],
+    split_flow: &mut [u8],
+    split_pairs: &mut [u32],
+) -> Drove
+    ensures lists { λ r. ⌜ r .listed ≡ listRefusal (now (list .entry)) ⌝ }
+    ensures tables { λ r. ⌜ r .checked ≡ tableRefusal (now (list .entry)) bound
+        (table (now (classes .entry)) (now (parts .entry)) (now (rows .entry)) (now (splits .entry))) ⌝ }
+    ensures opens { λ r. ⌜ r .opened ≡ openRefusal (now (list .entry)) (now (opening .entry)) ⌝ }
+    ensures leaves { λ r. ⌜ now (opening .exit) ≡ openSaved (now (list .entry)) (now (opening .entry)) ⌝ }
+    ensures feeds { λ r. ⌜ held (r .fed) (now (pairs .exit)) (now (flow .exit))
+        ≡ plainFeed (now (list .entry)) (now (flow .entry)) start (now (piece .entry)) (now (pairs .entry)) ⌝ }
+    ensures split_feeds { λ r. ⌜ held (r .split) (now («split_pairs» .exit)) (now («split_flow» .exit))
+        ≡ splitFeed (now (list .entry)) bound (table (now (classes .entry)) (now (parts .entry)) (now (rows .entry)) (now (splits .entry)))
+        (now («split_flow» .entry)) start (now (piece .entry)) (now («split_pairs» .entry)) ⌝ }
+{
+    let listed = watch_c::watch_check_list(list);
+    let checked = watch_c::watch_check_table(list, bound, classes, parts, rows, splits);
+    let opened = watch_c::watch_open(list, opening);
+    let fed = watch_c::watch_feed(list, flow, start, piece, pairs);
+    let split = watch_c::watch_split_feed(
+        list,
+        bound,
+        classes,
+        parts,
+        rows,
+        splits,
+        split_flow,
+        start,
+        piece,
+        split_pairs,
+    );
+    Drove {
+        listed: listed,
+        checked: checked,
+        opened: opened,
+        fed: fed,
+        split: split,
+    }
+}
