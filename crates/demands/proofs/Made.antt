@@ -1,17 +1,20 @@
--- What calls made with the code tell, consume and leave is what the definitions say of those calls: so the demands are demands on the code. Assumes nothing.
+-- What calls made with the code answer, tell, consume and leave is what the definitions say of those calls, and so are the checks and the opening before them: so the demands are demands on the code. Assumes nothing.
 use Prim.Native.Nat.{ℕ, _*_}
 use mathlib.Core.Path.{_≡_, refl, ap, _∙_}
+use mathlib.Core.Bool.{Bool}
 use mathlib.Core.List.{List, [], _∷_, _++_}
 use lib.ListN.{take}
-use Rattle.feeds.specs.Calls.{recordAfter, allTold, allBytes}
+use Rattle.feeds.specs.Calls.{recordAfter, allTold, allBytes, refusals}
 use Rattle.feeds.specs.Fed.{Answers}
 use Rattle.feeds.specs.declared.Fed.{Fed}
-use Rattle.plain.specs.Plain.{plainFeed}
+use Rattle.flows.specs.Flow.{flowLayout}
+use Rattle.lists.specs.List.{listRefusal}
+use Rattle.plain.specs.Plain.{openRefusal, openSaved, plainFeed}
 use Rattle.splits.specs.Split.{splitFeed}
-use Rattle.tables.specs.Table.{Table}
-use Rattle.demands.specs.Calls.{byList, byTable, outcome}
+use Rattle.tables.specs.Table.{Table, tableRefusal}
+use Rattle.demands.specs.Calls.{byList, byTable, allAsked, outcome}
 use Rattle.demands.specs.Demands.{bytesOf, wordsOf, after}
-use Rattle.demands.specs.Made.{Made, Promised, callsOf, toldBy, eatenBy, leftBy}
+use Rattle.demands.specs.Made.{Made, Promised, callsOf, toldBy, eatenBy, leftBy, refusedBy, saidBy, saidOf, Begun, BegunPromised}
 
 -- the promise of `plain::feed`, and that of `splits::feed`, is that of such a call
 pub plain-promise : (L R : List ℕ) (at : ℕ) (piece out : List ℕ) (f : Fed) (ws sv : List ℕ) → Answers (plainFeed L R at piece out) f ws sv
@@ -26,10 +29,12 @@ pub record AsDefined (R : List ℕ) (ms : List Made) : Type 0 where
   pub words : toldBy ms ≡ wordsOf R (callsOf ms)
   pub bytes : eatenBy ms ≡ bytesOf R (callsOf ms)
   pub left : leftBy R ms ≡ after R (callsOf ms)
+  pub refusals : refusedBy ms ≡ refusals flowLayout R (allAsked (callsOf ms))
+  pub said : saidBy ms ≡ saidOf R (callsOf ms)
 
 pub as-defined : (R : List ℕ) (ms : List Made) → Promised R ms → AsDefined R ms
-unfolding toldBy eatenBy leftBy recordAfter allTold allBytes
-as-defined R [] h = record { words = refl; bytes = refl; left = refl }
+unfolding toldBy eatenBy leftBy refusedBy saidBy saidOf recordAfter allTold allBytes refusals
+as-defined R [] h = record { words = refl; bytes = refl; left = refl; refusals = refl; said = refl }
 as-defined R (m ∷ ms) h =
     let a = h .0 in
     let i = as-defined (m .saved) ms (h .1) in
@@ -37,4 +42,25 @@ as-defined R (m ∷ ms) h =
       words = rw (a .pairs, a .words) (ap (λ (ws : List ℕ). take (2 * outcome R (m .call) .pairs) (outcome R (m .call) .words) ++ ws) (i .words ∙ ap (λ (Q : List ℕ). wordsOf Q (callsOf ms)) (a .saved)));
       bytes = rw (a .bytes) (ap (λ (bs : List ℕ). take (outcome R (m .call) .bytes) (m .call .piece) ++ bs) (i .bytes ∙ ap (λ (Q : List ℕ). bytesOf Q (callsOf ms)) (a .saved)));
       left = i .left ∙ ap (λ (Q : List ℕ). after Q (callsOf ms)) (a .saved);
+      refusals =
+          rw (a .refusal) (ap (λ (ns : List ℕ). outcome R (m .call) .refusal ∷ ns) (i .refusals ∙ ap (λ (Q : List ℕ). refusals flowLayout Q (allAsked (callsOf ms))) (a .saved)));
+      said = rw (a .all) (ap (λ (bs : List Bool). outcome R (m .call) .all ∷ bs) (i .said ∙ ap (λ (Q : List ℕ). saidOf Q (callsOf ms)) (a .saved)));
+    }
+
+-- so from the checks on: their numbers, the opening's, the record that it leaves, and all calls on that
+pub record BegunDefined (L : List ℕ) (b : ℕ) (T : Table) (R : List ℕ) (g : Begun) : Type 0 where
+  pub lists : g .listed ≡ listRefusal L
+  pub tables : g .checked ≡ tableRefusal L b T
+  pub opens : g .opened ≡ openRefusal L R
+  pub record-left : g .record-left ≡ openSaved L R
+  pub feeds : AsDefined (openSaved L R) (g .calls)
+
+pub begun-defined : (L : List ℕ) (b : ℕ) (T : Table) (R : List ℕ) (g : Begun) → BegunPromised L b T R g → BegunDefined L b T R g
+begun-defined L b T R g h =
+    record {
+      lists = h .lists;
+      tables = h .tables;
+      opens = h .opens .refusal;
+      record-left = h .opens .saved;
+      feeds = as-defined (openSaved L R) (g .calls) (rw (h .opens .saved) at (h .feeds));
     }

@@ -1,9 +1,14 @@
--- Calls made with the code: what each answered and left, and that this is what its function promises.
+-- Calls made with the code: what each answered and left, and that this is what its function promises; and the checks and the opening before them.
 use Prim.Native.Nat.{ℕ, _*_}
+use mathlib.Core.Bool.{Bool}
+use mathlib.Core.Path.{_≡_}
 use mathlib.Core.List.{List, [], _∷_, _++_}
 use lib.ListN.{take}
 use Rattle.feeds.specs.declared.Fed.{Fed}
 use Rattle.feeds.specs.Fed.{Answers}
+use Rattle.lists.specs.List.{listRefusal}
+use Rattle.plain.specs.Opens.{Opens}
+use Rattle.tables.specs.Table.{Table, tableRefusal}
 use Rattle.demands.specs.Calls.{Call, outcome}
 
 -- a call, what the function answered, and the words and the record at its exit
@@ -34,3 +39,33 @@ eatenBy (m ∷ ms) = take (m .fed .bytes) (m .call .piece) ++ eatenBy ms
 unfoldable pub leftBy : List ℕ → List Made → List ℕ
 leftBy R [] = R
 leftBy R (m ∷ ms) = leftBy (m .saved) ms
+
+-- the refusal of each; and whether each says that all was consumed
+unfoldable pub refusedBy : List Made → List ℕ
+refusedBy [] = []
+refusedBy (m ∷ ms) = m .fed .refusal ∷ refusedBy ms
+
+unfoldable pub saidBy : List Made → List Bool
+saidBy [] = []
+saidBy (m ∷ ms) = m .fed .all ∷ saidBy ms
+
+-- that by the definitions, from the record R on
+unfoldable pub saidOf : List ℕ → List Call → List Bool
+saidOf R [] = []
+saidOf R (c ∷ cs) = outcome R c .all ∷ saidOf (outcome R c .saved) cs
+
+-- ---- a flow from its checks on: the numbers that they and the opening answered, the record that opening left, and the calls made on it
+
+pub record Begun : Type 0 where
+  pub listed : ℕ
+  pub checked : ℕ
+  pub opened : ℕ
+  pub record-left : List ℕ
+  pub calls : List Made
+
+-- each does what its function promises: `check_list`, `check_table`, `open_flow` on the record R, and the feeds
+pub record BegunPromised (L : List ℕ) (b : ℕ) (T : Table) (R : List ℕ) (g : Begun) : Type 0 where
+  pub lists : g .listed ≡ listRefusal L
+  pub tables : g .checked ≡ tableRefusal L b T
+  pub opens : Opens L R (g .opened) (g .record-left)
+  pub feeds : Promised (g .record-left) (g .calls)
