@@ -4,13 +4,14 @@ import builders
 import examples
 import faults
 import model
+import orders
 from builders import (Sample, a_piece, accept, any_flow, any_frontier, any_list, broken_list,
                       crowded_list, edge, good_table, short_length, start, word_count)
 from faults import BAD_BOUNDS
 from model import (BYTE_VALUES, ENOUGH_WORDS, FLOW_SIZE, MOST_BOUND, MOST_OFFSET, MOST_PARTS,
                    MOST_RECORDS, MOST_SPLITS, OFFSET_AT, RECORD_SIZE, RESERVED_AT, ROWS_AT,
-                   SIGNATURES, SLOTS, SPLIT_SIZE, STATES, UNUSED, Flow, Table, pack_flow, padded,
-                   unpack_flow)
+                   SET_SIZE, SIGNATURES, SLOTS, SPLIT_SIZE, STATES, UNUSED, Flow, Table,
+                   pack_flow, pack_set, padded, unpack_flow, unpack_set)
 from tape import MOST_WORDS
 
 EMPTY_TABLE = Table(b"", b"", b"", b"")
@@ -25,7 +26,7 @@ def offset_of(record):
 
 # The worked examples
 
-def worked(tape):
+def worked(tape, dice):
     tape.load_list(examples.LIST)
     tape.load_table(examples.TABLE)
     tape.load_record(b"\xff" * FLOW_SIZE)
@@ -757,18 +758,241 @@ def largest_tables(tape, dice):
             walk.go_on()
 
 
+# The order of splits
+
+FEW = 20  # tables of a lesser kind
+MANY = 60  # and of a kind that an order hangs on
+LOWEST = pack_set(frozenset({STATES - 8}))  # of the sets that are not empty, as byte strings
+HIGHEST = b"\xff" * SET_SIZE
+
+
+def ask_order(tape, dice, pair, parts, refused):
+    """Two neighbouring splits, each the bytes of a set and slots, in a table that is right
+    otherwise: at its front, or behind the empty set and the start set, and there perhaps before
+    the set of all states."""
+    sets = [data for data, _ in pair]
+    assert LOWEST < min(sets) and max(sets) < HIGHEST
+    place = dice.pick(["first", "middle", "middle", "last", "last", "last"])
+    splits, parts = list(pair), list(parts)
+    if place != "first":
+        splits = [(bytes(SET_SIZE), []), (LOWEST, [len(parts)])] + splits
+        parts.append(LOWEST)
+    if place == "middle":
+        splits.append((HIGHEST, [len(parts)]))
+        parts.append(HIGHEST)
+    plan = builders.Plan([0] * BYTE_VALUES, 1, [unpack_set(part) for part in parts],
+                         {(p, 0): frozenset() for p in range(len(parts))},
+                         [(unpack_set(data), padded(slots)) for data, slots in splits])
+    tape.load_list(start(STATES - 8))
+    tape.load_table(plan.table())
+    bound = dice.between(max(len(slots) for _, slots in splits), MOST_BOUND)
+    assert (tape.check_table(bound) == 9) == refused
+    if dice.chance(20):
+        tape.check_table(dice.between(1, MOST_BOUND))
+    if dice.chance(50):
+        tape.load_record(any_flow(dice, unpack_set(dice.pick(sets))))
+        tape.split_feed(bound, offset_of(tape.record), dice.below(5),
+                        dice.bytes(dice.between(1, 3)))
+
+
+def two_sets(choose):
+    """Two sets of a kind that go between the lowest and the highest."""
+    while True:
+        below, above = choose()
+        if LOWEST < below and above < HIGHEST:
+            return below, above
+
+
+def ask_either_way(tape, dice, choose):
+    """Two sets of a kind, each a part of its own, the lower one first: no 9. And last: 9."""
+    for refused in (False, True):
+        sets = two_sets(choose)
+        pair = [(data, [slot]) for data, slot in zip(sets, dice.shuffled([0, 1]))]
+        parts = sets if pair[0][1] == [0] else sets[::-1]
+        ask_order(tape, dice, pair[::-1] if refused else pair, parts, refused)
+
+
+def split_order(tape, dice):
+    """The order of neighbours: equal sets beside any slots, sets that differ at one byte, and sets
+    that another order takes the other way round."""
+    # Equal sets, whose slots are the same, rise and fall; and such slots beside other sets.
+    for shape, choices in orders.SLOTS_BESIDE.items():
+        for turn in range(MANY if shape in ("same", "first rising", "first falling") else FEW):
+            before, behind = choices[turn % len(choices)]
+            data, _ = two_sets(lambda: [orders.any_set(dice)] * 2)
+            ask_order(tape, dice, [(data, before), (data, behind)], [data] * SLOTS, True)
+            below, above = two_sets(lambda: orders.one_in_another(dice))
+            parts = [below if slot in before else above for slot in range(SLOTS)]
+            ask_order(tape, dice, [(below, before), (above, behind)], parts, False)
+            if turn % 2 == 0:
+                parts = [above if slot in before else below for slot in range(SLOTS)]
+                ask_order(tape, dice, [(above, before), (below, behind)], parts, True)
+
+    # The first byte, the last one and each between them.
+    for places in ([0], [SET_SIZE - 1], range(1, SET_SIZE - 1)):
+        for turn in range(MANY):
+            place = places[turn % len(places)]
+            ask_either_way(tape, dice, lambda: orders.differ_at(dice, place))
+
+    # Other orders answer the other way.
+    for name, key in orders.OTHERS.items():
+        for _ in range(MANY if "number" in name or "8 bytes" in name else FEW):
+            ask_either_way(tape, dice, lambda: orders.against(dice, key))
+
+
+# Numbers of two bytes, and what a reader may take for one
+
+def low_and_high(tape, dice):
+    """Slots whose numbers need both bytes, have a low byte of 255, or look like an unused one."""
+    root, seen = 3, 130
+    sample = Sample([start(root), edge(0, 255, root, root), edge(0, 255, root, seen),
+                     accept(seen, 5)], [97], [root, seen])
+    alone, both = frozenset({root}), frozenset({root, seen})
+    for count, most in ((258, 11), (514, 2)):
+        one, two = count - 3, count - 1 - dice.below(2)  # the low bytes are 255, and 0 or 1
+        parts = [frozenset({131 + p % 120}) for p in range(count)]
+        parts[one], parts[two] = alone, frozenset({seen})
+        rows = {(p, 0): frozenset() for p in range(count)}
+        rows[one, 0] = both
+        for slots in ([one, two], [one, 65280], [two, one], [one, UNUSED, two], [UNUSED, one, two],
+                      [one, count], [one, 1023], [one, 1024], [one, 1279], [one, UNUSED - 1],
+                      [one, UNUSED, 65280])[:most]:
+            plan = builders.Plan([0] * BYTE_VALUES, 1, parts, rows,
+                                 [(alone, padded([one])), (both, padded(slots))])
+            plan.sort()
+            tape.load_list(sample.data)
+            tape.load_table(plan.table())
+            for bound in BOUNDS:
+                tape.check_table(bound)
+            for members, bound in ((alone, 1), (alone, 2), (both, 1), (both, 2), (both, 3)):
+                tape.load_record(pack_flow(Flow(members, 0, 0)))
+                tape.split_feed(bound, 0, 6, dice.bytes(dice.between(1, 3)))
+
+
+def zero_records(tape, dice):
+    """Records of kind 0 and of kinds past the last one, sound as another kind."""
+    tape.load_table(examples.TABLE)
+    for turn in range(40):
+        state, letter = dice.pick([0, 0, 1, 200]), dice.pick([0, 0, 97])
+        good = [start(state), edge(letter, letter, state, state),
+                accept(state, dice.below(SIGNATURES))]
+        record = [bytes(RECORD_SIZE),
+                  b"\0" + edge(letter, 255, state, dice.below(STATES))[1:],
+                  bytes([dice.pick([4, 5, 128, 255])]) + accept(state, dice.below(SIGNATURES))[1:],
+                  bytes([dice.pick([0, 4, 255])]) + start(dice.below(STATES))[1:]][turn % 4]
+        records = dice.shuffled(good)
+        records.insert([0, len(records), 1][turn % 3], record)
+        tape.load_list(b"".join(records))
+        tape.check_list()
+        tape.load_record(bytes(FLOW_SIZE))
+        tape.open()
+        tape.feed(0, 4, bytes([letter]))
+        tape.check_table(2)
+        tape.split_feed(2, 0, 4, bytes([letter]))
+
+
+def old_content(tape, dice):
+    """Openings over content that a feed refuses for one thing alone, or not at all."""
+    for turn in range(60):
+        sample = any_list(dice)
+        tape.load_list(sample.data)
+        offset = dice.pick([0, 1, 5, dice.below(2 ** 32), MOST_OFFSET])
+        reserved, rows = [(0, 0), (0, STATES * offset), (0, STATES * offset + 1), (1, 0),
+                          (2 ** 24, 0), (0, 2 ** 64 - 1)][turn % 6]
+        frontier = any_frontier(dice, sample)
+        tape.load_record(pack_set(frontier) + offset.to_bytes(4, "little")
+                         + reserved.to_bytes(4, "little") + rows.to_bytes(8, "little"))
+        tape.feed(offset, 8, b"")
+        tape.open()
+        tape.feed(0, 8, a_piece(dice, sample, 3))
+        tape.open()
+
+
+def long_pauses(tape, dice):
+    """Pauses after which 256 bytes are left, or 512 or one more or less, in both feeds."""
+    tape.load_list(examples.LIST)
+    tape.load_table(examples.TABLE)
+    for left in (255, 256, 256, 256, 257, 511, 512, 512, 513):
+        for pairs, before in ((0, 0), (1, 0), (2, 9), (3, 254), (1, 255), (2, 256), (0, 300)):
+            # The byte at which the feed pauses is the first of those that are left.
+            piece = b"ab" * pairs + b"c" * before + b"a" + b"b" * left
+            words = 2 * pairs + dice.below(2)
+            for feed in (tape.feed, lambda *call: tape.split_feed(2, *call)):
+                tape.load_record(b"\1" + bytes(FLOW_SIZE - 1))
+                answer = feed(0, words, piece)
+                assert (answer.refusal, len(piece) - answer.consumed) == (0, left)
+    for length in (255, 256, 257, 512, 1024):
+        tape.load_record(b"\1" + bytes(FLOW_SIZE - 1))
+        tape.feed(0, 8, b"c" * length)
+        tape.split_feed(2, length, 9, b"c" * length)
+
+
+def no_split(tape, dice):
+    """14 at the first byte of a piece or of a flow, at the last one, and at a byte of value 0."""
+    for _ in range(40):
+        sample, plan = good_table(dice, 2, 9, 5)
+        bad = dice.pick(plan.splits)[0]
+        plan.splits = [split for split in plan.splits if split[0] != bad]
+        if not plan.splits:
+            continue
+        tape.load_list(sample.data)
+        tape.load_table(plan.table())
+        zero = bytes([0])
+        for piece in (zero, bytes([dice.pick(sample.letters)]), zero + a_piece(dice, sample, 2),
+                      a_piece(dice, sample, 2) + zero, b""):
+            offset = dice.pick([0, 0, 1, 256])
+            tape.load_record(pack_flow(Flow(bad, offset, 0)))
+            tape.split_feed(2, offset, dice.below(6), piece)
+        # The frontier of the start is a split, and a step from it is none.
+        tape.load_record(bytes(FLOW_SIZE))
+        tape.open()
+        tape.split_feed(2, 0, 12, a_piece(dice, sample, 4) + zero)
+
+
+def lengths_of_splits(tape, dice):
+    """Split feeds where the list of splits alone has the wrong length."""
+    for _ in range(8):
+        sample, plan = good_table(dice, 3, 9, 5)
+        table = plan.table()
+        tape.load_list(sample.data)
+        for splits in (b"", table.splits[:-1], table.splits[:-SPLIT_SIZE + 1], table.splits + b"\0",
+                       table.splits + table.splits[:SET_SIZE], table.splits[:SET_SIZE]):
+            tape.load_table(table._replace(splits=splits))
+            tape.load_record(bytes(FLOW_SIZE))
+            tape.open()
+            tape.split_feed(3, 0, 6, dice.pick([b"", a_piece(dice, sample, 3)]))
+
+
+def equal_splits(tape, dice):
+    """The first of equal splits is taken, and of its slots those before the first unused one."""
+    sample = Sample([start(9), edge(0, 255, 9, 9), edge(98, 98, 9, 140), accept(140, 8),
+                     accept(9, 200)], [97, 98], [9, 140])
+    one, two, none = frozenset({9}), frozenset({9, 140}), frozenset()
+    rows = {(0, 0): one, (1, 0): two, (2, 0): none, (3, 0): one}
+    parts = [one, two, none, one]
+    for turn in range(60):
+        slots = [[dice.below(4) for _ in range(SLOTS)] for _ in range(3)]
+        for at, place in ((0, 1), (1, 2), (2, 0)):
+            if dice.chance(70):
+                slots[at][place if turn % 2 else dice.below(SLOTS)] = UNUSED
+        plan = builders.Plan([0] * BYTE_VALUES, 1, parts, rows,
+                             [(one, slots[0]), (two, slots[2]), (one, slots[1]),
+                              (none, padded([]))][:4 - turn % 2])
+        tape.load_list(sample.data)
+        tape.load_table(plan.table())
+        tape.check_table(MOST_BOUND)
+        for bound in (MOST_BOUND, dice.between(1, 3)):
+            tape.load_record(pack_flow(Flow(one, 7, 0)))
+            tape.split_feed(bound, 7, 12, b"ab")
+
+
+GROUPS = [worked, lists, longest_lists, openings, plain_flows, crowded_flows, good_tables,
+          crowded_tables, faulty_tables, one_byte_tables, harmless_tables, wild_tables, long_pieces,
+          largest_tables, split_order, equal_splits, low_and_high, lengths_of_splits, no_split,
+          zero_records, old_content, long_pauses]
+
+
 def make(tape, dice):
-    worked(tape)
-    lists(tape, dice)
-    longest_lists(tape, dice)
-    openings(tape, dice)
-    plain_flows(tape, dice)
-    crowded_flows(tape, dice)
-    good_tables(tape, dice)
-    crowded_tables(tape, dice)
-    faulty_tables(tape, dice)
-    one_byte_tables(tape, dice)
-    harmless_tables(tape, dice)
-    wild_tables(tape, dice)
-    long_pieces(tape, dice)
-    largest_tables(tape, dice)
+    for group in GROUPS:
+        tape.group(group.__name__)
+        group(tape, dice)

@@ -23,7 +23,7 @@ NAMES = {"c": "list check", "o": "opening", "f": "plain feed", "k": "table check
          "s": "split feed"}
 
 
-def counts_text(counts):
+def counts_text(counts, groups):
     lines = ["entry point     total  refusal:count"]
     for name, numbers in NEEDED.items():
         found = {number: times for (key, number), times in counts.items() if key == name}
@@ -33,6 +33,8 @@ def counts_text(counts):
             name, NAMES[name], sum(found.values()),
             " ".join("%d:%d" % (number, found[number]) for number in numbers)))
     lines.append("all            %6d" % sum(counts.values()))
+    lines += ["", "group              lines"]
+    lines += ["%-17s %6d" % (name, count) for name, count in groups]
     return "\n".join(lines) + "\n"
 
 
@@ -43,7 +45,7 @@ def main():
     here = Path(__file__).resolve().parent
     target = here.parent.parent / "crates" / "vectors"
     target.mkdir(parents=True, exist_ok=True)
-    text = counts_text(tape.counts)
+    text = counts_text(tape.counts, tape.groups)
     (target / "stdin").write_bytes(tape.stdin())
     (target / "stdout").write_bytes(tape.stdout())
     (here / "counts.txt").write_text(text)

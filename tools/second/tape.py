@@ -50,6 +50,7 @@ class Tape:
         self.commands = []
         self.lines = []
         self.counts = {}
+        self.groups = []  # names, each with its number of lines
         self.list = b""
         self.table = model.Table(b"", b"", b"", b"")
         self.record = b""
@@ -75,13 +76,18 @@ class Tape:
             self.record = record
             self.commands.append(b"R" + block(record))
 
-    # Commands that answer.
+    # Commands that answer, each in the group named last.
+
+    def group(self, name):
+        self.groups.append([name, 0])
 
     def _answer(self, command, name, values):
         self.commands.append(command)
         self.lines.append(" ".join([name] + [str(int(value)) for value in values]))
         key = (name, values[0])
         self.counts[key] = self.counts.get(key, 0) + 1
+        if self.groups:
+            self.groups[-1][1] += 1
         return values[0]
 
     def check_list(self):
