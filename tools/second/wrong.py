@@ -1,0 +1,389 @@
+"""Wrong versions of the rules, and how many lines of the vectors each changes.
+
+A wrong version is model.py with a few words changed. Each replays the whole of
+crates/vectors/stdin, and the lines that differ from crates/vectors/stdout are
+counted. One that changes no line is one that the vectors do not tell from the
+right version, and ends the run with an error.
+"""
+
+import sys
+
+sys.dont_write_bytecode = True
+
+import ast
+import types
+from functools import lru_cache
+from pathlib import Path
+
+import model
+import replay
+import tape
+
+HERE = Path(__file__).resolve().parent
+VECTORS = HERE.parent.parent / "crates" / "vectors"
+SOURCE = (HERE / "model.py").read_text()
+
+# What the table check alone hangs on, and what the answers 10 to 13 do not.
+CHECK_ONLY = {"passes_9", "breaks_9", "table_refusal"}
+NOT_DEEP = CHECK_ONLY | {"sound", "list_refusal", "open_flow", "wrong_lists", "padded",
+                         "taken_slots", "feed_refusal", "run", "refused", "plain_feed",
+                         "split_feed"}
+
+
+# Changes: what stands in model.py, and what stands there instead.
+
+def order(passes):
+    """Another order of the splits: whether split b may come behind split a."""
+    return [("not before < split.name", "not passes_9(before, split)"),
+            ("before = split.name", "before = split"),
+            ("def breaks_9", "def passes_9(a, b):\n    return %s\n\n\ndef breaks_9" % passes)]
+
+
+def by_key(key):
+    """The order of splits by a key of split s."""
+    return order("%s < %s" % (key.replace("s.", "a."), key.replace("s.", "b.")))
+
+
+def by_words(size, first, last):
+    """The order by words of so many bytes, the low or the high byte first ("little", "big"),
+    compared from the first or from the last word on ("1", "-1")."""
+    return by_key('[int.from_bytes(w, "%s") for w in cut(s.name, %d)][::%s]' % (first, size, last))
+
+
+def slot(reads):
+    """Another reading of a slot's two bytes, low and high."""
+    return [("[number(slot) for slot in cut(record[SET_SIZE:], 2)]",
+             "[%s for low, high in cut(record[SET_SIZE:], 2)]" % reads)]
+
+
+def width(classes):
+    """Another number of classes."""
+    return [("width = max(table.classes) + 1",
+             "width = %s" % classes.replace("classes", "table.classes")),
+            ("width = max(self.classes) + 1",
+             "width = %s" % classes.replace("classes", "self.classes")),
+            ("for data in cut(table.rows, SET_SIZE)]",
+             "for data in cut(table.rows, SET_SIZE)] + [frozenset()] * MOST_CLASS"),
+            ("for group in range(self.width)", "for group in range(MOST_CLASS + 1)")]
+
+
+def not_14(where):
+    """Where 14 is not looked for, no row is read: the new frontier is empty."""
+    return [("        if moved is None:\n",
+             "        if moved is None and %s:\n            moved = frozenset(), 0\n"
+             "        if moved is None:\n" % where)]
+
+
+def feed_8(table):
+    """The split feed looks at another table for 8; of the splits it reads the whole ones."""
+    return [("if not refusal and wrong_lists(table)", "if not refusal and wrong_lists(%s)" % table),
+            ("cut(table.splits, SPLIT_SIZE)",
+             "cut(table.splits[:len(table.splits) // SPLIT_SIZE * SPLIT_SIZE], SPLIT_SIZE)")]
+
+
+NO_KIND = "    return False\n\n\n@lru_cache(maxsize=64)\n"
+SLOT = "low + 256 * high"
+TAKEN = "split.slots[:split.slots.index(UNUSED)]"
+KEPT = "written + words[len(written):]"
+OPENED = "pack_flow(Flow(automaton(data).starts, 0, 0))"
+LOOKS_UP = "taken = taken_slots(lists.first[frontier])"
+
+VERSIONS = [
+    # The list
+    ("list: the state that an edge leaves by its low byte", [
+        ("and middle < STATES and last < STATES", "and last < STATES"),
+        ("r[2], number(r[4:6])", "r[2], r[4]")]),
+    ("list: the target of an edge by its low byte", [
+        ("and middle < STATES and last < STATES", "and middle < STATES"),
+        ("r[2], number(r[4:6]), number(r[6:8])", "r[2], number(r[4:6]), r[6]")]),
+    ("list: the state of a start by its low byte", [
+        ("== {0} and last < STATES", "== {0}"), ("frozenset(number(r[6:8])", "frozenset(r[6]")]),
+    ("list: the state of an accept by its low byte", [
+        ("and middle < STATES and last < SIGNATURES", "and last < SIGNATURES"),
+        ("Accept(number(r[4:6])", "Accept(r[4]")]),
+    ("list: the signature by its low byte", [
+        ("and middle < STATES and last < SIGNATURES", "and middle < STATES"),
+        ("Accept(number(r[4:6]), number(r[6:8]))", "Accept(number(r[4:6]), r[6])")]),
+    ("list: kinds 3 to 255 are accepts", [("if kind == 3", "if kind >= 3"),
+                                          ("if r[0] == 3", "if r[0] >= 3")]),
+    ("list: kinds 4 to 255 are passed over", [(NO_KIND, NO_KIND.replace("False", "kind > 3"))]),
+    ("list: kinds 0 and 1 are edges", [("if kind == 1", "if kind <= 1"),
+                                       ("if r[0] == 1", "if r[0] <= 1")]),
+    ("list: a record of zeros passes", [(NO_KIND, NO_KIND.replace("False", "not any(record)"))]),
+
+    # Opening
+    ("opening: writes nothing", [("return 0, " + OPENED, "return 0, record")]),
+    ("opening: keeps the old rows", [
+        ("return 0, " + OPENED,
+         "return 0, %s[:ROWS_AT] + record[ROWS_AT:]" % OPENED)]),
+    ("opening: keeps the old reserved bytes", [
+        ("return 0, " + OPENED,
+         "return 0, %s[:RESERVED_AT] + record[RESERVED_AT:ROWS_AT] + bytes(8)" % OPENED)]),
+    ("opening: refuses old content that a feed refuses", [
+        ("    return 0, " + OPENED,
+         "    if feed_refusal(data, record, unpack_flow(record).offset, b\"\"):\n"
+         "        return 4, record\n    return 0, " + OPENED)]),
+    ("opening: refuses old content that is not zeros", [
+        ("    return 0, " + OPENED,
+         "    if any(record):\n        return 4, record\n    return 0, " + OPENED)]),
+
+    # Both feeds
+    ("feeds: the words behind the pairs are cleared", [
+        (KEPT, "written + [0] * (len(words) - len(written))")]),
+    ("feeds: the odd last word is cleared", [
+        (KEPT, "(%s)[:2 * room] + [0] * (len(words) %% 2)" % KEPT)]),
+    ("feeds: an odd buffer has room for one pair less", [
+        ("room = len(words) // 2", "room = max(0, len(words) // 2 - len(words) % 2)")]),
+    ("feeds: all where the bytes are the low byte of the length", [
+        ("consumed == len(piece)", "consumed == len(piece) % 256")]),
+    ("feeds: all where the low bytes of both are equal", [
+        ("consumed == len(piece)", "consumed % 256 == len(piece) % 256")]),
+
+    # The plain feed
+    ("plain feed: rows of states below 128 only", [
+        ("byte), len(frontier)", "byte), len([s for s in frontier if s < 128])")]),
+    ("plain feed: rows of states from 128 on only", [
+        ("byte), len(frontier)", "byte), len([s for s in frontier if s > 127])")]),
+    ("plain feed: rows by the low byte of their number", [
+        ("byte), len(frontier)", "byte), len(frontier) % 256")]),
+
+    # The table's lists and classes
+    ("table: K is at least 2", width("max(2, max(classes) + 1)")),
+    ("table: K is the number of distinct classes", width("len(set(classes))")),
+    ("table: the sets of splits are read by their first byte", [
+        ("name, unpack_set(name)", "name, unpack_set(name[:1] + bytes(31))")]),
+    ("table: the sets of parts and rows are read by their first byte", [
+        ("[unpack_set(data) for data in cut(table.parts, SET_SIZE)]",
+         "[unpack_set(data[:1] + bytes(31)) for data in cut(table.parts, SET_SIZE)]"),
+        ("[unpack_set(data) for data in cut(table.rows, SET_SIZE)]",
+         "[unpack_set(data[:1] + bytes(31)) for data in cut(table.rows, SET_SIZE)]")]),
+    ("table: a split is found by its first byte", [
+        ("setdefault(split.members, split)", "setdefault(split.name[:1], split)"),
+        ("nfa.starts not in table.first", "pack_set(nfa.starts)[:1] not in table.first"),
+        ("nfa.step(split.members, byte) not in table.first",
+         "pack_set(nfa.step(split.members, byte))[:1] not in table.first"),
+        ("if frontier not in lists.first", "if pack_set(frontier)[:1] not in lists.first"),
+        ("lists.first[frontier]", "lists.first[pack_set(frontier)[:1]]")]),
+
+    # Slots
+    ("slots: the low byte only", slot("UNUSED if low + 256 * high == UNUSED else low")),
+    ("slots: the low byte only, 255 for unused", slot("UNUSED if low == 255 else low")),
+    ("slots: the high byte first", slot("high + 256 * low")),
+    ("slots: from 1,024 on unused", slot("%s if %s < 1024 else UNUSED" % (SLOT, SLOT))),
+    ("slots: with high byte 255 unused", slot("%s if high < 255 else UNUSED" % SLOT)),
+    ("slots: with low byte 255 unused", slot("%s if low < 255 else UNUSED" % SLOT)),
+    ("slots: unused where there is no such part",
+     slot("%s if %s < len(self.parts) else UNUSED" % (SLOT, SLOT))),
+    ("slots: used ones stop at the first unused", [
+        ("return [slot for slot in split.slots if slot != UNUSED]", "return taken_slots(split)"),
+        ("if split.slots != padded(used)", "if split.slots[:len(used)] != used")]),
+
+    # The check
+    ("check: refuses all tables", [("    return deep_refusal(data, table)\n",
+                                    "    return deep_refusal(data, table) or 13\n")]),
+    ("check: passes what has no refusal 1 to 9", [("    return deep_refusal(data, table)\n",
+                                                   "    return 0\n")]),
+
+    # The order of splits
+    ("order: not looked at", order("True")),
+    ("order: equal sets pass", order("a.name <= b.name")),
+    ("order: equal sets pass with the same slots",
+     order("a.name < b.name or a.name == b.name and a.slots == b.slots")),
+    ("order: equal sets pass with a greater first slot",
+     order("a.name < b.name or a.name == b.name and a.slots[0] < b.slots[0]")),
+    ("order: equal sets pass with a smaller first slot",
+     order("a.name < b.name or a.name == b.name and a.slots[0] > b.slots[0]")),
+    ("order: equal sets pass with other slots",
+     order("a.name < b.name or a.name == b.name and a.slots != b.slots")),
+    ("order: equal sets pass with more slots",
+     order("a.name < b.name or a.name == b.name and len(used_slots(a)) < len(used_slots(b))")),
+    ("order: equal sets by their slots as numbers", by_key("(s.name, s.slots)")),
+    ("order: equal sets by their slots, falling", order("(a.name, b.slots) < (b.name, a.slots)")),
+    ("order: all 40 bytes",
+     by_key('s.name + b"".join(n.to_bytes(2, "little") for n in s.slots)')),
+    ("order: all 40 bytes as a number",
+     by_key('number(s.name + b"".join(n.to_bytes(2, "little") for n in s.slots))')),
+    ("order: the slots, then the set", by_key("(s.slots, s.name)")),
+    ("order: the set as a number", by_key("number(s.name)")),
+    ("order: words of 8 bytes, low byte first", by_words(8, "little", "1")),
+    ("order: words of 4 bytes, low byte first", by_words(4, "little", "1")),
+    ("order: words of 2 bytes, low byte first", by_words(2, "little", "1")),
+    ("order: words of 8 bytes, high byte first, from the last word on", by_words(8, "big", "-1")),
+    ("order: bytes from 128 on as negative numbers",
+     by_key("[(byte + 128) % 256 for byte in s.name]")),
+    ("order: the states, lowest first", by_key("sorted(s.members)")),
+    ("order: bits, state 0 first", by_key("[state in s.members for state in range(STATES)]")),
+    ("order: how many states, then the set", by_key("(len(s.members), s.name)")),
+    ("order: the first byte alone, equal ones pass", order("a.name[0] <= b.name[0]")),
+    ("order: the first byte alone, equal ones fail", by_key("s.name[0]")),
+    ("order: the first word alone, equal ones pass", order("a.name[:8] <= b.name[:8]")),
+    ("order: without the first byte", by_key("s.name[1:]")),
+    ("order: without the last byte", by_key("s.name[:31]")),
+    ("order: without the last byte, equal ones pass", order("a.name[:31] <= b.name[:31]")),
+    ("order: without the middle words, equal ones pass",
+     order("a.name[:8] + a.name[24:] <= b.name[:8] + b.name[24:]")),
+    ("order: every byte greater or equal",
+     order("a.name != b.name and all(x <= y for x, y in zip(a.name, b.name))")),
+    ("order: the set is a larger one", order("a.members < b.members")),
+    ("order: the first two are not compared", [
+        ("before = None", "before = seen = None"),
+        ("if before is not None and not before", "if seen is not None and not before"),
+        ("before = split.name", "seen, before = before, split.name")]),
+    ("order: the last two are not compared", [
+        ("if before is not None and not before",
+         "if before is not None and split is not table.splits[-1] and not before")]),
+
+    # The split feed
+    ("split feed: 8 without looking at the splits", feed_8(
+        "table._replace(splits=bytes(SPLIT_SIZE))")),
+    ("split feed: 8 without looking for the most splits", feed_8(
+        "table._replace(splits=table.splits[-SPLIT_SIZE * MOST_SPLITS:])")),
+    ("split feed: taken slots are all used ones", [(TAKEN, "used_slots(split)")]),
+    ("split feed: all used slots are joined, those up to the unused one counted", [
+        (LOOKS_UP, LOOKS_UP + "\n        every = used_slots(lists.first[frontier])"),
+        ("in taken if slot >= len(lists.parts)", "in every if slot >= len(lists.parts)"),
+        ("group] for slot in taken)", "group] for slot in every)")]),
+    ("split feed: all used slots are counted, those up to the unused one joined", [
+        ("for slot in taken), len(taken)",
+         "for slot in taken), len(used_slots(lists.first[frontier]))")]),
+    ("split feed: the last equal split", [("self.first.setdefault(split.members, split)",
+                                           "self.first[split.members] = split")]),
+    ("split feed: the split is found by halving", [
+        ("        if frontier not in lists.first:\n",
+         "        names = [split.name for split in lists.splits]\n"
+         "        at = __import__(\"bisect\").bisect_left(names, pack_set(frontier))\n"
+         "        if at == len(names) or names[at] != pack_set(frontier):\n"),
+        ("taken_slots(lists.first[frontier])", "taken_slots(lists.splits[at])")]),
+    ("split feed: 14 is not looked for at the first byte of a piece", not_14("consumed == 0")),
+    ("split feed: 14 is not looked for at offset 0", not_14("flow.offset == 0")),
+    ("split feed: 14 is not looked for at the last byte of a piece",
+     not_14("consumed == len(piece) - 1")),
+    ("split feed: 14 is not looked for at a byte of value 0", not_14("byte == 0")),
+    ("split feed: a pause for 14 at the first byte of a piece", [
+        ("            refusal = 14\n", "            refusal = 14 if consumed else 0\n")]),
+]
+
+
+def changed_source(changes):
+    text = SOURCE
+    for old, new in changes:
+        assert text.count(old) == 1, (text.count(old), old)
+        text = text.replace(old, new)
+    return text
+
+
+def parts_of(text):
+    """The top of the source by name: functions and classes, and all the rest under None."""
+    parts = {}
+    for node in ast.parse(text).body:
+        name = getattr(node, "name", None)
+        parts[name] = parts.get(name, "") + ast.dump(node)
+    return parts
+
+
+def quick(automaton):
+    """An automaton's class, where bytes that take the same edges share a step."""
+    class Quick(automaton):
+        def __init__(self, data):
+            super().__init__(data)
+            lowest = {}
+            self.like = []
+            for byte in range(model.BYTE_VALUES):
+                taken = frozenset(e for e in self.edges if e.low <= byte <= e.high)
+                self.like.append(lowest.setdefault(taken, byte))
+
+        def step(self, frontier, byte):
+            return super().step(frontier, self.like[byte])
+
+    return Quick
+
+
+# What the right version works out is kept for the versions that share it.
+kept = lru_cache(maxsize=None)
+model.automaton = kept(quick(model.Automaton))
+model.decoded = kept(model.Decoded)
+model.deep_refusal = kept(model.deep_refusal)
+tape.digest = kept(tape.digest)
+
+
+class Recorder(tape.Tape):
+    """A tape that keeps what each table check is asked, with its line's number."""
+
+    def __init__(self):
+        super().__init__()
+        self.checks = []
+
+    def check_table(self, bound):
+        self.checks.append((len(self.lines), self.list, self.table, bound))
+        return super().check_table(bound)
+
+
+def lines_of(changes, stream, right):
+    """The lines that a version answers to the stream."""
+    text = changed_source(changes)
+    version = types.ModuleType("version")
+    exec(compile(text, "version", "exec"), version.__dict__)
+    before, after = parts_of(SOURCE), parts_of(text)
+    changed = {name for name in after if before.get(name) != after[name]}
+    if "Automaton" in changed:
+        version.automaton = lru_cache(maxsize=8)(quick(version.Automaton))
+    else:
+        version.automaton = model.automaton
+    if "Decoded" not in changed:
+        version.decoded = model.decoded
+    if changed <= NOT_DEEP:
+        version.deep_refusal = model.deep_refusal
+    if changed <= CHECK_ONLY:
+        lines = list(right.lines)
+        for at, data, table, bound in right.checks:
+            lines[at] = "k %d" % version.table_refusal(data, table, bound)
+        return lines
+    result = tape.Tape()
+    tape.model = version
+    try:
+        replay.replay(stream, result)
+    finally:
+        tape.model = model
+    return result.lines
+
+
+def groups():
+    """The group of cases that each line belongs to, from counts.txt."""
+    out = []
+    for line in (HERE / "counts.txt").read_text().split("\n"):
+        words = line.split()
+        if len(words) == 2 and words[0] not in ("all", "group"):
+            out += [words[0]] * int(words[1])
+    return out
+
+
+def main():
+    stream = (VECTORS / "stdin").read_bytes()
+    recorder = Recorder()
+    replay.replay(stream, recorder)
+    right = recorder.lines
+    assert right == (VECTORS / "stdout").read_text().splitlines()
+    asked = sys.argv[1:]
+    of_line = groups()
+    unseen = []
+    out = ["%6s  %-31s %-17s %s" % ("lines", "letters", "first group", "wrong version")]
+    print(out[0], flush=True)
+    for name, changes in VERSIONS:
+        if asked and not any(word in name for word in asked):
+            continue
+        wrong = lines_of(changes, stream, recorder)
+        assert len(wrong) == len(right)
+        seen = [at for at in range(len(right)) if wrong[at] != right[at]]
+        letters = [right[at][0] for at in seen]
+        by_letter = " ".join("%s:%d" % (letter, letters.count(letter))
+                             for letter in "cofks" if letter in letters)
+        first = of_line[seen[0]] if seen and of_line else ""
+        out.append("%6d  %-31s %-17s %s" % (len(seen), by_letter, first, name))
+        print(out[-1], flush=True)
+        if not seen:
+            unseen.append(name)
+    if unseen:
+        sys.exit("no line changes: " + "; ".join(unseen))
+
+
+main()
