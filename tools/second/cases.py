@@ -767,9 +767,9 @@ HIGHEST = b"\xff" * SET_SIZE
 
 
 def ask_order(tape, dice, pair, parts, refused):
-    """Two neighbouring splits, each the bytes of a set and slots, in a table that is right
-    otherwise: at its front, or behind the empty set and the start set, and there perhaps before
-    the set of all states."""
+    """Two neighbouring splits, each the bytes of a set and slots, in a table that rule 9 refuses
+    for them alone: at its front, or behind the empty set and the start set, and there perhaps
+    before the set of all states."""
     sets = [data for data, _ in pair]
     assert LOWEST < min(sets) and max(sets) < HIGHEST
     place = dice.pick(["first", "middle", "middle", "last", "last", "last"])

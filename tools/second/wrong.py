@@ -1,9 +1,10 @@
 """Wrong versions of the rules, and how many lines of the vectors each changes.
 
-A wrong version is model.py with a few words changed. Each replays the whole of
-crates/vectors/stdin, and the lines that differ from crates/vectors/stdout are
-counted. One that changes no line is one that the vectors do not tell from the
-right version, and ends the run with an error.
+A wrong version is model.py with a few words changed. Each replays the commands
+of crates/vectors/stdin, or its table checks where nothing else hangs on the
+change, and the lines that differ from crates/vectors/stdout are counted. One
+that changes no line is one that the vectors do not tell from the right version,
+and ends the run with an error.
 """
 
 import sys
