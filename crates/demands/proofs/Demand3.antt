@@ -5,6 +5,7 @@ use mathlib.Core.List.{List}
 use native.Mathlib.Omega.{arith}
 use lib.ListN.{length}
 use lib.Dec.{lit<}
+use borrow.Author.Tests.{eq-eqb}
 use lib.Pow.{pow-pos}
 use Rattle.sets.specs.Set.{states}
 use Rattle.rules.specs.Rules.{verdict}
@@ -17,7 +18,7 @@ use Rattle.feeds.specs.Calls.{answer, allRows}
 use Rattle.flows.proofs.Records.{frontier-flow, offset-flow, rows-flow}
 use Rattle.feeds.proofs.Whole.{Sound, Fair, whole, never-halts, ceiling, one-engine}
 use Rattle.flows.proofs.Saved.{flow-sound}
-use Rattle.plain.specs.Plain.{plain, opened}
+use Rattle.plain.specs.Plain.{plain, opened, openRefusal, openSaved}
 use Rattle.tables.specs.Table.{Table, tableRefusal}
 use Rattle.tables.proofs.Accepted.{accepted}
 use Rattle.splits.specs.Split.{split, taken}
@@ -65,7 +66,7 @@ module _ (L : List ℕ) (b : ℕ) (T : Table) (ok : tableRefusal L b T ≡ 0) wh
   at-start : AtSplit T (frontierOf (opened L)) (start L)
   at-start = rw (opened-frontier L) (refl, accepted L b T ok .begins, start-lt L)
 
-  pub demand-3 : (cs : List Call) → InBytes cs → Each (Through L b T) (opened L) cs → Demand3 L b T cs
+  pub demand-3 : (cs : List Call) → InBytes cs → Each (Through L b T) (opened L) cs → Demand3 L b T (opened L) cs
   demand-3 cs hb h =
       let R = opened L in
       let fair = each-along (Through L b T) (Fair flowLayout (plain L) (AtSplit T) states) through-fair R cs h in
@@ -89,3 +90,9 @@ module _ (L : List ℕ) (b : ℕ) (T : Table) (ok : tableRefusal L b T ≡ 0) wh
         rows = n ∙ same;
         ceiling = rw n few;
       }
+
+  -- so from what opening leaves of any record that it takes
+  pub demand-3-opened : (R : List ℕ) → openRefusal L R ≡ 0 → (cs : List Call) → InBytes cs → Each (Through L b T) (openSaved L R) cs → Demand3 L b T (openSaved L R) cs
+  demand-3-opened R e cs hb h =
+      let o : openSaved L R ≡ opened L = rw (eq-eqb (openRefusal L R) 0 e) in
+      rw o (demand-3 cs hb (rw o at h))

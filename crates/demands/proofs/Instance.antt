@@ -9,6 +9,7 @@ use Rattle.rules.proofs.Rules.{stop}
 use Rattle.feeds.specs.Calls.{Bytes}
 use Rattle.tables.specs.Table.{tableRefusal}
 use Rattle.demands.specs.Calls.{Call, byTable}
+use Rattle.plain.specs.Plain.{opened}
 use Rattle.demands.specs.Demands.{Through, Demand3}
 use Rattle.demands.specs.Examples.{L, T₃, a, b, room}
 use Rattle.demands.proofs.Examples.{examples-hold}
@@ -45,7 +46,7 @@ three (suc zero) = lit< tt
 three (suc (suc zero)) = lit< tt
 three (suc (suc (suc i))) = lit< tt
 
-pub applies : Demand3 L 2 T₃ calls
+pub applies : Demand3 L 2 T₃ (opened L) calls
 applies =
     demand-3 L 2 T₃ accepts calls
     (three, (one b (lit< tt), (one b (lit< tt), (one b (lit< tt), tt))))

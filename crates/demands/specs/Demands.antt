@@ -171,13 +171,14 @@ Through L b T R c = verdict (asked c .rules R) ≡ 0 → (c .list ≡ L) × (c .
 abbrev pub activeParts : List ℕ → Table → Engine ℕ
 activeParts L T = record { next = plain L .next; alerts = plain L .alerts; cost = λ F. length (taken T F); halts = plain L .halts }
 
-pub record Demand3 (L : List ℕ) (b : ℕ) (T : Table) (cs : List Call) : Type 0 where
+-- from the record R that opening leaves
+pub record Demand3 (L : List ℕ) (b : ℕ) (T : Table) (R : List ℕ) (cs : List Call) : Type 0 where
   -- no call ends in 14
-  pub never-14 : Each (λ Q c. outcome Q c .refusal ≡ 14 → ⊥) (opened L) cs
+  pub never-14 : Each (λ Q c. outcome Q c .refusal ≡ 14 → ⊥) R cs
   -- the pairs told are those of demand 2's definition, from the start set on
-  pub tells : openPairs L ++ wordsOf (opened L) cs ≡ pairsOf L (bytesOf (opened L) cs)
-  pub frontier : frontierOf (after (opened L) cs) ≡ run (plain L) (start L) (bytesOf (opened L) cs)
-  pub offset : offsetOf (after (opened L) cs) ≡ length (bytesOf (opened L) cs)
+  pub tells : openPairs L ++ wordsOf R cs ≡ pairsOf L (bytesOf R cs)
+  pub frontier : frontierOf (after R cs) ≡ run (plain L) (start L) (bytesOf R cs)
+  pub offset : offsetOf (after R cs) ≡ length (bytesOf R cs)
   -- the rows read are the active parts before each byte, summed, and at most b for each byte
-  pub rows : rowsOf (after (opened L) cs) ≡ costs (activeParts L T) (start L) (bytesOf (opened L) cs)
-  pub ceiling : rowsOf (after (opened L) cs) ≤ b * length (bytesOf (opened L) cs)
+  pub rows : rowsOf (after R cs) ≡ costs (activeParts L T) (start L) (bytesOf R cs)
+  pub ceiling : rowsOf (after R cs) ≤ b * length (bytesOf R cs)
