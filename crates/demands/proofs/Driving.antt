@@ -100,7 +100,7 @@ all-said L via R (k ∷ ks) h = (rw (h .0 .all, h .0 .refusal, h .0 .bytes) (out
 
 -- ---- an opening that answers 0 leaves the opened record
 
-opens-0 : (L R : List ℕ) (n : ℕ) (Q : List ℕ) → Opens L R n Q → n ≡ 0 → Q ≡ opened L
+pub opens-0 : (L R : List ℕ) (n : ℕ) (Q : List ℕ) → Opens L R n Q → n ≡ 0 → Q ≡ opened L
 opens-0 L R n Q o z = o .saved ∙ rw (eq-eqb (openRefusal L R) 0 (sym (o .refusal) ∙ z))
 
 -- ---- demand 1
@@ -156,7 +156,7 @@ plainly-all : (L R : List ℕ) (ks : List Kept) → Each (Plainly L) R (callsOf 
 plainly-all L R [] = tt
 plainly-all L R (k ∷ ks) = (λ v. (refl, refl), plainly-all L _ ks)
 
-plain-kept : (L R : List ℕ) (ks : List Kept) → Bytes R → InBytes (callsOf (made L byList ks)) → Promised R (made L byList ks)
+pub plain-kept : (L R : List ℕ) (ks : List Kept) → Bytes R → InBytes (callsOf (made L byList ks)) → Promised R (made L byList ks)
     → PlainKept L R (seen ks) (leftBy R (made L byList ks))
 plain-kept L R ks hR hb hp =
     let ms = made L byList ks in
@@ -221,7 +221,7 @@ through-all : (L : List ℕ) (b : ℕ) (T : Table) (R : List ℕ) (ks : List Kep
 through-all L b T R [] = tt
 through-all L b T R (k ∷ ks) = (λ v. (refl, refl), through-all L b T _ ks)
 
-split-kept : (L : List ℕ) (b : ℕ) (T : Table) → tableRefusal L b T ≡ 0 → (ks : List Kept) → InBytes (callsOf (made L (byTable b T) ks))
+pub split-kept : (L : List ℕ) (b : ℕ) (T : Table) → tableRefusal L b T ≡ 0 → (ks : List Kept) → InBytes (callsOf (made L (byTable b T) ks))
     → Promised (opened L) (made L (byTable b T) ks) → SplitKept L b T (seen ks) (leftBy (opened L) (made L (byTable b T) ks))
 split-kept L b T ok ks hb hp =
     let ms = made L (byTable b T) ks in

@@ -8,3 +8,4 @@ pub mod Instance
 pub mod Saying
 pub mod Made
 pub mod Driving
+pub mod Turns

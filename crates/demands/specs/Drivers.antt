@@ -1,6 +1,6 @@
 -- What the drivers promise: the demands said of the numbers that the code answered and the buffers that it left.
 use Prim.Native.Nat.{ℕ, zero, suc, _+_, _*_, _≤_, _<_}
-use mathlib.Core.Bool.{Bool, true, false}
+use mathlib.Core.Bool.{Bool, true, false, cond}
 use mathlib.Core.List.{List, [], _∷_, _++_}
 use mathlib.Core.Logic.{_↔_}
 use mathlib.Core.Path.{_≡_}
@@ -10,7 +10,8 @@ use Rattle.rules.specs.Rules.{verdict, number, Given, Refuses}
 use Rattle.lists.specs.List.{listRefusal}
 use Rattle.lists.specs.Automaton.{start, accepted}
 use Rattle.feeds.specs.Pairs.{Pair, Before}
-use Rattle.feeds.specs.Engine.{run, costs, told, room}
+use Rattle.feeds.specs.Engine.{Engine, run, costs, told, room}
+use Rattle.feeds.specs.Calls.{Bytes}
 use Rattle.feeds.specs.Fed.{Answers}
 use Rattle.feeds.specs.declared.Fed.{Fed}
 use Rattle.flows.specs.Flow.{frontierOf, offsetOf, rowsOf, feedRules}
@@ -157,3 +158,34 @@ pub record SplitDriven (L : List ℕ) (b : ℕ) (T : Table) (R : List ℕ) (list
   pub opens : answer ≡ openRefusal L R
   pub answered : Answered L (byTable b T) (openSaved L R) ss Q
   pub kept : checked ≡ 0 → answer ≡ 0 → SplitKept L b T ss Q
+
+-- ---- any number of feeds, in a loop
+
+-- through the table where the flag says so, else plain
+abbrev pub viaBy : Bool → ℕ → Table → Via
+viaBy flag b T = cond flag (byTable b T) byList
+
+-- one feed of such a loop, by the record R, from byte n of the stream and word w of `out`: what is consumed and told goes behind what was, and Q is left
+pub record Turn (L : List ℕ) (via : Via) (R stream : List ℕ) (n : ℕ) (out : List ℕ) (w : ℕ) (f : Fed) (words Q : List ℕ) : Type 0 where
+  pub fed : Seen
+  pub answers : Answers (outcome R (callOf L via fed)) (fed .fed) (fed .words) Q
+  pub in-bytes : Bytes (fed .piece)
+  pub eats : take (n + f .bytes) stream ≡ take n stream ++ take (fed .fed .bytes) (fed .piece)
+  pub tells : take (w + 2 * f .pairs) words ≡ take w out ++ take (2 * fed .fed .pairs) (fed .words)
+  pub short : n + f .bytes ≤ length stream
+  pub fits : w + 2 * f .pairs ≤ length words
+
+-- the bytes bs consumed and the words ws told by a flow opened on L, and its record Q, where a byte costs the rows of E
+pub record CutsKept (L : List ℕ) (E : Engine ℕ) (bs ws Q : List ℕ) : Type 0 where
+  pub tells : openPairs L ++ ws ≡ pairsOf L bs
+  pub frontier : frontierOf Q ≡ run (plain L) (start L) bs
+  pub offset : offsetOf Q ≡ length bs
+  pub rows : rowsOf Q ≡ costs E (start L) bs
+
+-- the checks and the opening as before; then the feeds, plain or through T
+pub record CutsDriven (L : List ℕ) (b : ℕ) (T : Table) (R : List ℕ) (flag : Bool) (listed checked answer : ℕ) (bs ws Q : List ℕ) : Type 0 where
+  pub lists : listed ≡ listRefusal L
+  pub tables : checked ≡ tableRefusal L b T
+  pub opens : answer ≡ openRefusal L R
+  pub plainly : flag ≡ false → answer ≡ 0 → CutsKept L (plain L) bs ws Q
+  pub through : flag ≡ true → checked ≡ 0 → answer ≡ 0 → CutsKept L (activeParts L T) bs ws Q × (rowsOf Q ≤ b * length bs)

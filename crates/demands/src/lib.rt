@@ -1,10 +1,14 @@
 // The drivers: code for no user. Each calls the entry points as a caller would, and promises a demand of what they answered and left.
 use feeds::Fed;
+ghost use Prim.Native.Nat.{_≤_};
 ghost use mathlib.Core.List.{[], _∷_};
+ghost use lib.ListN.{length, take};
 ghost use Rattle.rules.specs.Rules.{Refuses};
 ghost use Rattle.lists.specs.List.{listRules};
 ghost use Rattle.tables.specs.Table.{table, tableRules};
-ghost use Rattle.demands.specs.Drivers.{sight, OpenKept, FeedKept, SplitFeedKept, PlainDriven, SplitDriven};
+ghost use Rattle.feeds.specs.Fed.{Answers};
+ghost use Rattle.demands.specs.Calls.{outcome};
+ghost use Rattle.demands.specs.Drivers.{sight, callOf, OpenKept, FeedKept, SplitFeedKept, PlainDriven, SplitDriven, viaBy, Turn, CutsDriven};
 
 // What the calls of `drive_each` answered: the two checks, the opening, and both feeds.
 struct DroveEach {
@@ -178,5 +182,166 @@ fn drive_split(
         opened: opened,
         first: first,
         second: second,
+    }
+}
+
+// What the calls of `drive_cuts` answered: the two checks and the opening; and the bytes consumed and the words told by all feeds.
+struct DroveCuts {
+    listed: u32,
+    checked: u32,
+    opened: u32,
+    bytes: usize,
+    words: usize,
+}
+
+// The number at a place; past the end that is 0.
+fn number_at(numbers: &[usize], i: usize) -> usize {
+    if i < numbers.len() { numbers[i] } else { 0 }
+}
+
+// The number, or the nearest to it of those from `low` to `high`.
+fn within(low: usize, x: usize, high: usize) -> usize
+    requires { ⌜ low ≤ high ⌝ }
+    ensures { λ r. ⌜ (low ≤ r) × (r ≤ high) ⌝ }
+{
+    if x < low {
+        return low;
+    }
+    if high < x {
+        return high;
+    }
+    x
+}
+
+// Feeds a piece through the table where the flag says so, else plain.
+fn feed_by(
+    list: &[u8],
+    bound: u64,
+    classes: &[u8],
+    parts: &[u8],
+    rows: &[u8],
+    splits: &[u8],
+    through: bool,
+    flow: &mut [u8],
+    start: u64,
+    piece: &[u8],
+    pairs: &mut [u32],
+) -> Fed
+    ensures { λ r. ⌜ Answers (outcome (now (flow .entry)) (callOf (now (list .entry))
+        (viaBy through bound (table (now (classes .entry)) (now (parts .entry)) (now (rows .entry)) (now (splits .entry))))
+        (sight start (now (piece .entry)) (now (pairs .entry)) r (now (pairs .exit))))) r (now (pairs .exit)) (now (flow .exit)) ⌝ }
+{
+    if through {
+        return splits::feed(
+            list,
+            bound,
+            classes,
+            parts,
+            rows,
+            splits,
+            flow,
+            start,
+            piece,
+            pairs,
+        );
+    }
+    plain::feed(list, flow, start, piece, pairs)
+}
+
+// Feeds bytes n to e of a stream, with words w to v.
+fn feed_part(
+    list: &[u8],
+    bound: u64,
+    classes: &[u8],
+    parts: &[u8],
+    rows: &[u8],
+    splits: &[u8],
+    through: bool,
+    flow: &mut [u8],
+    start: u64,
+    stream: &[u8],
+    n: usize,
+    e: usize,
+    pairs: &mut [u32],
+    w: usize,
+    v: usize,
+) -> Fed
+    requires { ⌜ (n ≤ e) × (e ≤ length (now stream)) × (w ≤ v) × (v ≤ length (now pairs)) ⌝ }
+    ensures { λ r. ⌜ Turn (now (list .entry))
+        (viaBy through bound (table (now (classes .entry)) (now (parts .entry)) (now (rows .entry)) (now (splits .entry))))
+        (now (flow .entry)) (now (stream .entry)) n (now (pairs .entry)) w r (now (pairs .exit)) (now (flow .exit)) ⌝ }
+{
+    feed_by(
+        list,
+        bound,
+        classes,
+        parts,
+        rows,
+        splits,
+        through,
+        flow,
+        start,
+        &stream[n..e],
+        &mut pairs[w..v],
+    )
+}
+
+// Demands 2 and 3 over any number of feeds: checks a list and a table, opens a flow, and feeds it a stream, through the table or plain.
+// Each feed states the start that a list of starts says, ends at the byte that a list of cuts says, and has words up to where a list of rooms says.
+// One that is refused consumes nothing, and the next goes on from the same byte.
+fn drive_cuts(
+    list: &[u8],
+    bound: u64,
+    classes: &[u8],
+    parts: &[u8],
+    rows: &[u8],
+    splits: &[u8],
+    through: bool,
+    flow: &mut [u8],
+    starts: &[usize],
+    cuts: &[usize],
+    rooms: &[usize],
+    stream: &[u8],
+    pairs: &mut [u32],
+) -> DroveCuts
+    ensures { λ r. ⌜ CutsDriven (now (list .entry)) bound (table (now (classes .entry)) (now (parts .entry)) (now (rows .entry)) (now (splits .entry)))
+        (now (flow .entry)) through (r .listed) (r .checked) (r .opened)
+        (take (r .bytes) (now (stream .entry))) (take (r .words) (now (pairs .exit))) (now (flow .exit)) ⌝ }
+{
+    let listed = lists::check_list(list);
+    let checked = tables::check_table(list, bound, classes, parts, rows, splits);
+    let opened = plain::open_flow(list, flow);
+    let mut n = 0usize;
+    let mut w = 0usize;
+    for i in 0..cuts.len() {
+        let e = within(n, cuts[i], stream.len());
+        let v = within(w, number_at(rooms, i), pairs.len());
+        let start = number_at(starts, i) as u64;
+        let fed = feed_part(
+            list,
+            bound,
+            classes,
+            parts,
+            rows,
+            splits,
+            through,
+            flow,
+            start,
+            stream,
+            n,
+            e,
+            pairs,
+            w,
+            v,
+        );
+        n = n + fed.bytes;
+        w = w + 2 * fed.pairs;
+    }
+    DroveCuts {
+        listed: listed,
+        checked: checked,
+        opened: opened,
+        bytes: n,
+        words: w,
     }
 }
