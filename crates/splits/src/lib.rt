@@ -158,8 +158,7 @@ fn feed_bytes(
     for i in 0..piece.len() {
         let f = ran.frontier;
         let t = split_step(classes, parts, rows, splits, k, bound, f, piece[i]);
-        let halts = t.halts;
-        if halts {
+        if t.halts {
             ran.refusal = HALTED;
             return ran;
         }
@@ -172,8 +171,7 @@ fn feed_bytes(
         if next.meets(accepting) {
             told = flows::tell_accepted(list, next, pairs, ran.words, at);
         }
-        let fits = told.fits;
-        if !fits {
+        if !told.fits {
             return ran;
         }
         let bytes = i + 1;

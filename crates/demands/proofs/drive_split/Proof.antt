@@ -4,29 +4,29 @@ use Rattle.demands.proofs.Driving.{split-driven}
 use Rattle.demands.proofs.drive_split.Statement.{statement}
 use Rattle.demands.proofs.drive_split.Tie as tie
 
-check-list-requires : tie.Need-check-list-requires
-check-list-requires c κs = search needs
-
-check-table-requires : tie.Need-check-table-requires
-check-table-requires c κs = search needs
-
-open-flow-requires : tie.Need-open-flow-requires
-open-flow-requires c κs = search needs
-
-feed-requires : tie.Need-feed-requires
-feed-requires c κs = search needs
-
-feed-requires-2 : tie.Need-feed-requires-2
-feed-requires-2 c κs = search needs
-
-same-length : tie.Need-same-length
-same-length c = search needs
+same-length-3 : tie.Need-same-length-3
+same-length-3 c = search needs
 
 same-length-2 : tie.Need-same-length-2
 same-length-2 c = search needs
 
-same-length-3 : tie.Need-same-length-3
-same-length-3 c = search needs
+same-length : tie.Need-same-length
+same-length c = search needs
+
+feed-requires-2 : tie.Need-feed-requires-2
+feed-requires-2 c κs = search needs
+
+feed-requires : tie.Need-feed-requires
+feed-requires c κs = search needs
+
+open-flow-requires : tie.Need-open-flow-requires
+open-flow-requires c κs = search needs
+
+check-table-requires : tie.Need-check-table-requires
+check-table-requires c κs = search needs
+
+check-list-requires : tie.Need-check-list-requires
+check-list-requires c κs = search needs
 
 returns : tie.Need-returns
 returns c =

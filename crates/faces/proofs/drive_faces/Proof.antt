@@ -4,21 +4,6 @@ use Rattle.faces.proofs.Facing.{held-so}
 use Rattle.faces.proofs.drive_faces.Statement.{statement}
 use Rattle.faces.proofs.drive_faces.Tie as tie
 
-watch-check-list-requires : tie.Need-watch-check-list-requires
-watch-check-list-requires c κs = search needs
-
-watch-check-table-requires : tie.Need-watch-check-table-requires
-watch-check-table-requires c κs = search needs
-
-watch-open-requires : tie.Need-watch-open-requires
-watch-open-requires c κs = search needs
-
-watch-feed-requires : tie.Need-watch-feed-requires
-watch-feed-requires c κs = search needs
-
-watch-split-feed-requires : tie.Need-watch-split-feed-requires
-watch-split-feed-requires c κs = search needs
-
 same-length : tie.Need-same-length
 same-length c = search needs
 
@@ -33,6 +18,21 @@ same-length-4 c = search needs
 
 same-length-5 : tie.Need-same-length-5
 same-length-5 c = search needs
+
+watch-check-list-requires : tie.Need-watch-check-list-requires
+watch-check-list-requires c κs = search needs
+
+watch-check-table-requires : tie.Need-watch-check-table-requires
+watch-check-table-requires c κs = search needs
+
+watch-feed-requires : tie.Need-watch-feed-requires
+watch-feed-requires c κs = search needs
+
+watch-open-requires : tie.Need-watch-open-requires
+watch-open-requires c κs = search needs
+
+watch-split-feed-requires : tie.Need-watch-split-feed-requires
+watch-split-feed-requires c κs = search needs
 
 returns : tie.Need-returns
 returns c =

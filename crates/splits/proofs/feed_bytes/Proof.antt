@@ -137,33 +137,33 @@ tell-accepted-requires c κs = words-fit (head (c .before .before .before .befor
 
 same-length-2 : tie.Need-same-length-2 Inv-loop μ-loop
 same-length-2 c =
-    let free = stepped (c .before) in
-    length-kept (stops (head (free .before) .loop .inv .0) (to-come (free .before)) (told (c .before)) (alerts free) (not-true _ (c .if3 .taken)) .1)
+    let free = stepped (c .before .before) in
+    length-kept (stops (head (free .before) .loop .inv .0) (to-come (free .before)) (told (c .before .before)) (alerts free) (not-true _ (c .if3 .taken)) .1)
 
 returns-2 : tie.Need-returns-2 Inv-loop μ-loop
 returns-2 c =
-    let free = stepped (c .before) in
+    let free = stepped (c .before .before) in
     let step = free .before in
     let l = head step .loop in
-    let s = stops (l .inv .0) (to-come step) (told (c .before)) (alerts free) (not-true _ (c .if3 .taken)) in
+    let s = stops (l .inv .0) (to-come step) (told (c .before .before)) (alerts free) (not-true _ (c .if3 .taken)) in
     leaves _ (s .1) (l .inv .1) (s .0)
     (l .inv .2 ∙ refused-free (l .i) (length (entry (head step) .args .piece .now)) _ (sym (step .split-step .ensures .halts) ∙ free .if1 .left))
 
 add-bytes : tie.Need-add-bytes Inv-loop μ-loop
-add-bytes c = omega (arith, offset-fits (stepped (c .before) .before))
+add-bytes c = omega (arith, offset-fits (stepped (c .before .before) .before))
 
 add-spent : tie.Need-add-spent Inv-loop μ-loop
-add-spent c = let free = stepped (c .before .before .before) in omega (arith, few (head (free .before)), cost free, offset-fits (free .before))
+add-spent c = let free = stepped (c .before .before .before .before) in omega (arith, few (head (free .before)), cost free, offset-fits (free .before))
 
 add-i : tie.Need-add-i Inv-loop μ-loop
-add-i c = omega (arith, offset-fits (stepped (c .before .before .before) .before))
+add-i c = omega (arith, offset-fits (stepped (c .before .before .before .before) .before))
 
 loop-less : tie.Need-loop-less Inv-loop μ-loop
 loop-less c = search needs
 
 loop-again : tie.Need-loop-again Inv-loop μ-loop
 loop-again c =
-    let joined = c .before .before .before in
+    let joined = c .before .before .before .before in
     let free = stepped joined in
     let step = free .before in
     let s = step .split-step .ensures in
