@@ -1,5 +1,5 @@
 // The program as a library: it reads rules.bin and standard input, feeds the flow, and writes a line for each pair.
-// A write that fails stops nothing: the program goes on to its end, and its exit status does not tell.
+// From the first write that is not whole on it writes nothing more, so that output without its last line has lost something.
 ghost use mathlib.Core.Path.{_≡_};
 ghost use Prim.Native.Nat.{_+_, _*_, _≤_, _<_};
 ghost use mathlib.Core.List.{[], _∷_};
@@ -18,7 +18,10 @@ const DIGITS: usize = 20;
 // Bytes of a piece of the input.
 const PIECE: usize = 4096;
 
-// How the flow stands: a refusal's number or 0, and the offset.
+// In the place of a refusal's number: a write was not whole, so that nothing more is to be written.
+const LOST: u32 = 4294967295;
+
+// How the flow stands: a refusal's number, 0 or `LOST`, and the offset.
 struct Stand {
     refusal: u32,
     offset: u64,
@@ -85,13 +88,13 @@ fn put_pairs(text: &mut [u8], out: &[u32], n: usize) -> usize
     at
 }
 
-// Writes the lines of the first n pairs in one call; no pairs, no call.
-fn tell(out: &[u32], n: usize)
+// Writes the lines of the first n pairs, and says whether all of them were written.
+fn tell(out: &[u32], n: usize) -> bool
     requires { ⌜ (2 * n ≤ length (now out)) × (2 * n ≤ pairWords) ⌝ }
 {
     let mut text = io::large_buffer();
     let end = put_pairs(&mut text, out, n);
-    io::write_all(1, &text[..end]);
+    io::write_all(1, &text[..end])
 }
 
 // Feeds what is left of a piece once, and tells its pairs.
@@ -101,7 +104,12 @@ fn feed_some(list: &[u8], flow: &mut [u8], offset: u64, rest: &[u8]) -> Stand
 {
     let mut out = [0u32; PAIR_WORDS];
     let fed = plain::feed(list, flow, offset, rest, &mut out);
-    tell(&out, fed.pairs);
+    if !tell(&out, fed.pairs) {
+        return Stand {
+            refusal: LOST,
+            offset: offset,
+        };
+    }
     if fed.refusal != rules::PASSED {
         return Stand {
             refusal: fed.refusal,
@@ -187,16 +195,25 @@ fn read_rules(list: &mut [u8]) -> usize
     n
 }
 
-// Writes the last line: a word, a space, a number, a line feed.
-fn finish(s: Stand) {
-    if s.refusal != rules::PASSED {
-        io::write_all(1, b"refused ");
-        io::print_decimal(1, s.refusal as u64);
-    } else {
-        io::write_all(1, b"end ");
-        io::print_decimal(1, s.offset);
+// Writes a word, a number and a line feed, each only where all before it was written.
+fn write_last(word: &[u8], n: u64) {
+    if io::write_all(1, word) {
+        if io::print_decimal(1, n) {
+            io::write_all(1, b"\n");
+        }
     }
-    io::write_all(1, b"\n");
+}
+
+// Writes the last line: `refused` and the number, or `end` and the offset; nothing where a write before it was not whole.
+fn finish(s: Stand) {
+    if s.refusal == LOST {
+        return;
+    }
+    if s.refusal != rules::PASSED {
+        write_last(b"refused ", s.refusal as u64);
+    } else {
+        write_last(b"end ", s.offset);
+    }
 }
 
 // Watches standard input by a list, which is refused before any input is read.

@@ -29,26 +29,34 @@ same-length c = search needs
 returns : tie.Need-returns
 returns c = search needs
 
--- the way back to the entry
-abbrev entry : tie.Else1 → tie.Start
-entry c = c .before .before .before .before .before .before .before .before .before .before .before .before .before
-
--- no refusal: the flow moves
-moved : (c : tie.Else1)
-    → let a = entry c .args in
-    Step (a .offset) (length (a .rest .now)) 0 (a .offset + c .before .before .before .before .before .before .before .feed .result .bytes)
-moved c =
-    let a = entry c .args in
-    moves (a .list .now) (a .flow .now) (a .offset) (a .rest .now) _ _ _ _ (c .before .before .before .before .before .before .before .feed .ensures) (c .if1 .left) (omega arith)
-
-add-t16 : tie.Need-add-t16
-add-t16 c = let m = moved c in search (needs, m .2)
-
 same-length-2 : tie.Need-same-length-2
 same-length-2 c = search needs
 
 returns-2 : tie.Need-returns-2
-returns-2 c = moved c
+returns-2 c = search needs
+
+-- the way back to the feed, and to the entry
+abbrev after-feed : tie.Else2 → tie.After-feed
+after-feed c = c .before .before .before .before .before .before .before .before
+
+abbrev entry : tie.After-feed → tie.Start
+entry c = c .before .before .before .before .before .before
+
+-- no refusal: the flow moves
+moved : (c : tie.Else2)
+    → let a = entry (after-feed c) .args in Step (a .offset) (length (a .rest .now)) 0 (a .offset + after-feed c .feed .result .bytes)
+moved c =
+    let a = entry (after-feed c) .args in
+    moves (a .list .now) (a .flow .now) (a .offset) (a .rest .now) _ _ _ _ (after-feed c .feed .ensures) (c .if2 .left) (omega arith)
+
+add-t16 : tie.Need-add-t16
+add-t16 c = let m = moved c in search (needs, m .2)
+
+same-length-3 : tie.Need-same-length-3
+same-length-3 c = search needs
+
+returns-3 : tie.Need-returns-3
+returns-3 c = moved c
 
 pub feed-some-spec : {M : Type 1} → statement M
 feed-some-spec =
@@ -60,6 +68,8 @@ feed-some-spec =
     tell-requires
     same-length
     returns
-    add-t16
     same-length-2
-    returns-2)
+    returns-2
+    add-t16
+    same-length-3
+    returns-3)
