@@ -91,8 +91,7 @@ def length_faults(table):
         if length % size:
             out.append("%s has %d bytes, no multiple of %d" % (name, length, size))
         elif not size <= length <= most * size:
-            out.append("there are %s, and 1 to %d may be" % (
-                saying.many(length // size, name[:-1]), most))
+            out.append("%s has %d records, and 1 to %d may be" % (name, length // size, most))
     if not out:
         parts, width = len(table.parts) // SET_SIZE, max(table.classes) + 1
         if len(table.rows) != parts * width * SET_SIZE:
@@ -138,7 +137,8 @@ def where_9(table, bound):
     for at, split in enumerate(table.splits):
         wrong = split_faults(split, before, len(table.parts), bound)
         if wrong:
-            return "split %d, %s, has %s" % (at, saying.members(split.members), "; and ".join(wrong))
+            return "split %d, %s, has %s" % (
+                at, saying.members(split.members), "; and ".join(wrong))
         before = split
     return ""
 

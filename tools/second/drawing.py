@@ -120,8 +120,9 @@ def bent(x, y, to_x, to_y, bend):
     mid_x, mid_y = (x + to_x) / 2 + over_x * bend * 2, (y + to_y) / 2 + over_y * bend * 2
     from_x, from_y = toward(x, y, mid_x, mid_y, RADIUS)
     end_x, end_y = toward(to_x, to_y, mid_x, mid_y, RADIUS + 2)
+    peak_x, peak_y = (from_x + 2 * mid_x + end_x) / 4, (from_y + 2 * mid_y + end_y) / 4
     return ("M%.1f %.1f Q%.1f %.1f %.1f %.1f" % (from_x, from_y, mid_x, mid_y, end_x, end_y),
-            ((x + to_x) / 2 + over_x * (bend + 8), (y + to_y) / 2 + over_y * (bend + 8) + 4))
+            (peak_x + over_x * 10, peak_y + over_y * 9 + 4))
 
 
 def between_bands(x, y, to_x, to_y):
@@ -163,13 +164,15 @@ def state_shapes(state, x, y, reached, signatures):
 
 
 def arrow_shapes(place, between):
-    out = []
+    """Arrows, and their labels with a white border, which stand over all else."""
+    arrows, labels = [], []
     for source, target in sorted(between):
         path, (x, y) = arrow(place, source, target, (target, source) in between)
-        out.append('<path d="%s" fill="none" stroke="#357" marker-end="url(#tip)"/>' % path)
-        out.append('<text x="%.1f" y="%.1f" fill="#357">%s</text>'
-                   % (x, y, escaped(label(between[source, target]))))
-    return out
+        arrows.append('<path d="%s" fill="none" stroke="#357" marker-end="url(#tip)"/>' % path)
+        labels.append('<text x="%.1f" y="%.1f">%s</text>'
+                      % (x, y, escaped(label(between[source, target]))))
+    return arrows, (['<g fill="#357" stroke="#fff" stroke-width="3" paint-order="stroke">']
+                    + labels + ["</g>"])
 
 
 def picture(data):
@@ -186,13 +189,15 @@ def picture(data):
            "<title>The automaton of a signature list: states, and the bytes that lead from one"
            " to another</title>",
            '<defs><marker id="tip" viewBox="0 0 8 8" refX="7" refY="4" markerWidth="7"'
-           ' markerHeight="7" orient="auto"><path d="M0 0 L8 4 L0 8 z" fill="#357"/></marker></defs>',
+           ' markerHeight="7" orient="auto"><path d="M0 0 L8 4 L0 8 z" fill="#357"/></marker>'
+           "</defs>",
            '<rect width="%d" height="%d" fill="#fff"/>' % (width, height)]
-    out += arrow_shapes(place, between)
+    arrows, labels = arrow_shapes(place, between)
+    out += arrows
     for state in sorted(place):
         _, x, y = place[state]
         if state in nfa.starts:
             out.append('<path d="M%d %d h%d" stroke="#357" marker-end="url(#tip)"/>'
                        % (x - RADIUS - 26, y, 24))
         out += state_shapes(state, x, y, reached, nfa.signatures({state}))
-    return "\n".join(out + ["</svg>", ""])
+    return "\n".join(out + labels + ["</svg>", ""])

@@ -1,4 +1,4 @@
-"""Which states, signatures, splits and parts of a good list or table can ever matter. Not proved."""
+"""Which states, signatures, splits and parts of a good list or table ever matter. Not proved."""
 
 from collections import deque
 
