@@ -72,7 +72,8 @@ def state_lines(nfa):
         out.append("signature %d is told at the soonest at offset %d, after %s"
                    % (signature, len(text), saying.text(text)))
     if len(soonest) > LONG_SOONEST:
-        out.append("and so are %s more" % saying.many(len(soonest) - LONG_SOONEST, "signature"))
+        out.append("... and %s can be told" % saying.many(
+            len(soonest) - LONG_SOONEST, "further signature"))
     return out
 
 
