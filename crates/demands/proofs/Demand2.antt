@@ -5,12 +5,12 @@ use mathlib.Core.Bool.{true, false, not, true≢false}
 use mathlib.Core.List.{List, [], _∷_}
 use mathlib.Core.Logic.{_↔_}
 use native.Mathlib.Omega.{arith}
-use native.Mathlib.Nat.{mul-add}
+use native.Mathlib.Nat.{mul-add, zero-add}
 use lib.ListN.{length, take}
 use borrow.Author.Tests.{eq-eqb}
 use Rattle.sets.specs.Set.{states, signatures, holds}
 use Rattle.rules.specs.Rules.{verdict}
-use Rattle.lists.specs.Automaton.{accepted}
+use Rattle.lists.specs.Automaton.{start, accepted}
 use Rattle.lists.proofs.Steps.{accepted-exactly}
 use Rattle.feeds.specs.Pairs.{Pair}
 use Rattle.feeds.specs.Engine.{Engine, room, run, costs, told, consumed, ended, refused}
@@ -88,6 +88,15 @@ told-due L F k bs g o =
     let e = told-exactly (plain L) F k bs g o in (
       λ p. let w = e .0 p in (w .0, w .1, w .2, rw (run-more (plain L) F bs (w .0) (w .1)) (w .4)),
       λ w. let q = rw (run-more (plain L) F bs (w .0) (w .1)) at (w .3) in e .1 (w .0, w .1, w .2, accepted-below L _ g q, q),
+    )
+
+-- the pairs that the automaton tells from the start set on: from offset 1 on
+pub told-start : (L bs : List ℕ) (g k : ℕ) → Pair (told (plain L) (start L) 0 bs) g k
+    ↔ ((n : ℕ) × (n < length bs) × (k ≡ suc n) × (holds (accepted L (run (plain L) (start L) (take (suc n) bs))) g ≡ true))
+told-start L bs g k =
+    let e = told-due L (start L) 0 bs g k in (
+      λ p. let w = e .0 p in (w .0, w .1, w .2 ∙ zero-add (suc (w .0)), w .3),
+      λ w. e .1 (w .0, w .1, w .2 ∙ sym (zero-add (suc (w .0))), w .3),
     )
 
 pub demand-2 : (L R : List ℕ) (cs : List Call) → Bytes R → InBytes cs → Each (Plainly L) R cs → Demand2 L R cs

@@ -23,9 +23,9 @@ use Rattle.tables.specs.Table.{Table, tableRefusal}
 use Rattle.tables.proofs.Accepted.{accepted}
 use Rattle.splits.specs.Split.{split, taken}
 use Rattle.demands.specs.Calls.{Via, byList, byTable, Call, engineOf, rulesOf, asked, allAsked, outcome}
-use Rattle.demands.specs.Demands.{InBytes, Each, Through, activeParts, Demand3}
+use Rattle.demands.specs.Demands.{InBytes, Each, Through, bytesOf, activeParts, Demand3}
 use Rattle.demands.proofs.Engines.{call-passes, rows-few, cost-most, AtSplit, split-follows, split-few}
-use Rattle.demands.proofs.Demand2.{in-bytes, each-along, along-each}
+use Rattle.demands.proofs.Demand2.{in-bytes, each-along, along-each, told-start}
 
 -- ---- the record that opening leaves
 
@@ -85,6 +85,7 @@ module _ (L : List ℕ) (b : ℕ) (T : Table) (ok : tableRefusal L b T ≡ 0) wh
             along-each (λ Q c. outcome Q c .refusal ≡ 14 → ⊥) (λ Q a. answer flowLayout Q a .refusal ≡ verdict (a .rules Q))
             (λ Q c e z. omega (arith, below-14 (c .via) (c .list) Q (c .at) (c .piece), sym e ∙ z)) R cs rules;
         tells = rw (opened-offset L) at (w .tells);
+        due = λ g k. rw (rw (opened-offset L) at (w .tells)) (told-start L (bytesOf R cs) g k);
         frontier = w .related .0;
         offset = w .moved ∙ rw (opened-offset L) (omega arith);
         rows = n ∙ same;

@@ -177,6 +177,9 @@ pub record Demand3 (L : List ℕ) (b : ℕ) (T : Table) (R : List ℕ) (cs : Lis
   pub never-14 : Each (λ Q c. outcome Q c .refusal ≡ 14 → ⊥) R cs
   -- the pairs told are those of demand 2's definition, from the start set on
   pub tells : openPairs L ++ wordsOf R cs ≡ pairsOf L (bytesOf R cs)
+  -- in the automaton's words: (g, k) is told exactly when k is the offset after one of the bytes, from 1 on, and a state of the frontier there accepts g
+  pub due : (g k : ℕ) → Pair (openPairs L ++ wordsOf R cs) g k
+      ↔ ((n : ℕ) × (n < length (bytesOf R cs)) × (k ≡ suc n) × (holds (accepted L (run (plain L) (start L) (take (suc n) (bytesOf R cs)))) g ≡ true))
   pub frontier : frontierOf (after R cs) ≡ run (plain L) (start L) (bytesOf R cs)
   pub offset : offsetOf (after R cs) ≡ length (bytesOf R cs)
   -- the rows read are the active parts before each byte, summed, and at most b for each byte

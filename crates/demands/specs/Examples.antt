@@ -9,7 +9,7 @@ use Rattle.lists.specs.List.{mostRecords, listRefusal}
 use Rattle.feeds.specs.Engine.{Outcome, mostOffset}
 use Rattle.flows.specs.Flow.{flowBytes, rowsOf}
 use Rattle.plain.specs.Plain.{opened, openRefusal, openSaved}
-use Rattle.tables.specs.Table.{Table, mostClass, mostParts, mostSplits, mostBound, tableRefusal}
+use Rattle.tables.specs.Table.{Table, table, mostClass, mostParts, mostSplits, mostBound, tableRefusal}
 use Rattle.demands.specs.Calls.{Via, byList, byTable, outcome}
 
 -- a row: what a definition gives, and what the example says
@@ -58,15 +58,12 @@ s01 = splitOf₂ 3 0 1
 abbrev pub s02 : List ℕ
 s02 = splitOf₂ 5 0 2
 
--- classes 1 for a, 2 for b, else 0; parts {0}, {1}, {2}; rows {0} {0,1} {0}, {} {} {2}, {} {} {}
+-- classes 1 for a, 2 for b, else 0; parts {0}, {1}, {2}; rows as given, {0} {0,1} {0}, {} {} {2}, {} {} {} in T
+abbrev pub tableBy : List ℕ → List ℕ → Table
+tableBy rows splits = table (replicate 97 0 ++ (1 ∷ 2 ∷ replicate 157 0)) (setsOf (1 ∷ 2 ∷ 4 ∷ [])) (setsOf rows) splits
+
 abbrev pub tableOf : List ℕ → Table
-tableOf splits =
-    record {
-      classes = replicate 97 0 ++ (1 ∷ 2 ∷ replicate 157 0);
-      parts = setsOf (1 ∷ 2 ∷ 4 ∷ []);
-      rows = setsOf (1 ∷ 3 ∷ 1 ∷ 0 ∷ 0 ∷ 4 ∷ 0 ∷ 0 ∷ 0 ∷ []);
-      splits = splits;
-    }
+tableOf splits = tableBy (1 ∷ 3 ∷ 1 ∷ 0 ∷ 0 ∷ 4 ∷ 0 ∷ 0 ∷ 0 ∷ []) splits
 
 abbrev pub T₃ : Table
 T₃ = tableOf (s0 ++ (s01 ++ s02))
@@ -156,6 +153,8 @@ feedRows =
     ∷ (splitABAB 2 (s0 ++ s01) 4 .words, 7 ∷ 2 ∷ 0 ∷ 0 ∷ 0 ∷ 0 ∷ 0 ∷ 0 ∷ [])
     ∷ (splitABAB 2 (s0 ++ s01) 4 .saved, flowBytes 5 2 3)
     ∷ (answered (splitABAB 2 (s0 ++ s01) 0), 0 ∷ 1 ∷ 0 ∷ 0 ∷ [])
+    -- T with the row {0} in place of {0,1}, fed "ab": the feed goes by the rows, so that nothing is told; the check gives 10 for such a table
+    ∷ (fed (byTable 2 (tableBy (1 ∷ 1 ∷ 1 ∷ 0 ∷ 0 ∷ 4 ∷ 0 ∷ 0 ∷ 0 ∷ []) (s0 ++ (s01 ++ s02)))) (opened L) 0 (a ∷ b ∷ []) 2 .saved, flowBytes 1 2 2)
     -- T at bound 1, fed "abab": 14 at the second byte
     ∷ (answered (splitABAB 1 (s0 ++ (s01 ++ s02)) 4), 14 ∷ 1 ∷ 0 ∷ 0 ∷ [])
     ∷ []

@@ -14,7 +14,8 @@ use Rattle.rules.proofs.Scanning.{neither, first-at, first-none, first-found}
 use Rattle.tables.specs.Table.{Table, partCount, splitCount, row, splitSet, slots, takenSlots, allBelow, joined, isSplit, splitOf}
 use Rattle.tables.proofs.Joined.{joined-exactly}
 use Rattle.tables.proofs.Found.{split-exactly}
-use Rattle.splits.specs.Split.{taken, stuck, splitStep}
+use Rattle.lists.specs.Automaton.{accepted}
+use Rattle.splits.specs.Split.{taken, stuck, splitStep, split}
 use Rattle.splits.specs.declared.Taken.{Taken}
 use Rattle.splits.specs.Taken.{TakesSlots, TakesStep}
 use Rattle.splits.proofs.Taking.{taken-most}
@@ -108,3 +109,9 @@ module _ (b : ℕ) (T : Table) (F c i : ℕ) (e : i ≡ splitOf (T .splits) F) w
 pub split-cheap : (T : Table) (F : ℕ) → length (taken T F) ≤ 4
 unfolding taken
 split-cheap T F = taken-most (T .splits) (splitOf (T .splits) F)
+
+-- ---- the engine: a byte moves by the rows, tells what the list accepts there, costs the slots taken, and halts where stuck
+
+pub split-engine : (L : List ℕ) (b : ℕ) (T : Table) (F c : ℕ)
+    → (split L b T .next F c ≡ splitStep T F c) × (split L b T .alerts F c ≡ accepted L (splitStep T F c)) × (split L b T .cost F ≡ length (taken T F)) × (split L b T .halts F ≡ stuck b T F)
+split-engine L b T F c = (refl, refl, refl, refl)

@@ -15,7 +15,11 @@ use Rattle.sets.proofs.Laws.{Small, small-take, digits-num}
 use Rattle.sets.proofs.Sets.{set-at-holds}
 use Rattle.sets.proofs.Bytes.{set-at-past}
 use Rattle.rules.proofs.Scanning.{equal-words}
-use Rattle.tables.specs.Table.{mostParts, splitSize, largest, classCount, partCount, splitCount, part, rowAt, row, splitSet, slot, slots, unusedSlot, inOrder}
+use Rattle.tables.specs.Table.{mostParts, splitSize, largest, classCount, partCount, splitCount, part, rowAt, row, splitSet, slot, slots, unusedSlot, inOrder, table}
+
+-- the lists of a table are those that it is made of, each in its place
+pub table-lists : (C P W S : List ℕ) → (table C P W S .classes ≡ C) × (table C P W S .parts ≡ P) × (table C P W S .rows ≡ W) × (table C P W S .splits ≡ S)
+table-lists C P W S = (refl, refl, refl, refl)
 
 -- ---- how many
 
