@@ -66,6 +66,8 @@
  *     13   for some split and some byte, the automaton's step of the split's set is no split
  *     14   at a byte of a split feed: the frontier is no split, or the slots taken name no part or are more than the bound
  *
+ * Each has a name, WATCH_REFUSED_ and some words, and a sentence that watch_refusal_text gives.
+ *
  * The list check gives 1 to 3; opening 1 to 4; the plain feed 1 to 6; the table check 1 to 3 and 7 to 13; the split feed 1 to 8,
  * and 14 per byte. A refusal 1 to 13 changes no buffer.
  *
@@ -90,6 +92,10 @@
  */
 #ifndef WATCH_H
 #define WATCH_H
+
+#if !defined(__x86_64__) || defined(__ILP32__) || defined(_WIN32) || defined(__CYGWIN__)
+#error "watch.h: libwatch_c.a is for x86-64 and the System V ABI alone; compile for that, with x86_64-linux-gnu-gcc or its like"
+#endif
 
 #include <stdbool.h>
 #include <stddef.h>
@@ -143,11 +149,30 @@ extern "C" {
 /* Bytes in a split: its set, then its slots of two bytes. */
 #define WATCH_SPLIT_SIZE (WATCH_SET_SIZE + 2 * WATCH_SLOTS)
 
+/* The refusals by name, and what is answered where there is none. The functions answer them as numbers. */
+enum watch_refusal {
+    WATCH_PASSED = 0,
+    WATCH_REFUSED_LIST_LENGTH = 1,
+    WATCH_REFUSED_LIST_RECORD = 2,
+    WATCH_REFUSED_NO_START = 3,
+    WATCH_REFUSED_FLOW_RECORD = 4,
+    WATCH_REFUSED_OTHER_START = 5,
+    WATCH_REFUSED_TOO_LONG = 6,
+    WATCH_REFUSED_BOUND = 7,
+    WATCH_REFUSED_TABLE_LISTS = 8,
+    WATCH_REFUSED_SPLIT_RECORD = 9,
+    WATCH_REFUSED_WRONG_ROW = 10,
+    WATCH_REFUSED_WRONG_UNION = 11,
+    WATCH_REFUSED_NO_START_SPLIT = 12,
+    WATCH_REFUSED_NOT_CLOSED = 13,
+    WATCH_REFUSED_NO_SPLIT = 14
+};
+
 /* What a feed answers. */
 struct watch_fed {
     uint64_t bytes;   /* bytes consumed, from the front of the piece */
     uint64_t pairs;   /* pairs written: twice as many words */
-    uint32_t refusal; /* 0, or the number of the refusal */
+    uint32_t refusal; /* WATCH_PASSED, 0, or the number of the refusal */
     bool all;         /* whether the whole piece was consumed; false with every refusal, also of an empty piece */
 };
 
@@ -207,6 +232,56 @@ watch_fed watch_split_feed(const uint8_t *list, size_t list_len,
                            uint64_t start,
                            const uint8_t *piece, size_t piece_len,
                            uint32_t *pairs, size_t pairs_len);
+
+/* A size as text within a sentence. */
+#define WATCH_TEXT_OF(tokens) #tokens
+#define WATCH_TEXT(size) WATCH_TEXT_OF(size)
+
+/* The sentence of a refusal, for a person to read: without a capital, a full stop or a line feed. Every number has an answer. The text is
+ * constant, and never NULL. */
+static inline const char *watch_refusal_text(uint32_t n)
+{
+    switch (n) {
+    case WATCH_PASSED:
+        return "there is no refusal";
+    case WATCH_REFUSED_LIST_LENGTH:
+        return "the list is not 1 to " WATCH_TEXT(WATCH_MOST_RECORDS) " whole records of " WATCH_TEXT(WATCH_RECORD_SIZE) " bytes";
+    case WATCH_REFUSED_LIST_RECORD:
+        return "a record of the list has another kind, a reserved byte that is not zero, low > high, a state that is not below "
+               WATCH_TEXT(WATCH_STATES) ", or a signature that is not below " WATCH_TEXT(WATCH_SIGNATURES);
+    case WATCH_REFUSED_NO_START:
+        return "the list has no start record";
+    case WATCH_REFUSED_FLOW_RECORD:
+        return "the flow record has the wrong length; or, when it is fed, its reserved bytes are not zero or its rows read are more than "
+               WATCH_TEXT(WATCH_STATES) " x offset";
+    case WATCH_REFUSED_OTHER_START:
+        return "the piece's stated start is not the flow's offset";
+    case WATCH_REFUSED_TOO_LONG:
+        return "offset + piece length is over " WATCH_TEXT(WATCH_MOST_OFFSET);
+    case WATCH_REFUSED_BOUND:
+        return "the bound is not 1 to " WATCH_TEXT(WATCH_MOST_BOUND);
+    case WATCH_REFUSED_TABLE_LISTS:
+        return "a list of the table has the wrong length, or a class is over " WATCH_TEXT(WATCH_MOST_CLASS);
+    case WATCH_REFUSED_SPLIT_RECORD:
+        return "a split has a used slot that names no part, a used slot after an unused one, slots that do not strictly rise, more used "
+               "slots than the bound, or a set that is not greater, as a string of bytes, than the one before";
+    case WATCH_REFUSED_WRONG_ROW:
+        return "a row that some byte selects is not the automaton's step of its part on that byte";
+    case WATCH_REFUSED_WRONG_UNION:
+        return "the set of a split is not the union of its parts";
+    case WATCH_REFUSED_NO_START_SPLIT:
+        return "the start set is no split";
+    case WATCH_REFUSED_NOT_CLOSED:
+        return "for some split and some byte, the automaton's step of the split's set is no split";
+    case WATCH_REFUSED_NO_SPLIT:
+        return "at a byte of a split feed, the frontier is no split, or the slots taken name no part or are more than the bound";
+    default:
+        return "no refusal has this number";
+    }
+}
+
+#undef WATCH_TEXT
+#undef WATCH_TEXT_OF
 
 #ifdef __cplusplus
 }

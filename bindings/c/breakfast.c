@@ -4,6 +4,8 @@
  *     gcc -std=c11 -Wall -Wextra -Werror -Iinclude bindings/c/breakfast.c include/libwatch_c.a -o target/breakfast
  *     target/breakfast examples/two-breakfasts/twice
  *
+ * Those are the commands on x86-64. Elsewhere the compiler is x86_64-linux-gnu-gcc with -static, and qemu-x86_64 stands before the program.
+ *
  * Usage: breakfast FLOW [RULES]. Writes a line for each pair, signature and offset, and last `end` and the offset, or `refused` and the number.
  * It goes about it in the most awkward way that a device may have to:
  *
@@ -12,8 +14,8 @@
  *   - the buffer for pairs begins with a single word, which is no room at all, so the feed pauses at each byte that tells a
  *     pair. The rest of the piece is then fed from its middle, and where not a byte was consumed, with a larger room.
  *
- * How many pieces, pauses and saved records there were goes to standard error. The exit status is 0 where the flow ended, 1 where it was
- * refused, 2 where a file could not be read.
+ * How many pieces, pauses and saved records there were goes to standard error, and so does the sentence of a refusal. The exit status is 0
+ * where the flow ended, 1 where it was refused, 2 where a file could not be read.
  */
 #include <inttypes.h>
 #include <stdio.h>
@@ -40,6 +42,14 @@ static FILE *opened(const char *name)
     return file;
 }
 
+/* Writes the last line of a flow that is refused: the number, and to standard error its sentence. Answers the exit status. */
+static int refused(uint32_t refusal)
+{
+    printf("refused %" PRIu32 "\n", refusal);
+    fprintf(stderr, "breakfast: %s\n", watch_refusal_text(refusal));
+    return 1;
+}
+
 /* Writes the flow record to the file and forgets it; then reads it back. */
 static void save_and_load(FILE *disk, uint8_t flow[WATCH_FLOW_SIZE])
 {
@@ -54,7 +64,7 @@ static void save_and_load(FILE *disk, uint8_t flow[WATCH_FLOW_SIZE])
     saves++;
 }
 
-/* Feeds a whole piece that begins at `start`, whatever pauses it takes, and prints its pairs. Answers the refusal, or 0. */
+/* Feeds a whole piece that begins at `start`, whatever pauses it takes, and prints its pairs. Answers the refusal, or WATCH_PASSED. */
 static uint32_t feed_piece(const uint8_t *list, size_t list_len, uint8_t *flow, uint64_t start,
                            const uint8_t *piece, size_t piece_len)
 {
@@ -64,10 +74,10 @@ static uint32_t feed_piece(const uint8_t *list, size_t list_len, uint8_t *flow, 
         watch_fed fed = watch_feed(list, list_len, flow, WATCH_FLOW_SIZE, start, piece, piece_len, pairs, words);
         for (uint64_t i = 0; i < fed.pairs; i++)
             printf("%" PRIu32 " %" PRIu32 "\n", pairs[2 * i], pairs[2 * i + 1]);
-        if (fed.refusal != 0)
+        if (fed.refusal != WATCH_PASSED)
             return fed.refusal;
         if (fed.all)
-            return 0;
+            return WATCH_PASSED;
         pauses++;
         /* A feed that stood still gets more room. With WATCH_ENOUGH_WORDS none does, so this ends. */
         if (fed.bytes == 0)
@@ -96,10 +106,8 @@ int main(int argc, char **argv)
 
     uint8_t flow[WATCH_FLOW_SIZE];
     uint32_t refusal = watch_open(list, list_len, flow, sizeof flow);
-    if (refusal != 0) {
-        printf("refused %" PRIu32 "\n", refusal);
-        return 1;
-    }
+    if (refusal != WATCH_PASSED)
+        return refused(refusal);
 
     FILE *disk = tmpfile();
     if (disk == NULL)
@@ -112,16 +120,15 @@ int main(int argc, char **argv)
         save_and_load(disk, flow);
         pieces++;
         refusal = feed_piece(list, list_len, flow, offset, piece, piece_len);
-        if (refusal != 0)
+        if (refusal != WATCH_PASSED)
             break;
         offset += piece_len;
     }
     fclose(file);
     fclose(disk);
-    if (refusal != 0)
-        printf("refused %" PRIu32 "\n", refusal);
-    else
-        printf("end %" PRIu64 "\n", offset);
     fprintf(stderr, "breakfast: %u pieces, %u pauses, %u records saved\n", pieces, pauses, saves);
-    return refusal != 0;
+    if (refusal != WATCH_PASSED)
+        return refused(refusal);
+    printf("end %" PRIu64 "\n", offset);
+    return 0;
 }
