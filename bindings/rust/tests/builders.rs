@@ -1,4 +1,5 @@
 //! Random lists, tables, records and pieces: good ones, broken ones, and ones that are nonsense but well formed.
+#![allow(dead_code)]
 
 use crate::dice::Dice;
 use crate::ordinary::{bytes_of, Automaton, Set};
@@ -102,7 +103,7 @@ pub fn broken_list(dice: &mut Dice) -> Vec<u8> {
         if list.is_empty() {
             break;
         }
-        let at = RECORD_SIZE * dice.below(list.len().div_ceil(RECORD_SIZE));
+        let at = RECORD_SIZE * dice.below((list.len() + RECORD_SIZE - 1) / RECORD_SIZE);
         match dice.below(12) {
             0 => list.clear(),
             1 => list.truncate(list.len() - dice.from(1, list.len().min(RECORD_SIZE + 1))),

@@ -56,7 +56,7 @@ fn below(most: usize, bytes: &[u8]) -> Result<u16, u32> {
 impl Automaton {
     /// Reads a list, or gives the number of its refusal.
     pub fn read(list: &[u8]) -> Result<Automaton, u32> {
-        if list.is_empty() || list.len() > MOST_LIST || !list.len().is_multiple_of(RECORD_SIZE) {
+        if list.is_empty() || list.len() > MOST_LIST || list.len() % RECORD_SIZE != 0 {
             return Err(1);
         }
         let mut automaton = Automaton::default();
@@ -201,13 +201,13 @@ impl Table {
             return None;
         }
         let width = usize::from(*classes.iter().max().unwrap()) + 1;
-        if !parts.len().is_multiple_of(SET_SIZE) || !(1..=MOST_PARTS).contains(&(parts.len() / SET_SIZE)) {
+        if parts.len() % SET_SIZE != 0 || !(1..=MOST_PARTS).contains(&(parts.len() / SET_SIZE)) {
             return None;
         }
         if rows.len() != parts.len() * width {
             return None;
         }
-        if !splits.len().is_multiple_of(SPLIT_SIZE) || !(1..=MOST_SPLITS).contains(&(splits.len() / SPLIT_SIZE)) {
+        if splits.len() % SPLIT_SIZE != 0 || !(1..=MOST_SPLITS).contains(&(splits.len() / SPLIT_SIZE)) {
             return None;
         }
         let splits: Vec<Split> = splits
