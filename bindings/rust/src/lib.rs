@@ -29,7 +29,8 @@
 //! # Room and pauses
 //!
 //! Pairs go into a lent buffer of words, two a pair. A feed consumes the longest front of the piece whose pairs all fit; where that is not
-//! the whole piece, it has paused, and the rest is fed from its middle:
+//! the whole piece, it has paused, and the rest is fed from its middle. A pause that goes unseen is a match missed, so what a feed
+//! answers has to be used:
 //!
 //! ```
 //! # use watch::{Flow, List, Refusal};
@@ -55,6 +56,7 @@
 //! ```
 //!
 //! With [`ENOUGH_WORDS`] words a feed of a non-empty piece that is not refused consumes at least one byte, so such a loop ends.
+//! [`Flow::feed_all`] is such a loop, and [`Flow::split_feed_all`] the same over a table.
 //!
 //! # Split tables
 //!
@@ -66,11 +68,22 @@
 //! The code itself is the archive `libwatch_c.a`, for x86-64 and the System V calling convention. `tools/build-c` in the repository
 //! makes it. The build script links the archive in the folder that `WATCH_LIB_DIR` names, or, where that is not set, the newer of
 //! `include/libwatch_c.a` and `target/staticlib/libwatch_c.a` in the repository that this crate stands in. It has no other dependency.
+//! Where there is no archive, or the target is another one, `cargo check` and `cargo doc` still work, with a warning; a program
+//! does not link.
+//!
+//! # Features
+//!
+//! `std`, which is on unless default features are turned off, makes [`Refusal`] and [`SplitError`] errors of the standard library.
+//! Without it the crate needs nothing but `core`; it allocates no memory either way.
 //!
 //! This wrapper is not proved. All that is unsafe in it is five calls, in which slices are handed on as pointers and lengths.
 
+#![no_std]
 #![deny(missing_docs)]
 #![deny(unsafe_op_in_unsafe_fn)]
+
+#[cfg(feature = "std")]
+extern crate std;
 
 pub mod raw;
 mod refusal;
@@ -82,7 +95,7 @@ pub use sizes::{
     MOST_SPLITS, OFFSET_AT, RECORD_SIZE, RESERVED_AT, ROWS_AT, SET_SIZE, SIGNATURES, SLOTS, SPLIT_SIZE, STATES, UNUSED,
 };
 
-use std::fmt;
+use core::fmt;
 
 /// A signature list that has passed its check.
 ///
@@ -123,6 +136,21 @@ impl<'a> List<'a> {
     }
 }
 
+impl<'a> TryFrom<&'a [u8]> for List<'a> {
+    type Error = Refusal;
+
+    /// The list that bytes are, as [`List::check`] gives it.
+    fn try_from(bytes: &'a [u8]) -> Result<List<'a>, Refusal> {
+        List::check(bytes)
+    }
+}
+
+impl AsRef<[u8]> for List<'_> {
+    fn as_ref(&self) -> &[u8] {
+        self.bytes
+    }
+}
+
 impl fmt::Debug for List<'_> {
     fn fmt(&self, f: &mut fmt::Formatter<'_>) -> fmt::Result {
         write!(f, "List({} records)", self.records())
@@ -142,7 +170,7 @@ impl fmt::Debug for List<'_> {
 /// let list = List::check(&bytes)?; // signature 7 after any "ab"
 /// let mut words = [0; ENOUGH_WORDS];
 /// let mut flow = Flow::open(&list);
-/// flow.feed(&list, 0, b"a", &mut words)?;
+/// assert!(flow.feed(&list, 0, b"a", &mut words)?.all);
 /// let saved: [u8; FLOW_SIZE] = *flow.as_bytes();
 ///
 /// let mut flow = Flow::from_bytes(saved);
@@ -273,7 +301,8 @@ impl Flow {
     ///
     /// // A record from elsewhere, with a frontier that is no split: halted at its first byte.
     /// let mut lost = Flow::from_bytes([0; FLOW_SIZE]);
-    /// assert_eq!(lost.split_feed(&table, 0, b"x", &mut words), Err(SplitError::Halted { bytes: 0, pairs: 0 }));
+    /// let halted = lost.split_feed(&table, 0, b"x", &mut words).unwrap_err();
+    /// assert_eq!((halted.refusal().number(), halted.bytes(), halted.pairs()), (14, 0, 0));
     /// # Ok::<(), SplitError>(())
     /// ```
     pub fn split_feed(
@@ -316,6 +345,74 @@ impl Flow {
             Err(refusal) => Err(SplitError::Refused(refusal)),
         }
     }
+
+    /// The plain feed of a whole piece that begins at offset `start` of the flow: each pair is handed to `told`, in order, and after a pause
+    /// the rest is fed from its middle. Refusals 4 to 6, which come before the first byte: nothing is then consumed, changed or told.
+    ///
+    /// The room for pairs is its own, [`ENOUGH_WORDS`] words of the stack.
+    ///
+    /// ```
+    /// # use watch::{Flow, List, Refusal};
+    /// # let bytes = *b"\x01\x00\xFF\0\0\0\0\0\x01aa\0\0\0\x01\0\x01bb\0\x01\0\x02\0\x02\0\0\0\0\0\0\0\x03\0\0\0\x02\0\x07\0";
+    /// let list = List::check(&bytes)?; // signature 7 after any "ab"
+    /// let mut flow = Flow::open(&list);
+    /// let mut told = Vec::new();
+    ///
+    /// let fed = flow.feed_all(&list, 0, &b"ab".repeat(1000), |pair| told.push(pair))?;
+    /// assert_eq!((fed.bytes, fed.pairs), (2000, 1000));
+    /// assert_eq!((told.len(), told[999].to_string()), (1000, "7 2000".to_string()));
+    ///
+    /// // The same piece once more, as after a resend: refused, and nothing is told twice.
+    /// let again = flow.feed_all(&list, 0, b"ab", |pair| told.push(pair));
+    /// assert_eq!(again, Err(Refusal::OtherStart));
+    /// assert_eq!(told.len(), 1000);
+    /// # Ok::<(), Refusal>(())
+    /// ```
+    pub fn feed_all(
+        &mut self,
+        list: &List<'_>,
+        start: u64,
+        piece: &[u8],
+        told: impl FnMut(Pair),
+    ) -> Result<FedAll, Refusal> {
+        feed_whole(start, piece, told, |start, rest, words| Ok(self.feed(list, start, rest, words)?))
+            .map_err(|error| error.refusal())
+    }
+
+    /// The split feed of a whole piece that begins at offset `start` of the flow, as [`feed_all`](Flow::feed_all) is the plain one.
+    ///
+    /// Where it halts, the pairs before that have been handed to `told`, and the error counts the bytes and pairs from the piece's front. Every
+    /// other refusal comes before the first byte.
+    ///
+    /// ```
+    /// # use watch::{Flow, List, Refusal, SplitError, Table, TableLists, BYTE_VALUES, SET_SIZE};
+    /// # let bytes = *b"\x01\x00\xFF\0\0\0\0\0\x02\0\0\0\0\0\0\0\x03\0\0\0\0\0\x09\0";
+    /// # let list = List::check(&bytes)?;
+    /// # let classes = [0; BYTE_VALUES];
+    /// # let mut set = [0; SET_SIZE];
+    /// # set[0] = 1;
+    /// # let splits = [&set[..], &[0, 0, 255, 255, 255, 255, 255, 255]].concat();
+    /// // Signature 9 at every byte, by state 0:
+    /// let table = Table::check(&list, 1, TableLists { classes: &classes, parts: &set, rows: &set, splits: &splits })?;
+    /// let (mut flow, mut told) = (Flow::open(&list), 0);
+    /// let fed = flow.split_feed_all(&table, 0, &[0; 1000], |_| told += 1)?;
+    /// assert_eq!((fed.bytes, fed.pairs, told), (1000, 1000, 1000));
+    ///
+    /// // Rows that lead to a set that is no split: halted at the second byte.
+    /// let table = Table::unchecked(&list, 1, TableLists { rows: &[0; SET_SIZE], ..table.lists() });
+    /// let halted = flow.split_feed_all(&table, 1000, b"xx", |_| told += 1).unwrap_err();
+    /// assert_eq!((halted.refusal(), halted.bytes(), halted.pairs()), (Refusal::NoSplit, 1, 0));
+    /// # Ok::<(), SplitError>(())
+    /// ```
+    pub fn split_feed_all(
+        &mut self,
+        table: &Table<'_>,
+        start: u64,
+        piece: &[u8],
+        told: impl FnMut(Pair),
+    ) -> Result<FedAll, SplitError> {
+        feed_whole(start, piece, told, |start, rest, words| self.split_feed(table, start, rest, words))
+    }
 }
 
 impl From<[u8; FLOW_SIZE]> for Flow {
@@ -344,17 +441,38 @@ impl AsRef<[u8]> for Flow {
 
 impl fmt::Debug for Flow {
     fn fmt(&self, f: &mut fmt::Formatter<'_>) -> fmt::Result {
-        let frontier: Vec<u16> = self.frontier().collect();
         f.debug_struct("Flow")
             .field("offset", &self.offset())
             .field("rows_read", &self.rows_read())
-            .field("frontier", &frontier)
+            .field("frontier", &Frontier(self))
             .finish()
     }
 }
 
+/// The frontier of a flow, shown as the list of its states.
+struct Frontier<'a>(&'a Flow);
+
+impl fmt::Debug for Frontier<'_> {
+    fn fmt(&self, f: &mut fmt::Formatter<'_>) -> fmt::Result {
+        f.debug_list().entries(self.0.frontier()).finish()
+    }
+}
+
 /// What a feed that was not refused did.
+///
+/// One that paused has left the rest of the piece unread, so to drop this answer is to miss matches, and the compiler warns:
+///
+/// ```compile_fail
+/// #![deny(unused_must_use)]
+/// # use watch::{Flow, List, Refusal};
+/// fn watch(list: &List, flow: &mut Flow, piece: &[u8], words: &mut [u32]) -> Result<(), Refusal> {
+///     flow.feed(list, 0, piece, words)?; // did it consume the whole piece?
+///     Ok(())
+/// }
+/// ```
 #[derive(Clone, Copy, Debug, PartialEq, Eq, Hash)]
+#[must_use = "a feed may pause before the end of the piece, and the rest then has to be fed"]
+#[non_exhaustive]
 pub struct Fed {
     /// Bytes consumed, from the front of the piece.
     pub bytes: usize,
@@ -376,6 +494,43 @@ impl Fed {
     /// Where the buffer is shorter than what the feed wrote: it is another one.
     pub fn told<'w>(&self, words: &'w [u32]) -> impl Iterator<Item = Pair> + 'w {
         pairs_in(&words[..2 * self.pairs])
+    }
+}
+
+/// What a feed of a whole piece, with as many pauses as it took, did.
+#[derive(Clone, Copy, Debug, PartialEq, Eq, Hash)]
+#[non_exhaustive]
+pub struct FedAll {
+    /// Bytes consumed: those of the whole piece.
+    pub bytes: usize,
+    /// Pairs handed to the callback.
+    pub pairs: usize,
+}
+
+/// Feeds a whole piece, from its middle after each pause, and hands on each pair. `feed` is the feed of what is left.
+fn feed_whole(
+    start: u64,
+    piece: &[u8],
+    mut told: impl FnMut(Pair),
+    mut feed: impl FnMut(u64, &[u8], &mut [u32]) -> Result<Fed, SplitError>,
+) -> Result<FedAll, SplitError> {
+    let mut words = [0; ENOUGH_WORDS];
+    let (mut bytes, mut pairs) = (0, 0);
+    loop {
+        let fed = feed(start + bytes as u64, &piece[bytes..], &mut words);
+        let (more_bytes, more_pairs) = match &fed {
+            Ok(fed) => (fed.bytes, fed.pairs),
+            Err(error) => (error.bytes(), error.pairs()),
+        };
+        pairs_in(&words[..2 * more_pairs]).for_each(&mut told);
+        bytes += more_bytes;
+        pairs += more_pairs;
+        match fed {
+            Ok(fed) if fed.all => return Ok(FedAll { bytes, pairs }),
+            Ok(_) => (),
+            Err(SplitError::Halted { .. }) => return Err(SplitError::Halted { bytes, pairs }),
+            Err(refused) => return Err(refused),
+        }
     }
 }
 
@@ -496,3 +651,18 @@ impl<'a> Table<'a> {
         self.lists
     }
 }
+
+/// Lists and tables may be shared between threads, and flows handed from one to another.
+const _: () = {
+    const fn send_and_sync<T: Send + Sync + Unpin + 'static>() {}
+    send_and_sync::<List<'static>>();
+    send_and_sync::<Table<'static>>();
+    send_and_sync::<TableLists<'static>>();
+    send_and_sync::<Flow>();
+    send_and_sync::<Fed>();
+    send_and_sync::<FedAll>();
+    send_and_sync::<Pair>();
+    send_and_sync::<Refusal>();
+    send_and_sync::<SplitError>();
+    send_and_sync::<raw::WatchFed>();
+};

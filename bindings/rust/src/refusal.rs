@@ -1,6 +1,5 @@
 use crate::{FLOW_SIZE, MOST_BOUND, MOST_CLASS, MOST_LIST, MOST_OFFSET, RECORD_SIZE, SIGNATURES, STATES};
-use std::error::Error;
-use std::fmt;
+use core::fmt;
 
 /// Why a call was refused. Each has a [`number`](Refusal::number), 1 to 14; of several that apply, the lowest is given.
 ///
@@ -50,7 +49,7 @@ pub enum Refusal {
 
 impl Refusal {
     /// All refusals, by number.
-    pub const ALL: [Refusal; 14] = [
+    pub const ALL: &'static [Refusal] = &[
         Refusal::ListLength,
         Refusal::ListRecord,
         Refusal::NoStart,
@@ -72,7 +71,7 @@ impl Refusal {
         self as u32
     }
 
-    /// The refusal with a number; `None` for 0 and for a number over 14.
+    /// The refusal with a number; `None` for 0 and for a number that no refusal has.
     ///
     /// ```
     /// use watch::Refusal;
@@ -81,7 +80,7 @@ impl Refusal {
     /// assert_eq!(Refusal::from_number(0), None);
     /// ```
     pub fn from_number(number: u32) -> Option<Refusal> {
-        Refusal::ALL.into_iter().find(|refusal| refusal.number() == number)
+        Refusal::ALL.iter().copied().find(|refusal| refusal.number() == number)
     }
 
     /// What a function of the archive answers, as a result.
@@ -129,7 +128,8 @@ impl fmt::Display for Refusal {
     }
 }
 
-impl Error for Refusal {}
+#[cfg(feature = "std")]
+impl std::error::Error for Refusal {}
 
 /// Why a split feed did not end well.
 ///
@@ -150,10 +150,12 @@ impl Error for Refusal {}
 /// }
 /// ```
 #[derive(Clone, Copy, Debug, PartialEq, Eq, Hash)]
+#[non_exhaustive]
 pub enum SplitError {
     /// A refusal 1 to 8. No buffer has changed.
     Refused(Refusal),
     /// Refusal 14, at the byte after those consumed.
+    #[non_exhaustive]
     Halted {
         /// Bytes consumed before that byte.
         bytes: usize,
@@ -199,7 +201,8 @@ impl fmt::Display for SplitError {
     }
 }
 
-impl Error for SplitError {}
+#[cfg(feature = "std")]
+impl std::error::Error for SplitError {}
 
 impl From<Refusal> for SplitError {
     /// A refusal that consumed nothing.

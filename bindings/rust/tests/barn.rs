@@ -18,6 +18,17 @@ const L: [u8; 5 * RECORD_SIZE] = [
     3, 0, 0, 0, 2, 0, 7, 0,
 ];
 
+/// What a feed answers, to be compared: bytes, pairs and whether that was all.
+fn answer(fed: Fed) -> (usize, usize, bool) {
+    (fed.bytes, fed.pairs, fed.all)
+}
+
+/// What a split feed that halted answers: refusal, bytes and pairs.
+fn halt(fed: Result<Fed, SplitError>) -> (u32, usize, usize) {
+    let error = fed.unwrap_err();
+    (error.refusal().number(), error.bytes(), error.pairs())
+}
+
 /// The record of L with a number, from 0 on.
 fn record(i: usize) -> &'static [u8] {
     &L[RECORD_SIZE * i..RECORD_SIZE * (i + 1)]
@@ -94,7 +105,7 @@ fn plain_abab() {
     let mut flow = Flow::open(&list());
     let mut words = [0; ENOUGH_WORDS];
     let fed = flow.feed(&list(), 0, b"abab", &mut words).unwrap();
-    assert_eq!(fed, Fed { bytes: 4, pairs: 2, all: true });
+    assert_eq!(answer(fed), (4, 2, true));
     assert_eq!(words[..5], [7, 2, 7, 4, 0]);
     assert_eq!(flow.rows_read(), 7);
     let told: Vec<String> = fed.told(&words).map(|pair| pair.to_string()).collect();
@@ -104,13 +115,14 @@ fn plain_abab() {
 #[test]
 fn plain_aba_leaves_this_record() {
     let mut flow = Flow::open(&list());
-    flow.feed(&list(), 0, b"aba", &mut [0; ENOUGH_WORDS]).unwrap();
+    assert!(flow.feed(&list(), 0, b"aba", &mut [0; ENOUGH_WORDS]).unwrap().all);
     let mut record = [0; FLOW_SIZE];
     record[0] = 3;
     record[OFFSET_AT] = 3;
     record[ROWS_AT] = 5;
     assert_eq!(flow.as_bytes(), &record);
     assert_eq!(flow.frontier().collect::<Vec<u16>>(), [0, 1]);
+    assert_eq!(format!("{flow:?}"), "Flow { offset: 3, rows_read: 5, frontier: [0, 1] }");
     assert_eq!(Flow::try_from(&record[..]), Ok(flow));
     assert_eq!(Flow::try_from(&record[1..]), Err(Refusal::FlowRecord));
 }
@@ -132,11 +144,11 @@ fn room() {
     for (words, bytes, pairs) in [(0, 1, 0), (1, 1, 0), (2, 3, 1), (3, 3, 1), (4, 4, 2)] {
         let mut buffer = vec![99; words];
         let fed = Flow::open(&list()).feed(&list(), 0, b"abab", &mut buffer).unwrap();
-        assert_eq!(fed, Fed { bytes, pairs, all: bytes == 4 });
+        assert_eq!(answer(fed), (bytes, pairs, bytes == 4));
         assert!(buffer[2 * pairs..].iter().all(|&word| word == 99));
     }
     let fed = Flow::open(&list()).feed(&list(), 0, b"", &mut []).unwrap();
-    assert_eq!(fed, Fed { bytes: 0, pairs: 0, all: true });
+    assert_eq!(answer(fed), (0, 0, true));
 }
 
 #[test]
@@ -144,7 +156,7 @@ fn the_last_offset() {
     let mut record = *Flow::open(&list()).as_bytes();
     record[OFFSET_AT..RESERVED_AT].fill(255);
     let mut flow = Flow::from_bytes(record);
-    assert_eq!(flow.feed(&list(), MOST_OFFSET, b"", &mut []).unwrap(), Fed { bytes: 0, pairs: 0, all: true });
+    assert_eq!(answer(flow.feed(&list(), MOST_OFFSET, b"", &mut []).unwrap()), (0, 0, true));
     assert_eq!(flow.feed(&list(), MOST_OFFSET, b"a", &mut []), Err(Refusal::TooLong));
     record[OFFSET_AT] = 254;
     let mut flow = Flow::from_bytes(record);
@@ -161,6 +173,9 @@ fn lists() {
     long.extend_from_slice(record(0));
     assert_eq!(List::check(&long), Err(Refusal::ListLength));
     assert!(List::check(&start(STATES - 1)).is_ok());
+    assert_eq!(List::try_from(&L[..]), Ok(list()));
+    assert_eq!(list().as_ref(), &L[..]);
+    assert_eq!(List::try_from(&L[1..]), Err(Refusal::ListLength));
     assert_eq!(List::check(&start(STATES)), Err(Refusal::ListRecord));
 }
 
@@ -179,7 +194,7 @@ fn split_abab() {
         let mut flow = Flow::open(&table.list());
         let mut words = [0; ENOUGH_WORDS];
         let fed = flow.split_feed(&table, 0, b"abab", &mut words).unwrap();
-        assert_eq!(fed, Fed { bytes: 4, pairs: 2, all: true });
+        assert_eq!(answer(fed), (4, 2, true));
         assert_eq!(words[..5], [7, 2, 7, 4, 0]);
         assert_eq!(flow.rows_read(), 7);
         assert!(flow.rows_read() <= table.bound() * 4);
@@ -192,19 +207,25 @@ fn a_halted_split_feed_keeps_what_was_before() {
     T::new().without(2).check(2, |_, table| {
         let mut flow = Flow::open(&list());
         let mut words = [0; ENOUGH_WORDS];
-        let halted = flow.split_feed(&table, 0, b"abab", &mut words).unwrap_err();
-        assert_eq!(halted, SplitError::Halted { bytes: 2, pairs: 1 });
-        assert_eq!((halted.refusal().number(), halted.bytes(), halted.pairs()), (14, 2, 1));
+        let halted = flow.split_feed(&table, 0, b"abab", &mut words);
+        assert!(matches!(halted, Err(SplitError::Halted { bytes: 2, pairs: 1, .. })));
+        assert_eq!(halt(halted), (14, 2, 1));
         assert_eq!(words[..3], [7, 2, 0]);
         assert_eq!(flow.offset(), 2);
+        // As a whole piece: the same, and the pair before it is told.
+        let mut flow = Flow::open(&list());
+        let mut told = Vec::new();
+        let halted = flow.split_feed_all(&table, 0, b"abab", |pair| told.push(pair.to_string())).unwrap_err();
+        assert_eq!((halted.refusal(), halted.bytes(), halted.pairs()), (Refusal::NoSplit, 2, 1));
+        assert_eq!((told, flow.offset()), (vec!["7 2".to_string()], 2));
         // A pause before that byte is no refusal, and neither is an empty piece at it.
         let mut flow = Flow::open(&list());
         assert!(!flow.split_feed(&table, 0, b"abab", &mut []).unwrap().all);
         let fed = flow.split_feed(&table, 1, b"b", &mut words).unwrap();
-        assert_eq!(fed, Fed { bytes: 1, pairs: 1, all: true });
+        assert_eq!(answer(fed), (1, 1, true));
         assert!(flow.split_feed(&table, 2, b"", &mut []).unwrap().all);
         // 14 comes before room.
-        assert_eq!(flow.split_feed(&table, 2, b"a", &mut []), Err(SplitError::Halted { bytes: 0, pairs: 0 }));
+        assert_eq!(halt(flow.split_feed(&table, 2, b"a", &mut [])), (14, 0, 0));
         assert_eq!(flow.split_feed(&table, 9, b"a", &mut []), Err(SplitError::Refused(Refusal::OtherStart)));
     });
 }
@@ -229,14 +250,26 @@ fn the_ordinary_matcher_agrees() {
 
 #[test]
 fn refusals_have_numbers_and_texts() {
-    for (i, refusal) in Refusal::ALL.into_iter().enumerate() {
+    for (i, &refusal) in Refusal::ALL.iter().enumerate() {
         assert_eq!(refusal.number(), i as u32 + 1);
         assert_eq!(Refusal::from_number(refusal.number()), Some(refusal));
-        let error: Box<dyn std::error::Error> = Box::new(refusal);
-        assert!(!error.to_string().is_empty());
+        assert!(!refusal.to_string().is_empty());
     }
+    assert_eq!(Refusal::ALL.len(), 14);
     assert_eq!(Refusal::from_number(0), None);
     assert_eq!(Refusal::from_number(15), None);
+}
+
+#[cfg(feature = "std")]
+#[test]
+fn refusals_are_errors() {
+    fn asked(bytes: &[u8]) -> Result<usize, Box<dyn std::error::Error + Send + Sync>> {
+        Ok(List::check(bytes)?.records())
+    }
+    assert_eq!(asked(&L).unwrap(), 5);
+    assert_eq!(asked(&[]).unwrap_err().downcast_ref(), Some(&Refusal::ListLength));
+    let error: Box<dyn std::error::Error> = Box::new(SplitError::from(Refusal::Bound));
+    assert_eq!(error.to_string(), Refusal::Bound.to_string());
 }
 
 /// A pointer with length 0 is not followed, not even NULL. (The header advises against NULL all the same.)

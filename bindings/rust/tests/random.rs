@@ -10,7 +10,7 @@ use builders::Lists;
 use dice::Dice;
 use ordinary::{Answer, Automaton};
 use std::collections::BTreeMap;
-use watch::{raw, Fed, Flow, List, Refusal, SplitError, Table, TableLists};
+use watch::{raw, Fed, Flow, List, Refusal, Table, TableLists};
 use watch::{ENOUGH_WORDS, FLOW_SIZE, OFFSET_AT, RESERVED_AT};
 
 /// Bytes or words on either side of a buffer, which stay as they are.
@@ -256,10 +256,12 @@ impl<'d> Case<'d> {
                 let table = Table::unchecked(&list, t.bound, lists);
                 match flow.split_feed(&table, start, piece, words_slice) {
                     Ok(fed) => answer_of(fed),
-                    Err(SplitError::Refused(refusal)) => refused(refusal),
-                    Err(SplitError::Halted { bytes, pairs }) => {
-                        Answer { refusal: 14, bytes: bytes as u64, pairs: pairs as u64, all: false }
-                    }
+                    Err(error) => Answer {
+                        refusal: error.refusal().number(),
+                        bytes: error.bytes() as u64,
+                        pairs: error.pairs() as u64,
+                        all: false,
+                    },
                 }
             } else {
                 flow.feed(&list, start, piece, words_slice).map_or_else(refused, answer_of)

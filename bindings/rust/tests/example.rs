@@ -1,0 +1,38 @@
+//! The example, `examples/breakfast.rs`: what it writes for the flows and lists of `examples/two-breakfasts`.
+
+#[allow(dead_code)]
+#[path = "../examples/breakfast.rs"]
+mod breakfast;
+
+use std::path::{Path, PathBuf};
+
+fn file(name: &str) -> PathBuf {
+    Path::new(env!("CARGO_MANIFEST_DIR")).join("../../examples/two-breakfasts").join(name)
+}
+
+/// What the example writes for a flow and a list, and whether the flow ended.
+fn writes(flow: &Path, rules: &Path) -> (String, bool) {
+    let mut out = Vec::new();
+    let ended = breakfast::breakfast(flow, rules, &mut out).unwrap();
+    (String::from_utf8(out).unwrap(), ended)
+}
+
+#[test]
+fn the_second_order_is_told() {
+    assert_eq!(writes(&file("twice"), &file("rules.bin")), ("9 42\nend 56\n".to_string(), true));
+}
+
+#[test]
+fn a_single_order_is_not() {
+    assert_eq!(writes(&file("once"), &file("rules.bin")), ("end 58\n".to_string(), true));
+}
+
+#[test]
+fn a_file_that_is_no_list_is_refused() {
+    assert_eq!(writes(&file("twice"), &file("twice")), ("refused 2\n".to_string(), false));
+}
+
+#[test]
+fn a_file_that_is_not_there_is_an_error() {
+    assert!(breakfast::breakfast(&file("thrice"), &file("rules.bin"), &mut Vec::new()).is_err());
+}
