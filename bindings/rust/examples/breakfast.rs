@@ -2,10 +2,10 @@
 //!
 //!     cargo run --example breakfast [FLOW [RULES]]
 //!
-//! Without words it takes the flow `examples/two-breakfasts/twice` and the list beside it. Writes a line for each pair, signature and
-//! offset, and last `end` and the offset, or `refused` and the number. The flow arrives in pieces of 7 bytes, and between them its record is
-//! all that is kept, as if the box had been switched off. The exit status is 0 where the flow ended, 1 where it was refused, 2 where a
-//! file could not be read.
+//! Without arguments it takes the flow `examples/two-breakfasts/twice` and the list beside it. Writes a line for each pair, signature
+//! and offset, and last `end` and the offset, or `refused` and the number. The flow arrives in pieces of 7 bytes, and between them its
+//! record is all that is kept, as if the box had been switched off. The exit status is 0 where the flow ended, 1 where it was refused, 2
+//! where a file could not be read or a line not be written.
 
 use std::io::{self, Read, Write};
 use std::path::{Path, PathBuf};
@@ -86,10 +86,10 @@ pub fn breakfast(flow: &Path, rules: &Path, out: &mut impl Write) -> io::Result<
 }
 
 fn main() -> ExitCode {
-    let mut words = std::env::args_os().skip(1).map(PathBuf::from);
-    let flow = words.next().unwrap_or_else(|| two_breakfasts("twice"));
-    let rules = words.next().unwrap_or_else(|| two_breakfasts("rules.bin"));
-    if words.next().is_some() {
+    let mut named = std::env::args_os().skip(1).map(PathBuf::from);
+    let flow = named.next().unwrap_or_else(|| two_breakfasts("twice"));
+    let rules = named.next().unwrap_or_else(|| two_breakfasts("rules.bin"));
+    if named.next().is_some() {
         eprintln!("usage: breakfast [FLOW [RULES]]");
         return ExitCode::from(2);
     }

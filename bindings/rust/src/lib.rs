@@ -71,12 +71,12 @@
 //! Where there is no archive, or the target is another one, `cargo check` and `cargo doc` still work, with a warning; a program
 //! does not link.
 //!
+//! This wrapper is not proved. All that is unsafe in it is five calls, in which slices are handed on as pointers and lengths.
+//!
 //! # Features
 //!
 //! `std`, which is on unless default features are turned off, makes [`Refusal`] and [`SplitError`] errors of the standard library.
-//! Without it the crate needs nothing but `core`; it allocates no memory either way.
-//!
-//! This wrapper is not proved. All that is unsafe in it is five calls, in which slices are handed on as pointers and lengths.
+//! Without it the crate needs nothing but `core`; it allocates no memory either way. It builds with Rust 1.63 and later.
 
 #![no_std]
 #![deny(missing_docs)]
@@ -346,8 +346,8 @@ impl Flow {
         }
     }
 
-    /// The plain feed of a whole piece that begins at offset `start` of the flow: each pair is handed to `told`, in order, and after a pause
-    /// the rest is fed from its middle. Refusals 4 to 6, which come before the first byte: nothing is then consumed, changed or told.
+    /// The plain feed of a whole piece that begins at offset `start` of the flow. Each pair is handed to `told`, in order, and after a
+    /// pause the rest is fed from its middle. Refusals 4 to 6 come before the first byte: nothing is then consumed, changed or told.
     ///
     /// The room for pairs is its own, [`ENOUGH_WORDS`] words of the stack.
     ///
@@ -381,8 +381,8 @@ impl Flow {
 
     /// The split feed of a whole piece that begins at offset `start` of the flow, as [`feed_all`](Flow::feed_all) is the plain one.
     ///
-    /// Where it halts, the pairs before that have been handed to `told`, and the error counts the bytes and pairs from the piece's front. Every
-    /// other refusal comes before the first byte.
+    /// Where it halts, the pairs before that have been handed to `told`, and the error counts bytes and pairs from the piece's front.
+    /// Every other refusal comes before the first byte.
     ///
     /// ```
     /// # use watch::{Flow, List, Refusal, SplitError, Table, TableLists, BYTE_VALUES, SET_SIZE};
