@@ -1,18 +1,15 @@
-//! Links the proved library: the archive that ARCHIVE names, the one that `rt staticlib watch_c` makes, or the one handed out beside the C
-//! header.
+//! Links the proved library: the archive that ARCHIVE names, or the one that tools/build-c makes.
 use std::path::{Path, PathBuf};
 
 fn main() {
     let here = std::env::var("CARGO_MANIFEST_DIR").expect("cargo sets CARGO_MANIFEST_DIR");
     let archive = match std::env::var("ARCHIVE") {
         Ok(path) if !path.is_empty() => PathBuf::from(path),
-        _ => ["target/staticlib", "include"]
-            .map(|folder| Path::new(&here).join("..").join(folder).join("libwatch_c.a"))
-            .into_iter()
-            .find(|archive| archive.exists())
-            .expect("no libwatch_c.a in ../target/staticlib or ../include: make it with `rt staticlib watch_c`"),
+        _ => Path::new(&here).join("../target/staticlib/libwatch_c.a"),
     };
-    let archive = archive.canonicalize().expect("the archive can be read");
+    let archive = archive
+        .canonicalize()
+        .expect("there is no archive: make it with tools/build-c");
     let archive = archive.display();
     println!("cargo:rustc-env=ARCHIVE={archive}");
     println!("cargo:rerun-if-env-changed=ARCHIVE");

@@ -1,8 +1,8 @@
 /* watch.h: the C face of the signature matcher.
  *
  * A signature list is an automaton. A flow of bytes is fed to it in pieces, and each time that a signature ends the caller gets a
- * pair: the number of the signature and the offset at which it ends. Link include/libwatch_c.a (tools/build-c makes it); it needs
- * no other library. bindings/c/breakfast.c is a whole program over it, and bindings/c/live.c one for a live line, which goes on from a saved
+ * pair: the number of the signature and the offset at which it ends. Link libwatch_c.a, which tools/build-c makes in
+ * target/staticlib; it needs no other library. bindings/c/breakfast.c is a whole program over it, and bindings/c/live.c one for a live line, which goes on from a saved
  * record after being killed.
  *
  * The five functions keep nothing between calls and call nothing outside the archive: no memory is allocated, no file is read. All that a

@@ -1,7 +1,7 @@
 /* Watches a flow by the list of examples/two-breakfasts, as the program does, over the C face.
  *
  *     tools/build-c
- *     gcc -std=c11 -Wall -Wextra -Werror -Iinclude bindings/c/breakfast.c include/libwatch_c.a -o target/breakfast
+ *     gcc -std=c11 -Wall -Wextra -Werror -Iinclude bindings/c/breakfast.c target/staticlib/libwatch_c.a -o target/breakfast
  *     target/breakfast examples/two-breakfasts/twice
  *
  * Those are the commands on x86-64. Elsewhere the compiler is x86_64-linux-gnu-gcc with -static, and qemu-x86_64 stands before the program.

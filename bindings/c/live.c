@@ -1,7 +1,7 @@
 /* Watches a live line over the C face, and goes on where it was after being killed at any time.
  *
  *     tools/build-c
- *     gcc -std=c11 -Wall -Wextra -Werror -Iinclude bindings/c/live.c include/libwatch_c.a -o target/live
+ *     gcc -std=c11 -Wall -Wextra -Werror -Iinclude bindings/c/live.c target/staticlib/libwatch_c.a -o target/live
  *     target/live examples/two-breakfasts/rules.bin examples/two-breakfasts/twice target/record target/lines
  *
  * Those are the commands on x86-64. Elsewhere the compiler is x86_64-linux-gnu-gcc with -static, and qemu-x86_64 stands before the program.

@@ -1,19 +1,13 @@
 //! Links the proved archive, libwatch_c.a. It is looked for in the folder that `WATCH_LIB_DIR` names, where that is set; else in
-//! the repository's `include/` (where `tools/build-c` puts it) and `target/staticlib/` (where `rt staticlib watch_c` does), and the newer
-//! of the two is linked.
+//! the repository's `target/staticlib/`, where `tools/build-c` makes it.
 //!
 //! `cargo check` and `cargo doc` need no archive, and work for every target. So where there is none, or the target is none that it is made
 //! for, that is a warning and nothing is linked: only a program then fails, at its link, by the names of the functions that it lacks.
 
 use std::env;
-use std::path::{Path, PathBuf};
-use std::time::SystemTime;
+use std::path::PathBuf;
 
 const ARCHIVE: &str = "libwatch_c.a";
-
-fn made(folder: &Path) -> Option<SystemTime> {
-    folder.join(ARCHIVE).metadata().ok()?.modified().ok()
-}
 
 /// Whether the archive is made for the target: x86-64 with pointers of 64 bits, the System V calling convention and ELF.
 fn made_for_target() -> bool {
@@ -37,22 +31,15 @@ fn main() {
         return;
     }
     let here = PathBuf::from(env::var("CARGO_MANIFEST_DIR").expect("cargo sets CARGO_MANIFEST_DIR"));
-    let folders = match env::var_os("WATCH_LIB_DIR") {
-        Some(folder) => vec![PathBuf::from(folder)],
-        None => vec![here.join("../../include"), here.join("../../target/staticlib")],
-    };
-    for folder in &folders {
-        println!("cargo:rerun-if-changed={}", folder.join(ARCHIVE).display());
-    }
-    let newest = folders.iter().filter(|folder| made(folder).is_some()).max_by_key(|folder| made(folder));
-    match newest {
-        Some(folder) => {
-            println!("cargo:rustc-link-search=native={}", folder.display());
-            println!("cargo:rustc-link-lib=static=watch_c");
-        }
-        None => println!(
+    let folder = env::var_os("WATCH_LIB_DIR").map_or_else(|| here.join("../../target/staticlib"), PathBuf::from);
+    println!("cargo:rerun-if-changed={}", folder.join(ARCHIVE).display());
+    if folder.join(ARCHIVE).is_file() {
+        println!("cargo:rustc-link-search=native={}", folder.display());
+        println!("cargo:rustc-link-lib=static=watch_c");
+    } else {
+        println!(
             "cargo:warning=there is no {ARCHIVE}: run tools/build-c in the repository, or set WATCH_LIB_DIR to the folder that \
              holds it; until then check and doc work, and a program does not link"
-        ),
+        );
     }
 }

@@ -66,8 +66,8 @@
 //! # Linking
 //!
 //! The code itself is the archive `libwatch_c.a`, for x86-64 and the System V calling convention. `tools/build-c` in the repository
-//! makes it. The build script links the archive in the folder that `WATCH_LIB_DIR` names, or, where that is not set, the newer of
-//! `include/libwatch_c.a` and `target/staticlib/libwatch_c.a` in the repository that this crate stands in. It has no other dependency.
+//! makes it. The build script links the archive in the folder that `WATCH_LIB_DIR` names, or, where that is not set,
+//! `target/staticlib/libwatch_c.a` in the repository that this crate stands in. It has no other dependency.
 //! Where there is no archive, or the target is another one, `cargo check` and `cargo doc` still work, with a warning; a program
 //! does not link.
 //!
