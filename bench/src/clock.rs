@@ -6,7 +6,7 @@ struct Time {
     nanoseconds: i64,
 }
 
-unsafe extern "C" {
+extern "C" {
     fn clock_gettime(clock: i32, time: *mut Time) -> i32;
 }
 

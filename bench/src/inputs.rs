@@ -1,4 +1,5 @@
 //! The lists, tables, flow records and pieces that the rows of the table run on. All are made by rule, so every run has the same.
+use crate::later::chunks;
 use crate::sizes::{
     BYTE_VALUES, CLASSES, FLOW_BYTES, MOST_PARTS, MOST_RECORDS, MOST_SPLITS, RECORD_BYTES,
     SET_BYTES, SIGNATURES, SLOTS, STATES,
@@ -300,7 +301,7 @@ impl Builder {
 
     /// The table over a list, where each class steps as its first byte does.
     fn table(&self, list: &[u8], classes: Vec<u8>) -> Table {
-        let list = list.as_chunks().0;
+        let list = chunks(list);
         let count = 1 + *classes.iter().max().expect("a class for each byte");
         let first: Vec<u8> = (0..count)
             .map(|k| {

@@ -9,14 +9,15 @@
 //! name; `bench turn SIDE ROW CALLS` makes these calls of one side, and says how many bytes each consumes, or - where the row is about calls.
 mod clock;
 mod inputs;
+mod later;
 mod ordinary;
 mod proved;
 mod sizes;
 
 use inputs::{Bytes, Table};
+use later::black_box;
 use ordinary::Fed;
 use sizes::{FLOW_BYTES, MOST_PARTS, MOST_RECORDS, MOST_SPLITS, SLOTS, STATES};
-use std::hint::black_box;
 use std::io::{BufRead, BufReader, Write};
 use std::process::{Child, ChildStdin, ChildStdout, Command, Stdio};
 use std::time::Instant;
@@ -186,7 +187,8 @@ impl Work {
         assert!(ours == theirs, "{}: buffers", self.name);
         assert_eq!(answer.refusal, 0, "{}: refused", self.name);
         assert!(
-            self.bytes().is_none_or(|n| answer.bytes == n && answer.all),
+            self.bytes()
+                .map_or(true, |n| answer.bytes == n && answer.all),
             "{}: no room",
             self.name
         );
@@ -236,7 +238,7 @@ const TELLING: &str = "bytes that tell";
 /// A number with a comma after the thousands.
 fn number(n: usize) -> String {
     match n {
-        0..1000 => n.to_string(),
+        0..=999 => n.to_string(),
         _ => format!("{},{:03}", n / 1000, n % 1000),
     }
 }
@@ -466,7 +468,7 @@ fn work() {
     let mut made: Option<(usize, Work, u32)> = None;
     for line in std::io::stdin().lines() {
         let i: usize = line.expect("a line").parse().expect("a row's number");
-        if made.as_ref().is_none_or(|&(number, ..)| number != i) {
+        if made.as_ref().map_or(true, |&(number, ..)| number != i) {
             let work = rows[i].work();
             work.compare();
             let calls = work.calls(&ORDINARY);

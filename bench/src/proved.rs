@@ -9,7 +9,7 @@ struct WatchFed {
     all: bool,
 }
 
-unsafe extern "C" {
+extern "C" {
     fn watch_check_list(list: *const u8, list_len: usize) -> u32;
     fn watch_open(list: *const u8, list_len: usize, flow: *mut u8, flow_len: usize) -> u32;
     fn watch_feed(
