@@ -5,8 +5,12 @@
  * target/staticlib; it needs no other library. bindings/c/breakfast.c is a whole program over it, and bindings/c/live.c one for a live line, which goes on from a saved
  * record after being killed.
  *
- * The five functions keep nothing between calls and call nothing outside the archive: no memory is allocated, no file is read. All that a
+ * The functions keep nothing between calls and call nothing outside the archive: no memory is allocated, no file is read. All that a
  * flow needs is in its record, which the caller keeps, copies, writes to a disk or hands to another process as it likes.
+ *
+ * Header and archive belong together. WATCH_VERSION is the header's version and watch_version() the archive's; compare them once at the
+ * start, as bindings/c/breakfast.c does. The number rises with each change of a name, a size, a limit or a meaning here; CHANGELOG.md says
+ * what each one changes.
  *
  *
  * FORMATS
@@ -89,6 +93,21 @@
  *     tables; each has its own flow and pairs.
  *   - The machine is x86-64, with the calling convention of the System V ABI (Linux, the BSDs; not Windows).
  *
+ *
+ * COST AND CONTEXT
+ *
+ *   - Stack: WATCH_MOST_STACK bytes below the caller's frame at most, whatever the input, return addresses and red zone counted. tools/stack
+ *     reads the number off the archive for each function, and tools/test-outside holds this one to it.
+ *   - No heap, no statics, no locks, no system calls: the archive has no data that can be written, and calls nothing outside itself. So every
+ *     function is reentrant: threads, tasks and signal handlers may be in it at once, each with its own flow and pairs.
+ *   - The code uses the general registers, the registers of SSE2 and the 128 bytes below the stack pointer, the red zone. So it is not for a
+ *     bare interrupt, nor for a kernel that leaves those to the task that it interrupts: wake a task, and call from there.
+ *   - Every call ends; that is proved. Its work is bounded by the lengths that it is given, and grows as docs/PERFORMANCE.md shows.
+ *   - Every feed checks its list again, because what it promises holds for every list; then it gathers the accepting states. Together that is
+ *     some 30 instructions a record and call, 110,000 on 4,096 records, before the first byte. So feed what has come in one call, and not byte by byte.
+ *   - C++: the declarations have C linkage, no exception leaves a function, and the header compiles from C++98 on, where <stdint.h> and
+ *     <stdbool.h> are there.
+ *
  * What is proved, and what is assumed with it, is in docs/PROMISES.md.
  */
 #ifndef WATCH_H
@@ -105,6 +124,12 @@
 #ifdef __cplusplus
 extern "C" {
 #endif
+
+/* The version of the face that this header describes. */
+#define WATCH_VERSION 1
+
+/* Bytes of stack that a call takes at most. */
+#define WATCH_MOST_STACK 640
 
 /* States are the numbers below this one. */
 #define WATCH_STATES 256
@@ -188,6 +213,9 @@ _Static_assert(sizeof(size_t) == 8 && sizeof(watch_fed) == 24, "watch.h: the lay
 _Static_assert(offsetof(watch_fed, pairs) == 8 && offsetof(watch_fed, refusal) == 16 && offsetof(watch_fed, all) == 20,
                "watch.h: the layout is that of x86-64");
 #endif
+
+/* The version of the face that the archive has: WATCH_VERSION, where this is its header. */
+uint32_t watch_version(void);
 
 /* The list check: 0, or a refusal 1 to 3. */
 uint32_t watch_check_list(const uint8_t *list, size_t list_len);

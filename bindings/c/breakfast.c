@@ -15,7 +15,7 @@
  *     pair. The rest of the piece is then fed from its middle, and where not a byte was consumed, with a larger room.
  *
  * How many pieces, pauses and saved records there were goes to standard error, and so does the sentence of a refusal. The exit status is 0
- * where the flow ended, 1 where it was refused, 2 where a file could not be read.
+ * where the flow ended, 1 where it was refused, 2 where a file could not be read or the archive is not the header's.
  */
 #include <inttypes.h>
 #include <stdio.h>
@@ -94,6 +94,10 @@ int main(int argc, char **argv)
 {
     if (argc != 2 && argc != 3) {
         fprintf(stderr, "usage: breakfast FLOW [RULES]\n");
+        return 2;
+    }
+    if (watch_version() != WATCH_VERSION) {
+        fprintf(stderr, "breakfast: watch.h has version %d of the face, libwatch_c.a has %" PRIu32 "\n", WATCH_VERSION, watch_version());
         return 2;
     }
     const char *rules = argc == 3 ? argv[2] : "examples/two-breakfasts/rules.bin";

@@ -16,7 +16,8 @@
  * written keeps the offset of the last one and passes over those up to it. Without a saved record the flow begins at 0, and LINES is emptied. A
  * record belongs to the list that it was saved under: with another list, take another file.
  *
- * The exit status is 0 where the line ended, 1 where it was refused, 2 where a file could not be opened, read or written.
+ * The exit status is 0 where the line ended, 1 where it was refused, 2 where a file could not be opened, read or written, or where the
+ * archive is not the header's.
  *
  * With -DKILLED the program ends itself, as if killed, before the step whose number is in the variable KILLED, and writes and reads a few bytes
  * at a time: tools/test-outside kills it at every step so.
@@ -193,6 +194,10 @@ int main(int argc, char **argv)
 {
     if (argc != 5) {
         fprintf(stderr, "usage: live RULES LINE RECORD LINES\n");
+        return 2;
+    }
+    if (watch_version() != WATCH_VERSION) {
+        fprintf(stderr, "live: watch.h has version %d of the face, libwatch_c.a has %" PRIu32 "\n", WATCH_VERSION, watch_version());
         return 2;
     }
     const char *rules = argv[1], *record = argv[3], *told = argv[4];

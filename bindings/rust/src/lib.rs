@@ -71,7 +71,11 @@
 //! Where there is no archive, or the target is another one, `cargo check` and `cargo doc` still work, with a warning; a program
 //! does not link.
 //!
-//! This wrapper is not proved. All that is unsafe in it is five calls, in which slices are handed on as pointers and lengths.
+//! The archive says which version of the face it has, and [`List::check`] compares it with [`VERSION`]: everything else begins with a list,
+//! so nothing runs over an archive that this crate is not written for.
+//!
+//! This wrapper is not proved. All that is unsafe in it is six calls: five in which slices are handed on as pointers and lengths, and one
+//! that takes nothing.
 //!
 //! # Features
 //!
@@ -93,9 +97,16 @@ pub use refusal::{Refusal, SplitError};
 pub use sizes::{
     BYTE_VALUES, ENOUGH_WORDS, FLOW_SIZE, MOST_BOUND, MOST_CLASS, MOST_LIST, MOST_OFFSET, MOST_PARTS, MOST_RECORDS,
     MOST_SPLITS, OFFSET_AT, RECORD_SIZE, RESERVED_AT, ROWS_AT, SET_SIZE, SIGNATURES, SLOTS, SPLIT_SIZE, STATES, UNUSED,
+    VERSION,
 };
 
 use core::fmt;
+
+/// The version of the face that the linked archive has.
+pub fn archive_version() -> u32 {
+    // SAFETY: it takes nothing and touches nothing.
+    unsafe { raw::watch_version() }
+}
 
 /// A signature list that has passed its check.
 ///
@@ -110,6 +121,10 @@ pub struct List<'a> {
 impl<'a> List<'a> {
     /// Checks a list: refusals 1 to 3.
     ///
+    /// # Panics
+    ///
+    /// Where the linked archive has another version of the face than this crate is written for, [`VERSION`].
+    ///
     /// ```
     /// use watch::{List, Refusal, STATES};
     ///
@@ -119,6 +134,8 @@ impl<'a> List<'a> {
     /// assert_eq!(List::check(&[1, 0, 9, 0, 0, 0, 0, 0]), Err(Refusal::NoStart));
     /// ```
     pub fn check(bytes: &'a [u8]) -> Result<List<'a>, Refusal> {
+        let archive = archive_version();
+        assert!(archive == VERSION, "libwatch_c.a has version {archive} of the face, and the crate watch is for {VERSION}");
         // SAFETY: pointer and length are those of a slice that is borrowed over the call.
         let number = unsafe { raw::watch_check_list(bytes.as_ptr(), bytes.len()) };
         Refusal::verdict(number)?;

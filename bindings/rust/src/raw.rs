@@ -1,4 +1,4 @@
-//! The five functions of the archive as they are: numbers, pointers and lengths. `include/watch.h` says the same in C.
+//! The functions of the archive as they are: numbers, pointers and lengths. `include/watch.h` says the same in C.
 //!
 //! The rest of this crate is a safe face over them; these are here for callers that hold foreign buffers, and for tests.
 //!
@@ -23,6 +23,9 @@ pub struct WatchFed {
 }
 
 extern "C" {
+    /// The version of the face that the archive has. It may be called at any time.
+    pub fn watch_version() -> u32;
+
     /// The list check: 0, or a refusal 1 to 3.
     pub fn watch_check_list(list: *const u8, list_len: usize) -> u32;
 

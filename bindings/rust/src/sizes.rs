@@ -1,6 +1,9 @@
 //! The sizes and limits of the formats, under the names that `include/watch.h` gives them after `WATCH_`. What follows from another one
 //! is written so. `tools/sizes` in the repository holds them to the constants of the proved code.
 
+/// The version of the C face that this crate is written for. [`List::check`](crate::List::check) compares it with the archive's.
+pub const VERSION: u32 = 1;
+
 /// States are the numbers below this one.
 pub const STATES: usize = 256;
 

@@ -5,6 +5,7 @@ ghost use Rattle.lists.specs.List.{listRefusal};
 ghost use Rattle.plain.specs.Plain.{openRefusal, openSaved, plainFeed};
 ghost use Rattle.tables.specs.Table.{table, tableRefusal};
 ghost use Rattle.splits.specs.Split.{splitFeed};
+ghost use Rattle.watch_c.specs.Face.{version};
 ghost use Rattle.faces.specs.Faced.{held};
 
 // What the calls answered: the two checks, the opening, and both feeds.
@@ -16,7 +17,14 @@ struct Drove {
     split: WatchFed,
 }
 
-// Calls each exported name once, each on buffers of its own.
+// Calls the exported name that takes nothing.
+fn drive_version() -> u32
+    ensures { λ r. ⌜ r ≡ version ⌝ }
+{
+    watch_c::watch_version()
+}
+
+// Calls each other exported name once, each on buffers of its own.
 fn drive_faces(
     list: &[u8],
     bound: u64,

@@ -6,6 +6,10 @@ use Rattle.feeds.specs.Engine.{Outcome}
 use Rattle.feeds.specs.declared.Fed.{Fed}
 use Rattle.watch_c.specs.declared.WatchFed.{WatchFed}
 
+-- the version of the face, which rises with each change of a name, a size, a limit or a meaning in it
+abbrev pub version : ℕ
+version = 1
+
 -- the same four values
 pub record Faces (f : Fed) (w : WatchFed) : Type 0 where
   pub bytes : w .bytes ≡ f .bytes

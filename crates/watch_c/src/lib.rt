@@ -1,4 +1,4 @@
-// The C face: the library's five functions under names of their own, over numbers and slices. Nothing else is here.
+// The C face: the library's five functions under names of their own, over numbers and slices, and the face's version. Nothing else is here.
 use feeds::Fed;
 ghost use mathlib.Core.Path.{_≡_};
 ghost use Rattle.lists.specs.List.{listRefusal};
@@ -6,7 +6,10 @@ ghost use Rattle.plain.specs.Plain.{plainFeed};
 ghost use Rattle.plain.specs.Opens.{Opens};
 ghost use Rattle.tables.specs.Table.{table, tableRefusal};
 ghost use Rattle.splits.specs.Split.{splitFeed};
-ghost use Rattle.watch_c.specs.Face.{Faces, FaceAnswers};
+ghost use Rattle.watch_c.specs.Face.{version, Faces, FaceAnswers};
+
+// The version of the face, by which a caller compares its header with the archive.
+pub const VERSION: u32 = 1;
 
 // What a feed answers, as C lays it out.
 #[repr(C)]
@@ -27,6 +30,14 @@ fn face(f: Fed) -> WatchFed
         refusal: f.refusal,
         all: f.all,
     }
+}
+
+// The version of the face that the archive has.
+#[no_mangle]
+pub extern "C" fn watch_version() -> u32
+    ensures { λ r. ⌜ r ≡ version ⌝ }
+{
+    VERSION
 }
 
 // The list check: 0, or the number of the refusal.
