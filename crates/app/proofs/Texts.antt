@@ -67,6 +67,10 @@ puts-line ws text i at left next end l p q =
 pub puts-less : (m n : ℕ) (xs text : List ℕ) (at next : ℕ) (left : List ℕ) → m ≤ n → Puts m xs text at next left → Puts n xs text at next left
 puts-less m n xs text at next left l p = (p .0, omega (arith, p .1), p .2, p .3)
 
+-- with no more room than it takes
+pub puts-whole : (m : ℕ) (xs text : List ℕ) (at next : ℕ) (left : List ℕ) → Puts m xs text at next left → Puts (length xs) xs text at next left
+puts-whole m xs text at next left p = (p .0, omega arith, p .2, p .3)
+
 -- what is put at the start of a text is its front
 pub puts-front : (m : ℕ) (xs text : List ℕ) (next : ℕ) (left : List ℕ) → m ≤ length text → Puts m xs text 0 next left → take next left ≡ xs
 puts-front m xs text next left l p =

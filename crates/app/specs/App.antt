@@ -1,11 +1,108 @@
--- What the program's loops count on: the size of its pairs buffer, and how far one feed moves the flow.
-use Prim.Native.Nat.{ℕ, _+_, _≤_, _<_}
-use Rattle.feeds.specs.Engine.{mostOffset}
+-- What the program says, turn by turn; the texts of an undisturbed run; and which of them are handed over, where a write may not be whole.
+use Prim.Native.Nat.{ℕ, zero, suc, _+_, _*_, _-_, _%_, _≤_}
+use mathlib.Core.Path.{_≡_}
+use mathlib.Core.Bool.{Bool, true, false, cond}
+use mathlib.Core.List.{List, [], _∷_, _++_}
+use lib.ListN.{length, take, drop, getD, replicate}
+use lib.Dec.{eqb}
+use Rattle.io.specs.Counts.{Counts}
+use Rattle.flows.specs.Flow.{flowSize}
+use Rattle.plain.specs.Plain.{opened, openRefusal, plainFeed}
+use Rattle.app.specs.Text.{lineSize, lines, lastLine, Puts}
+use Rattle.app.specs.declared.Said.{Said}
+use Rattle.app.specs.declared.Taken.{Taken}
 
--- words of the pairs buffer
-abbrev pub pairWords : ℕ
-pairWords = 2048
+-- the most pairs of a feed; the most bytes of a text; the bytes of a piece
+abbrev pub mostPairs : ℕ
+mostPairs = 1024
 
--- a feed of `len` bytes at an offset, which answers a refusal or 0, leads to the offset `next`: not past the bytes, in range, and further if there is a byte and no refusal
-abbrev pub Step : ℕ → ℕ → ℕ → ℕ → Type 0
-Step offset len refusal next = (offset ≤ next) × (next ≤ offset + len) × (next ≤ mostOffset) × (0 < len → offset < refusal + next)
+abbrev pub textSize : ℕ
+textSize = lineSize * mostPairs
+
+abbrev pub pieceSize : ℕ
+pieceSize = 4096
+
+-- ---- a turn
+
+-- whether its text is the last, the bytes consumed, the text, and the record after it
+pub record Turn : Type 0 where
+  pub last : Bool
+  pub bytes : ℕ
+  pub text : List ℕ
+  pub saved : List ℕ
+
+abbrev pub lastTurn : ℕ → ℕ → List ℕ → Turn
+lastTurn refusal at R = record { last = true; bytes = 0; text = lastLine refusal at; saved = R }
+
+-- the words and the record before any feed
+abbrev pub noWords : List ℕ
+noWords = replicate (2 * mostPairs) 0
+
+abbrev pub noRecord : List ℕ
+noRecord = replicate flowSize 0
+
+-- on the record R at an offset, with `rest` left of a piece: the last line where nothing is left or the feed is refused, else the lines of its pairs
+unfoldable pub turnOf : List ℕ → List ℕ → ℕ → List ℕ → Turn
+turnOf L R at rest =
+    let o = plainFeed L R at rest noWords in
+    cond (eqb (length rest) 0) (lastTurn 0 at R)
+    (cond (eqb (o .refusal) 0) (record { last = false; bytes = o .bytes; text = lines (o .words) (o .pairs); saved = o .saved }) (lastTurn (o .refusal) at (o .saved)))
+
+-- ---- an undisturbed run on the input B
+
+-- what is left at an offset of the piece that it stands in: pieces are filled, the last alone is shorter
+unfoldable pub restAt : List ℕ → ℕ → List ℕ
+restAt B at = take (pieceSize - at % pieceSize) (drop at B)
+
+-- the texts of at most n turns, from the record R at an offset on
+unfoldable pub textsFrom : ℕ → List ℕ → List ℕ → List ℕ → ℕ → List (List ℕ)
+textsFrom zero L B R at = []
+textsFrom (suc n) L B R at =
+    let t = turnOf L R at (restAt B at) in
+    t .text ∷ cond (t .last) [] (textsFrom n L B (t .saved) (at + t .bytes))
+
+-- the texts of a run: a turn but the last consumes a byte
+unfoldable pub texts : List ℕ → List ℕ → List (List ℕ)
+texts L B =
+    let n = openRefusal L noRecord in
+    cond (eqb n 0) (textsFrom (suc (length B)) L B (opened L) 0) (lastLine n 0 ∷ [])
+
+-- ---- what is handed over
+
+-- an answer that says that a text was cut, that is, not taken whole: 0
+abbrev pub isCut : ℕ → Bool
+isCut a = eqb a 0
+
+-- the texts up to and with the first that is cut; where the answers end, each is
+unfoldable pub handed : List (List ℕ) → List ℕ → List (List ℕ)
+handed [] answers = []
+handed (t ∷ ts) [] = t ∷ []
+handed (t ∷ ts) (a ∷ answers) = t ∷ cond (isCut a) [] (handed ts answers)
+
+-- one after the other
+unfoldable pub joined : List (List ℕ) → List ℕ
+joined [] = []
+joined (t ∷ ts) = t ++ joined ts
+
+-- ---- what the code does
+
+-- the code says s, with the text at the start of a buffer, and leaves the record `sv`: a turn
+pub record Says (t : Turn) (s : Said) (buffer sv : List ℕ) : Type 0 where
+  pub last : s .last ≡ t .last
+  pub bytes : s .bytes ≡ t .bytes
+  pub counts : Counts (s .length) buffer
+  pub text : take (s .length) buffer ≡ t .text
+  pub saved : sv ≡ t .saved
+
+-- the first n bytes of a buffer end in what is left at an offset of the piece
+abbrev pub Held : List ℕ → ℕ → List ℕ → ℕ → Type 0
+Held B at piece n = take (n - at % pieceSize) (drop (at % pieceSize) piece) ≡ restAt B at
+
+-- a text goes to the end of a log, with answer number i
+pub record Takes (text answers : List ℕ) (i : ℕ) (log : List ℕ) (end : ℕ) (t : Taken) (left : List ℕ) : Type 0 where
+  pub cut : t .cut ≡ isCut (getD answers i 0)
+  pub puts : Puts (length text) text log end (t .end) left
+
+-- the texts, where there is room for them all, stand at the start of a log, which ends at `end`
+abbrev pub Logs : List (List ℕ) → List ℕ → ℕ → List ℕ → Type 0
+Logs ts log end left = length (joined ts) ≤ length log → Puts (length (joined ts)) (joined ts) log 0 end left

@@ -1,10 +1,10 @@
--- The text of pairs: a line for each, in decimal; and what putting bytes at a place of a text leaves.
+-- The text of pairs, a line for each, in decimal; the last line; and what putting bytes at a place of a text leaves.
 use Prim.Native.Nat.{ℕ, zero, suc, _+_, _*_, _/_, _≤_}
 use mathlib.Core.Path.{_≡_}
 use mathlib.Core.Bool.{cond}
 use mathlib.Core.List.{List, [], _∷_, _++_}
 use lib.ListN.{length, getD}
-use lib.Dec.{ltb}
+use lib.Dec.{ltb, eqb}
 use Rattle.io.specs.Digits.{digits}
 use Rattle.sets.specs.Set.{placed}
 
@@ -14,6 +14,10 @@ mostDigits = 20
 
 abbrev pub lineSize : ℕ
 lineSize = 2 * mostDigits + 2
+
+-- the most bytes of a last line's word
+abbrev pub wordSize : ℕ
+wordSize = 8
 
 -- how many digits n has, where that is at most k + 1: one for 0, and no zero in front
 unfoldable pub places : ℕ → ℕ → ℕ
@@ -32,6 +36,17 @@ line g k = decimal g ++ (32 ∷ []) ++ decimal k ++ (10 ∷ [])
 unfoldable pub lines : List ℕ → ℕ → List ℕ
 lines ws zero = []
 lines ws (suc n) = lines ws n ++ line (getD ws (2 * n) 0) (getD ws (2 * n + 1) 0)
+
+-- `end ` and `refused `
+abbrev pub endWord : List ℕ
+endWord = 101 ∷ 110 ∷ 100 ∷ 32 ∷ []
+
+abbrev pub refusedWord : List ℕ
+refusedWord = 114 ∷ 101 ∷ 102 ∷ 117 ∷ 115 ∷ 101 ∷ 100 ∷ 32 ∷ []
+
+-- the last line: `end` and the offset, or `refused` and a number that is not 0; a line feed
+unfoldable pub lastLine : ℕ → ℕ → List ℕ
+lastLine refusal at = cond (eqb refusal 0) (endWord ++ decimal at ++ (10 ∷ [])) (refusedWord ++ decimal refusal ++ (10 ∷ []))
 
 -- the bytes xs, at most m of them, are put at a place of the text, which leaves `left`; the place after them is `next`
 abbrev pub Puts : ℕ → List ℕ → List ℕ → ℕ → ℕ → List ℕ → Type 0

@@ -1,13 +1,15 @@
 // The program as a library: it reads rules.bin and standard input, feeds the flow, and writes a line for each pair.
 // From the first write that is not whole on it writes nothing more, so that output without its last line has lost something.
+// Each text is made and promised before it is handed over. `read_piece` and `hand` alone reach out; by a flag they take and leave arrays in the place of
+// standard input and output, and of such a run `watch` promises what is handed over, for every list, every input and all answers of the writes.
 ghost use mathlib.Core.Path.{_≡_};
-ghost use Prim.Native.Nat.{_+_, _*_, _≤_, _<_};
-ghost use mathlib.Core.List.{[], _∷_};
-ghost use lib.ListN.{length, take};
+ghost use mathlib.Core.Bool.{false};
+ghost use Prim.Native.Nat.{suc, _+_, _*_, _%_, _≤_, _<_, min};
+ghost use mathlib.Core.List.{[], _∷_, _++_};
+ghost use lib.ListN.{length, take, drop, getD};
 ghost use Rattle.io.specs.Counts.{Counts};
-ghost use Rattle.feeds.specs.Engine.{mostOffset};
-ghost use Rattle.app.specs.App.{pairWords, Step};
-ghost use Rattle.app.specs.Text.{mostDigits, lineSize, decimal, line, lines, Puts};
+ghost use Rattle.app.specs.Text.{mostDigits, wordSize, lineSize, decimal, line, lines, lastLine, Puts};
+ghost use Rattle.app.specs.App.{textSize, pieceSize, turnOf, textsFrom, texts, handed, isCut, Says, Held, Takes, Logs};
 
 // Words of the pairs buffer: room for 1,024 pairs, four times what one byte can tell.
 const PAIR_WORDS: usize = 2048;
@@ -18,20 +20,17 @@ const DIGITS: usize = 20;
 // Bytes of a piece of the input.
 const PIECE: usize = 4096;
 
-// In the place of a refusal's number: a write was not whole, so that nothing more is to be written.
-const LOST: u32 = 4294967295;
-
-// How the flow stands: a refusal's number, 0 or `LOST`, and the offset.
-struct Stand {
-    refusal: u32,
-    offset: u64,
+// What a turn says: whether its text is the last, the bytes consumed, and the length of the text.
+struct Said {
+    last: bool,
+    bytes: usize,
+    length: usize,
 }
 
-// How a piece was fed: how the flow stands, and the bytes that were read for it.
-struct Turn {
-    refusal: u32,
-    offset: u64,
-    read: usize,
+// How a text was taken: whether it was cut, that is, not taken whole, and where the log ends.
+struct Taken {
+    cut: bool,
+    end: usize,
 }
 
 // Puts a byte at a place of the text; answers the place after it.
@@ -43,15 +42,15 @@ fn put_byte(text: &mut [u8], at: usize, b: u8) -> usize
     at + 1
 }
 
-// Puts the first k digits at a place of the text; answers the place after them.
-fn put_digits(text: &mut [u8], at: usize, digits: &[u8; DIGITS], k: usize) -> usize
-    requires { ⌜ (at + mostDigits ≤ length (now text)) × (k ≤ mostDigits) × (k ≤ length (now digits)) ⌝ }
-    ensures { λ r. ⌜ Puts mostDigits (take k (now (digits .entry))) (now (text .entry)) at r (now (text .exit)) ⌝ }
+// Puts some bytes at a place of the text; answers the place after them.
+fn put_bytes(text: &mut [u8], at: usize, bytes: &[u8]) -> usize
+    requires { ⌜ at + length (now bytes) ≤ length (now text) ⌝ }
+    ensures { λ r. ⌜ Puts (length (now (bytes .entry))) (now (bytes .entry)) (now (text .entry)) at r (now (text .exit)) ⌝ }
 {
-    for i in 0..k {
-        text[at + i] = digits[i];
+    for i in 0..bytes.len() {
+        text[at + i] = bytes[i];
     }
-    at + k
+    at + bytes.len()
 }
 
 // Puts a number in decimal at a place of the text; answers the place after it.
@@ -61,7 +60,7 @@ fn put_number(text: &mut [u8], at: usize, n: u64) -> usize
 {
     let mut digits = [0u8; DIGITS];
     let k = io::decimal(n, &mut digits);
-    put_digits(text, at, &digits, k)
+    put_bytes(text, at, &digits[..k])
 }
 
 // Puts the line of a pair: signature, a space, offset, a line feed.
@@ -88,97 +87,127 @@ fn put_pairs(text: &mut [u8], out: &[u32], n: usize) -> usize
     at
 }
 
-// Writes the lines of the first n pairs, and says whether all of them were written.
-fn tell(out: &[u32], n: usize) -> bool
-    requires { ⌜ (2 * n ≤ length (now out)) × (2 * n ≤ pairWords) ⌝ }
+// Puts a word, a number and a line feed at the text's start; answers where they end.
+fn put_ending(text: &mut [u8], word: &[u8], n: u64) -> usize
+    requires { ⌜ (length (now word) ≤ wordSize) × (textSize ≤ length (now text)) ⌝ }
+    ensures { λ r. ⌜ Counts r (now (text .exit)) ⌝ }
+    ensures { λ r. ⌜ take r (now (text .exit)) ≡ now (word .entry) ++ decimal n ++ (10 ∷ []) ⌝ }
 {
-    let mut text = io::large_buffer();
-    let end = put_pairs(&mut text, out, n);
-    io::write_all(1, &text[..end])
+    let a = put_bytes(text, 0, word);
+    let b = put_number(text, a, n);
+    put_byte(text, b, b'\n')
 }
 
-// Feeds what is left of a piece once, and tells its pairs.
-fn feed_some(list: &[u8], flow: &mut [u8], offset: u64, rest: &[u8]) -> Stand
-    requires { ⌜ offset ≤ mostOffset ⌝ }
-    ensures { λ r. ⌜ Step offset (length (now (rest .entry))) (r .refusal) (r .offset) ⌝ }
+// Puts the last line: `refused` and the number, or `end` and the offset; answers where it ends.
+fn put_last(text: &mut [u8], refusal: u32, offset: u64) -> usize
+    requires { ⌜ textSize ≤ length (now text) ⌝ }
+    ensures { λ r. ⌜ Counts r (now (text .exit)) ⌝ }
+    ensures { λ r. ⌜ take r (now (text .exit)) ≡ lastLine refusal offset ⌝ }
 {
+    if refusal != rules::PASSED {
+        return put_ending(text, b"refused ", refusal as u64);
+    }
+    put_ending(text, b"end ", offset)
+}
+
+// Feeds what is left of a piece once, and puts the lines of its pairs; where nothing is left, or the feed is refused, it puts the last line.
+fn turn(list: &[u8], flow: &mut [u8], offset: u64, rest: &[u8], text: &mut [u8]) -> Said
+    requires { ⌜ textSize ≤ length (now text) ⌝ }
+    ensures { λ r. ⌜ Says (turnOf (now (list .entry)) (now (flow .entry)) offset (now (rest .entry))) r (now (text .exit)) (now (flow .exit)) ⌝ }
+{
+    if rest.len() == 0 {
+        return Said {
+            last: true,
+            bytes: 0,
+            length: put_last(text, rules::PASSED, offset),
+        };
+    }
     let mut out = [0u32; PAIR_WORDS];
     let fed = plain::feed(list, flow, offset, rest, &mut out);
-    if !tell(&out, fed.pairs) {
-        return Stand {
-            refusal: LOST,
-            offset: offset,
-        };
-    }
     if fed.refusal != rules::PASSED {
-        return Stand {
-            refusal: fed.refusal,
-            offset: offset,
+        return Said {
+            last: true,
+            bytes: 0,
+            length: put_last(text, fed.refusal, offset),
         };
     }
-    Stand {
-        refusal: rules::PASSED,
-        offset: offset + fed.bytes as u64,
+    Said {
+        last: false,
+        bytes: fed.bytes,
+        length: put_pairs(text, &out, fed.pairs),
     }
 }
 
-// Feeds a piece, and again what had no room, from its middle.
-fn feed_piece(list: &[u8], flow: &mut [u8], offset: u64, piece: &[u8]) -> Stand
-    requires { ⌜ offset ≤ mostOffset ⌝ }
-    ensures { λ r. ⌜ r .offset ≤ mostOffset ⌝ }
-    ensures { λ r. ⌜ (r .refusal ≡ 0 → r .offset ≡ offset + length (now (piece .entry))) ⌝ }
+// The lesser of two numbers.
+fn least(a: usize, b: usize) -> usize
+    ensures { λ r. ⌜ r ≡ min a b ⌝ }
 {
-    let mut at = offset;
-    let mut rest = piece;
-    while rest.len() > 0 {
-        let s = feed_some(list, flow, at, rest);
-        if s.refusal != rules::PASSED {
-            return s;
-        }
-        let n = (s.offset - at) as usize;
-        at = s.offset;
-        rest = &rest[n..];
-    }
-    Stand {
-        refusal: rules::PASSED,
-        offset: at,
-    }
+    if a < b { a } else { b }
 }
 
-// Feeds one piece of standard input, which is filled unless the input ends.
-fn feed_input(list: &[u8], flow: &mut [u8], offset: u64) -> Turn
-    requires { ⌜ offset ≤ mostOffset ⌝ }
-    ensures { λ r. ⌜ r .offset ≤ mostOffset ⌝ }
-    ensures { λ r. ⌜ (r .refusal ≡ 0 → r .offset ≡ offset + r .read) ⌝ }
+// Reads a piece of the input at an offset into the piece's buffer; answers how many bytes came.
+fn read_array(input: &[u8], offset: usize, piece: &mut [u8]) -> usize
+    requires { ⌜ length (now piece) ≡ pieceSize ⌝ }
+    ensures { λ r. ⌜ (r ≤ pieceSize) × (take r (now (piece .exit)) ≡ take pieceSize (drop offset (now (input .entry)))) ⌝ }
 {
-    let mut piece = io::buffer();
-    let n = io::read_full(0, &mut piece);
-    let s = feed_piece(list, flow, offset, &piece[..n]);
-    Turn {
-        refusal: s.refusal,
-        offset: s.offset,
-        read: n,
+    if input.len() < offset {
+        return 0;
+    }
+    let n = least(input.len() - offset, PIECE);
+    put_bytes(piece, 0, &input[offset..offset + n])
+}
+
+// Where the offset is at a piece's start, reads the piece: it is filled unless the input ends. Answers how many bytes the piece has.
+fn read_piece(outside: bool, input: &[u8], offset: u64, piece: &mut [u8], n: usize) -> usize
+    requires { ⌜ (length (now piece) ≡ pieceSize) × (n ≤ pieceSize) × (offset % pieceSize ≤ n) ⌝ }
+    ensures { λ r. ⌜ (r ≤ pieceSize) × (offset % pieceSize ≤ r) ⌝ }
+    ensures { λ r. ⌜ (outside ≡ false → (0 < offset % pieceSize → Held (now (input .entry)) offset (now (piece .entry)) n)
+        → Held (now (input .entry)) offset (now (piece .exit)) r) ⌝ }
+{
+    if offset % PIECE as u64 != 0 {
+        return n;
+    }
+    if outside {
+        return io::read_full(0, piece);
+    }
+    read_array(input, offset as usize, piece)
+}
+
+// Whether answer number i is that a text was cut: it is 0. Past the end each is.
+fn cut_at(answers: &[u8], i: usize) -> bool
+    ensures { λ r. ⌜ r ≡ isCut (getD (now (answers .entry)) i 0) ⌝ }
+{
+    if i < answers.len() {
+        answers[i] == 0
+    } else {
+        true
     }
 }
 
-// Feeds the whole of standard input: the offset rises by a full piece in each turn but the last.
-fn feed_all(list: &[u8], flow: &mut [u8]) -> Stand {
-    let mut offset: u64 = 0;
-    loop {
-        let t = feed_input(list, flow, offset);
-        if t.refusal != rules::PASSED {
-            return Stand {
-                refusal: t.refusal,
-                offset: offset,
-            };
-        }
-        offset = t.offset;
-        if t.read < PIECE {
-            return Stand {
-                refusal: rules::PASSED,
-                offset: offset,
-            };
-        }
+// Hands a text over, to standard output, and says whether all of it was written; or to the end of the log, with answer number i.
+// A log without room takes nothing.
+fn hand(outside: bool, text: &[u8], answers: &[u8], i: usize, log: &mut [u8], end: usize) -> Taken
+    requires { ⌜ end ≤ length (now log) ⌝ }
+    ensures { λ r. ⌜ r .end ≤ length (now (log .exit)) ⌝ }
+    ensures { λ r. ⌜ (outside ≡ false → end + length (now (text .entry)) ≤ length (now (log .entry))
+        → Takes (now (text .entry)) (now (answers .entry)) i (now (log .entry)) end r (now (log .exit))) ⌝ }
+{
+    if outside {
+        let whole = io::write_all(1, text);
+        return Taken {
+            cut: !whole,
+            end: end,
+        };
+    }
+    if log.len() - end < text.len() {
+        return Taken {
+            cut: true,
+            end: end,
+        };
+    }
+    Taken {
+        cut: cut_at(answers, i),
+        end: put_bytes(log, end, text),
     }
 }
 
@@ -195,45 +224,71 @@ fn read_rules(list: &mut [u8]) -> usize
     n
 }
 
-// Writes a word, a number and a line feed, each only where all before it was written.
-fn write_last(word: &[u8], n: u64) {
-    if io::write_all(1, word) {
-        if io::print_decimal(1, n) {
-            io::write_all(1, b"\n");
+// Runs from an opened flow on: each turn's text is handed over, up to the last one or the first that is cut. Answers where the log ends.
+fn run(
+    outside: bool,
+    list: &[u8],
+    flow: &mut [u8],
+    piece: &mut [u8],
+    text: &mut [u8],
+    input: &[u8],
+    answers: &[u8],
+    log: &mut [u8],
+) -> usize
+    requires { ⌜ (length (now piece) ≡ pieceSize) × (textSize ≤ length (now text)) ⌝ }
+    ensures { λ r. ⌜ (outside ≡ false → Logs (handed (textsFrom (suc (length (now (input .entry)))) (now (list .entry)) (now (input .entry)) (now (flow .entry)) 0) (now (answers .entry)))
+        (now (log .entry)) r (now (log .exit))) ⌝ }
+{
+    let mut offset: u64 = 0;
+    let mut n: usize = 0;
+    let mut i: usize = 0;
+    let mut end: usize = 0;
+    loop {
+        n = read_piece(outside, input, offset, piece, n);
+        let from = (offset % PIECE as u64) as usize;
+        let said = turn(list, flow, offset, &piece[from..n], text);
+        let taken = hand(outside, &text[..said.length], answers, i, log, end);
+        end = taken.end;
+        if said.last {
+            return end;
         }
+        if taken.cut {
+            return end;
+        }
+        offset = offset + said.bytes as u64;
+        i = i + 1;
     }
 }
 
-// Writes the last line: `refused` and the number, or `end` and the offset; nothing where a write before it was not whole.
-fn finish(s: Stand) {
-    if s.refusal == LOST {
-        return;
-    }
-    if s.refusal != rules::PASSED {
-        write_last(b"refused ", s.refusal as u64);
-    } else {
-        write_last(b"end ", s.offset);
-    }
-}
-
-// Watches standard input by a list, which is refused before any input is read.
-fn watch(list: &[u8]) {
+// Watches the input by a list, which is refused before any input is read. Answers where the log ends.
+fn watch(outside: bool, list: &[u8], input: &[u8], answers: &[u8], log: &mut [u8]) -> usize
+    ensures { λ r. ⌜ (outside ≡ false → Logs (handed (texts (now (list .entry)) (now (input .entry))) (now (answers .entry))) (now (log .entry)) r (now (log .exit))) ⌝ }
+{
     let mut flow = [0u8; flows::FLOW_SIZE];
+    let mut piece = io::buffer();
+    let mut text = io::large_buffer();
     let refusal = plain::open_flow(list, &mut flow);
     if refusal != rules::PASSED {
-        finish(Stand {
-            refusal: refusal,
-            offset: 0,
-        });
-        return;
+        let n = put_last(&mut text, refusal, 0);
+        let taken = hand(outside, &text[..n], answers, 0, log, 0);
+        return taken.end;
     }
-    let s = feed_all(list, &mut flow);
-    finish(s);
+    run(
+        outside,
+        list,
+        &mut flow,
+        &mut piece,
+        &mut text,
+        input,
+        answers,
+        log,
+    )
 }
 
 // The program. The list's buffer holds more than the longest list, so a longer one is seen as too long.
 pub fn start() {
     let mut list = io::large_buffer();
     let n = read_rules(&mut list);
-    watch(&list[..n]);
+    let mut log = [0u8; 1];
+    watch(true, &list[..n], b"", b"", &mut log);
 }

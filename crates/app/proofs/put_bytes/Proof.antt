@@ -1,25 +1,26 @@
--- `put_digits` meets its promise: each turn puts one more digit. Assumes nothing.
+-- `put_bytes` meets its promise: each turn puts one more byte. Assumes nothing.
 use borrow.Author.Needs.{needs}
 use mathlib.Core.Path.{_≡_}
 use Prim.Native.Nat.{_≤_, _-_, _+_}
 use native.Mathlib.Omega.{arith}
-use lib.ListN.{take}
-use Rattle.app.specs.Text.{mostDigits, Puts}
-use Rattle.app.proofs.Texts.{puts-none, puts-next, puts-less}
-use Rattle.app.proofs.put_digits.Statement.{statement}
-use Rattle.app.proofs.put_digits.Tie as tie
+use lib.ListN.{length, take}
+use lib.Seq.{take-length}
+use Rattle.app.specs.Text.{Puts}
+use Rattle.app.proofs.Texts.{puts-none, puts-next}
+use Rattle.app.proofs.put_bytes.Statement.{statement}
+use Rattle.app.proofs.put_bytes.Tie as tie
 
 abbrev Inv-loop : tie.InvT-loop
-Inv-loop text₀ at digits k i₀ text i = (i ≤ k) × Puts i (take i digits) text₀ at (at + i) text
+Inv-loop text₀ at bytes i₀ i-end text i = (i ≤ length bytes) × Puts i (take i bytes) text₀ at (at + i) text
 
 abbrev μ-loop : tie.MeasureT-loop
-μ-loop text₀ at digits k i₀ text i = k - i
+μ-loop text₀ at bytes i₀ i-end text i = length bytes - i
 
 loop-holds : tie.Need-loop-holds Inv-loop μ-loop
-loop-holds c = (search needs, puts-none (c .args .text .now) (c .args .at) (omega (arith, c .pre)))
+loop-holds c = (omega arith, puts-none (c .args .text .now) (c .args .at) (omega (arith, c .pre)))
 
-element-copy-out-text : tie.Need-element-copy-out-text Inv-loop μ-loop
-element-copy-out-text c = search needs
+shared-slice-read-text : tie.Need-shared-slice-read-text Inv-loop μ-loop
+shared-slice-read-text c = search needs
 
 add-text : tie.Need-add-text Inv-loop μ-loop
 add-text c = search needs
@@ -37,7 +38,7 @@ loop-again : tie.Need-loop-again Inv-loop μ-loop
 loop-again c =
     let a = c .before .before .before .args in
     let l = c .before .before .loop in
-    (omega arith, puts-next (a .digits .now) (a .text .now) (a .at) (l .i) (l .text) (omega arith) (omega arith) (l .inv .1))
+    (omega arith, puts-next (a .bytes .now) (a .text .now) (a .at) (l .i) (l .text) (omega arith) (omega arith) (l .inv .1))
 
 add-result : tie.Need-add-result Inv-loop μ-loop
 add-result c = search needs
@@ -49,17 +50,17 @@ returns : tie.Need-returns Inv-loop μ-loop
 returns c =
     let a = c .before .before .args in
     let l = c .before .loop in
-    let e : l .i ≡ a .k = omega arith in
-    puts-less (a .k) mostDigits (take (a .k) (a .digits .now)) (a .text .now) (a .at) (a .at + a .k) (l .text) (omega arith) (rw e at (l .inv .1))
+    let e : l .i ≡ length (a .bytes .now) = omega arith in
+    rw (e, take-length (a .bytes .now)) at (l .inv .1)
 
-pub put-digits-spec : {M : Type 1} → statement M
-put-digits-spec =
+pub put-bytes-spec : {M : Type 1} → statement M
+put-bytes-spec =
     tie.close
     (tie.spec
     Inv-loop
     μ-loop
     loop-holds
-    element-copy-out-text
+    shared-slice-read-text
     add-text
     slice-write-text
     add-i

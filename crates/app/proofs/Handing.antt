@@ -1,0 +1,192 @@
+-- What the program's loop hands over, turn by turn, is what the definition hands over of an undisturbed run's texts. Assumes nothing.
+use Prim.Native.Nat.{ℕ, zero, suc, _+_, _-_, _%_, _≤_, _<_, min}
+use mathlib.Core.Path.{_≡_, refl, sym, ap, _∙_}
+use mathlib.Core.Bool.{Bool, true, false, cond}
+use mathlib.Core.List.{List, [], _∷_, _++_, append-nil, append-assoc}
+use native.Mathlib.Omega.{arith}
+use native.Mathlib.Nat.{lt-of-not-le}
+use native.Mathlib.Decide.{decLt}
+use native.Mathlib.Numerals.{add-one}
+use lib.ListN.{length, take, drop, getD, length-append, length-take, length-drop, drop-of-length-le}
+use lib.Seq.{take-all, take-length, drop-drop}
+use lib.Dec.{eqb}
+use borrow.Author.Tests.{eq-eqb, ne-eqb}
+use Rattle.sets.proofs.Laws.{drop-take}
+use Rattle.feeds.proofs.Runs.{length-take-most}
+use Rattle.plain.specs.Plain.{opened, openRefusal}
+use Rattle.plain.specs.Opens.{Opens}
+use Rattle.app.specs.declared.Said.{Said}
+use Rattle.app.specs.declared.Taken.{Taken}
+use Rattle.app.specs.Text.{lastLine, Puts}
+use Rattle.app.specs.App.{pieceSize, noRecord, Turn, turnOf, restAt, textsFrom, texts, handed, joined, isCut, Says, Held, Takes, Logs}
+use Rattle.app.proofs.Texts.{puts-none, puts-after, puts-whole, puts-front}
+use Rattle.app.proofs.Feeding.{turn-moves}
+
+-- ---- pieces
+
+-- a piece that is read at its start
+pub held-read : (B : List ℕ) (at : ℕ) (piece : List ℕ) (n : ℕ) → at % pieceSize ≡ 0 → take n piece ≡ take pieceSize (drop at B) → Held B at piece n
+unfolding restAt
+held-read B at piece n z e = let d : n - 0 ≡ n = omega arith in rw (z, d) e
+
+-- a piece past the end of the input is empty
+pub read-none : (B : List ℕ) (at : ℕ) (piece : List ℕ) → length B ≤ at → (0 ≤ pieceSize) × (take 0 piece ≡ take pieceSize (drop at B))
+read-none B at piece l = (omega arith, rw (drop-of-length-le B {i = at} l))
+
+-- as much of some bytes as a piece holds
+take-least : (xs : List ℕ) (k n : ℕ) → n ≡ min (length xs) k → take n xs ≡ take k xs
+take-least xs k n e =
+    elim (decLt k (length xs)) [
+      | yes l ↦ let m : n ≡ k = omega (arith, e) in rw m
+      | no h ↦ let m : n ≡ length xs = omega (arith, e, lt-of-not-le (λ (l : suc k ≤ length xs). h l)) in rw m (take-length xs ∙ sym (take-all k xs (omega (arith, lt-of-not-le (λ (l : suc k ≤ length xs). h l)))))
+    ]
+
+pub read-front : (B : List ℕ) (at : ℕ) (piece : List ℕ) (n r : ℕ) (left : List ℕ) → length piece ≡ pieceSize → n ≡ min (length B - at) pieceSize
+    → Puts (length (take (at + n - at) (drop at B))) (take (at + n - at) (drop at B)) piece 0 r left → (r ≤ pieceSize) × (take r left ≡ take pieceSize (drop at B))
+read-front B at piece n r left l e p =
+    let d : at + n - at ≡ n = omega arith in
+    let m : length (take (at + n - at) (drop at B)) ≤ pieceSize = rw (d, length-take n (drop at B)) (omega (arith, e)) in
+    let f : take n (drop at B) ≡ take pieceSize (drop at B) = take-least (drop at B) pieceSize n (e ∙ ap (λ (k : ℕ). min k pieceSize) (sym (length-drop at B))) in
+    (omega (arith, p .0, m), puts-front _ _ piece r left (omega (arith, m, l)) p ∙ ap (λ (k : ℕ). take k (drop at B)) d ∙ f)
+
+-- no more is left than the input has from there on
+rest-most : (B : List ℕ) (at : ℕ) → length (restAt B at) ≤ length B - at
+unfolding restAt
+rest-most B at = omega (arith, length-take-most (pieceSize - at % pieceSize) (drop at B), length-drop at B)
+
+-- a part from f up to n has no more than the bytes between
+pub front-most : (n f b d : ℕ) (xs : List ℕ) → f ≤ n → b ≡ d → d ≤ length (take (n - f) (drop f xs)) → f + b ≤ n
+front-most n f b d xs l e m = omega (arith, l, e, m, length-take (n - f) (drop f xs))
+
+-- what is held of a piece after some bytes of it, up to its end
+pub held-next : (B : List ℕ) (at : ℕ) (piece : List ℕ) (n b : ℕ) → n ≤ pieceSize → at % pieceSize + b ≤ n → Held B at piece n → 0 < (at + b) % pieceSize → Held B (at + b) piece n
+unfolding restAt
+held-next B at piece n b l h e p =
+    let f : (at + b) % pieceSize ≡ at % pieceSize + b = omega (arith, l, h, p) in
+    let u : n - (at % pieceSize + b) + b ≡ n - at % pieceSize = omega (arith, h) in
+    let v : pieceSize - (at % pieceSize + b) + b ≡ pieceSize - at % pieceSize = omega (arith, l, h) in
+    rw (f, ← drop-drop b (at % pieceSize) piece, ← drop-drop b at B, ← drop-take b (n - (at % pieceSize + b)) (drop (at % pieceSize) piece), ← drop-take b (pieceSize - (at % pieceSize + b)) (drop at B), u, v)
+    (ap (drop b) e)
+
+-- ---- answers
+
+-- the first of some texts is handed over, and the others unless it is cut
+handed-at : (t : List ℕ) (ts : List (List ℕ)) (answers : List ℕ) (i : ℕ)
+    → handed (t ∷ ts) (drop i answers) ≡ t ∷ cond (isCut (getD answers i 0)) [] (handed ts (drop (suc i) answers))
+unfolding handed
+handed-at t ts [] zero = refl
+handed-at t ts [] (suc i) = refl
+handed-at t ts (a ∷ answers) zero = refl
+handed-at t ts (a ∷ answers) (suc i) = handed-at t ts answers i
+
+-- ---- the loop of a run from the record R₀ on, with the log log₀ at its start
+
+module _ (L B answers R₀ log₀ : List ℕ) where
+  -- all that is handed over
+  abbrev pub allHanded : List ℕ
+  allHanded = joined (handed (textsFrom (suc (length B)) L B R₀ 0) answers)
+
+  -- at an offset with the record R, and i texts taken: `sofar` is handed over and logged, and ahead are the texts from there on
+  pub record Running (R log : List ℕ) (at i end : ℕ) : Type 0 where
+    pub sofar : List ℕ
+    pub turns : ℕ
+    pub within : at ≤ length B
+    pub enough : length B ≤ turns + at
+    pub logged : Puts (length sofar) sofar log₀ 0 end log
+    pub ahead : allHanded ≡ sofar ++ joined (handed (textsFrom (suc turns) L B R at) (drop i answers))
+
+  -- before the first turn
+  pub running : Running R₀ log₀ 0 0 0
+  running =
+      record { sofar = []; turns = length B; within = omega arith; enough = omega arith; logged = puts-none log₀ 0 (omega arith); ahead = refl }
+
+  -- a turn
+  module _ (fits : length allHanded ≤ length log₀) (R log : List ℕ) (at i end : ℕ) (r : Running R log at i end)
+      (rest : List ℕ) (held : rest ≡ restAt B at) (s : Said) (buffer sv : List ℕ) (says : Says (turnOf L R at rest) s buffer sv) where
+    abbrev t : Turn
+    t = turnOf L R at (restAt B at)
+
+    abbrev text : List ℕ
+    text = take (s .length) buffer
+
+    said : Says t s buffer sv
+    said = rw held at says
+
+    -- the texts behind this one that are handed over
+    abbrev behind : Bool → Bool → List (List ℕ)
+    behind cut last = cond cut [] (handed (cond last [] (textsFrom (r .turns) L B (t .saved) (at + t .bytes))) (drop (suc i) answers))
+
+    split : allHanded ≡ (r .sofar ++ text) ++ joined (behind (isCut (getD answers i 0)) (t .last))
+    unfolding textsFrom joined
+    split =
+        r .ahead
+        ∙ ap (λ (ts : List (List ℕ)). r .sofar ++ joined ts) (handed-at (t .text) (cond (t .last) [] (textsFrom (r .turns) L B (t .saved) (at + t .bytes))) answers i)
+        ∙ ap (λ (u : List ℕ). r .sofar ++ (u ++ joined (behind (isCut (getD answers i 0)) (t .last)))) (sym (said .text))
+        ∙ sym (append-assoc (r .sofar) text (joined (behind (isCut (getD answers i 0)) (t .last))))
+
+    long : length allHanded ≡ length (r .sofar ++ text) + length (joined (behind (isCut (getD answers i 0)) (t .last)))
+    long = ap length split ∙ length-append (r .sofar ++ text) (joined (behind (isCut (getD answers i 0)) (t .last)))
+
+    -- there is room for it
+    pub text-fits : end + length text ≤ length log
+    text-fits = omega (arith, fits, long, length-append (r .sofar) text, r .logged .0, r .logged .3)
+
+    module _ (k : Taken) (left : List ℕ) (takes : Takes text answers i log end k left) where
+      more : Puts (length (r .sofar ++ text)) (r .sofar ++ text) log₀ 0 (k .end) left
+      more =
+          puts-whole _ _ _ _ _ _
+          (puts-after (length (r .sofar)) (length text) (r .sofar) text log₀ 0 end log (k .end) left (omega (arith, text-fits, r .logged .0, r .logged .3)) (r .logged) (takes .puts))
+
+      over : joined (behind (isCut (getD answers i 0)) (t .last)) ≡ [] → Puts (length allHanded) allHanded log₀ 0 (k .end) left
+      over e = let w : allHanded ≡ r .sofar ++ text = split ∙ rw e (append-nil (r .sofar ++ text)) in rw w more
+
+      -- the last text: that was all
+      pub over-last : s .last ≡ true → Puts (length allHanded) allHanded log₀ 0 (k .end) left
+      unfolding joined handed
+      over-last z = over (rw (sym (said .last) ∙ z) (go (isCut (getD answers i 0))))
+        where
+          go : (b : Bool) → joined (behind b true) ≡ []
+          go true = refl
+          go false = refl
+
+      -- cut: that was all
+      pub over-cut : k .cut ≡ true → Puts (length allHanded) allHanded log₀ 0 (k .end) left
+      unfolding joined
+      over-cut z = over (rw (sym (takes .cut) ∙ z))
+
+      -- else the loop goes on
+      pub goes-on : s .last ≡ false → k .cut ≡ false → Running sv left (at + s .bytes) (i + 1) (k .end)
+      goes-on y z =
+          let m = turn-moves L R at (restAt B at) (sym (said .last) ∙ y) in
+          let b : s .bytes ≡ t .bytes = said .bytes in
+          let e : suc (r .turns - 1) ≡ r .turns = omega (arith, r .enough, r .within, m .goes, m .front, rest-most B at) in
+          record {
+            sofar = r .sofar ++ text;
+            turns = r .turns - 1;
+            within = omega (arith, r .within, m .front, b, rest-most B at);
+            enough = omega (arith, r .enough, m .goes, b);
+            logged = more;
+            ahead = split ∙ rw (sym (said .last) ∙ y, sym (takes .cut) ∙ z, e, said .saved, b, add-one i);
+          }
+
+-- ---- a run whose list is refused: one text
+
+-- with room for it, the last line alone
+pub refused-logs : (L B answers log : List ℕ) (n : ℕ) (text : List ℕ) (k : Taken) (left : List ℕ) → n ≡ openRefusal L noRecord → (n ≡ 0 → ⊥)
+    → text ≡ lastLine n 0 → (0 + length text ≤ length log → Takes text answers 0 log 0 k left) → Logs (handed (texts L B) answers) log (k .end) left
+unfolding texts joined handed
+refused-logs L B answers log n text k left e z h takes =
+    rw (← e, ne-eqb n 0 z, handed-at (lastLine n 0) [] answers 0, go (isCut (getD answers 0 0)), append-nil (lastLine n 0), ← h) (λ l. takes (omega (arith, l)) .puts)
+  where
+    go : (b : Bool) → cond b [] (handed [] (drop 1 answers)) ≡ []
+    go true = refl
+    go false = refl
+
+-- and one whose list is taken
+pub opened-logs : (L B answers log Q : List ℕ) (n end : ℕ) (left : List ℕ) → Opens L noRecord n Q → n ≡ 0
+    → Logs (handed (textsFrom (suc (length B)) L B Q 0) answers) log end left → Logs (handed (texts L B) answers) log end left
+unfolding texts
+opened-logs L B answers log Q n end left o z h =
+    let e : eqb (openRefusal L noRecord) 0 ≡ true = eq-eqb (openRefusal L noRecord) 0 (sym (o .refusal) ∙ z) in
+    let q : Q ≡ opened L = o .saved ∙ rw e in
+    rw e (rw q at h)
