@@ -129,7 +129,7 @@ extern "C" {
 #define WATCH_VERSION 1
 
 /* Bytes of stack that a call takes at most. */
-#define WATCH_MOST_STACK 640
+#define WATCH_MOST_STACK 576
 
 /* States are the numbers below this one. */
 #define WATCH_STATES 256

@@ -288,25 +288,25 @@ fn rows() -> Vec<Row> {
             Box::new(move || (inputs::barn_list(), fed(frontier, inputs::line(1)))),
         );
     }
-    for records in [16, 256] {
-        row(
-            format!("plain feed, {records} records, frontier 8"),
-            4,
-            Box::new(move || {
-                let list = inputs::steady_list(records, 8);
-                (list, fed(8, inputs::line(1024)))
-            }),
-        );
-    }
-    for (frontier, bytes) in [(1, 512), (8, 128), (64, 16), (STATES, 8)] {
-        row(
-            format!("plain feed, {full} records, frontier {frontier}"),
-            2,
-            Box::new(move || {
-                let list = inputs::steady_list(MOST_RECORDS, frontier);
-                (list, fed(frontier, inputs::line(bytes)))
-            }),
-        );
+    for records in [16, 256, MOST_RECORDS] {
+        for frontier in [1, 8, 64, STATES] {
+            // A frontier lasts where each of its states can have an edge.
+            let (turn, bytes, pieces) = match frontier < records {
+                true => (2, 512, ""),
+                false => (64, 1, ", pieces of 1 byte"),
+            };
+            row(
+                format!(
+                    "plain feed, {} records, frontier {frontier}{pieces}",
+                    number(records)
+                ),
+                turn,
+                Box::new(move || {
+                    let list = inputs::steady_list(records, frontier);
+                    (list, fed(frontier, inputs::line(bytes)))
+                }),
+            );
+        }
     }
     let traffic: [(&str, fn(usize) -> Vec<u8>); 2] = [
         (QUIET, inputs::quiet_bytes),

@@ -1,4 +1,4 @@
 pub mod Listed
 pub mod Steps
-pub mod Frontier
+pub mod Quick
 pub mod Unique

@@ -2,10 +2,11 @@
 use sets::SigSet;
 use sets::StateSet;
 ghost use mathlib.Core.Path.{_≡_};
-ghost use mathlib.Core.Bool.{cond};
-ghost use Prim.Native.Nat.{_+_, _*_, _<_, _^_};
+ghost use mathlib.Core.Bool.{true, cond};
+ghost use Prim.Native.Nat.{ℕ, _+_, _*_, _%_, _<_};
 ghost use lib.ListN.{length, getD};
-ghost use Rattle.sets.specs.Set.{states, num, setOf, sigsOf, join, insert};
+ghost use Rattle.sets.specs.Set.{num, setOf, sigsOf, holds, insert};
+ghost use Rattle.rules.specs.Scan.{some};
 ghost use Rattle.lists.specs.List.{recordSize, records, word, byteOf, wordOf, isEdge, isStart, isAccept, from};
 ghost use Rattle.lists.specs.List.{target, zeros, goodEdge, goodStart, goodAccept, goodRecord, badLength, badRecord, noStart, listRefusal};
 ghost use Rattle.lists.specs.Automaton.{edge, leaves, start, step, accepted, accepting};
@@ -227,72 +228,58 @@ pub fn start_set(list: &[u8]) -> StateSet
     StateSet::of_words(w)
 }
 
-// Says whether record i is an edge that byte c takes.
+// Says whether record i is an edge that byte c takes. The range is tested at once, by how far c and high are above low, where 0 follows 255:
+// few records pass, while each of its ends alone lets half of them pass, and no processor foresees which.
 fn edge(list: &[u8], c: u8, i: usize) -> bool
     requires { ⌜ i < records (now list) ⌝ }
     ensures { λ r. ⌜ r ≡ edge (now (list .entry)) c i ⌝ }
 {
-    is_edge(list, i) & (byte_of(list, i, 1) <= c) & (c <= byte_of(list, i, 2))
+    let low = byte_of(list, i, 1) as usize;
+    let high = byte_of(list, i, 2) as usize;
+    ((c as usize + 256 - low) % 256 <= (high + 256 - low) % 256) & is_edge(list, i) & (low <= high)
 }
 
-// Says whether record i is an edge that byte c takes from state s.
-fn leaves(list: &[u8], s: usize, c: u8, i: usize) -> bool
-    requires { ⌜ i < records (now list) ⌝ }
-    ensures { λ r. ⌜ r ≡ leaves (now (list .entry)) (2 ^ s) (edge (now (list .entry)) c) i ⌝ }
+// The words laid over one another: bit j is 1 where some word has it.
+fn places(w: &[u64]) -> u64
+    ensures { λ r. ⌜ ((j : ℕ) → holds r j ≡ some (length (now (w .entry))) (λ i. holds (getD (now (w .entry)) i 0) j)) ⌝ }
 {
-    (from(list, i) == s) & edge(list, c, i)
-}
-
-// The targets of state s on byte c.
-fn targets(list: &[u8], s: usize, c: u8) -> StateSet
-    ensures { λ r. ⌜ setOf r ≡ step (now (list .entry)) (2 ^ s) c ⌝ }
-{
-    let n = records(list);
-    let none = StateSet::EMPTY;
-    let mut w = none.words;
-    for i in 0..n {
-        put_word(list, i, TARGET, leaves(list, s, c, i), &mut w);
-    }
-    StateSet::of_words(w)
-}
-
-// The states with the targets of state s on byte c, where the test holds.
-fn join_targets(list: &[u8], test: bool, s: usize, c: u8, next: StateSet) -> StateSet
-    ensures { λ r. ⌜ setOf r ≡ join (setOf next) (step (now (list .entry)) (cond test (2 ^ s) 0) c) ⌝ }
-{
-    if test {
-        next.union(targets(list, s, c))
-    } else {
-        next
-    }
-}
-
-// The states with the targets of a word of the frontier on byte c; the word's lowest bit is state `base`.
-fn join_word(list: &[u8], word: u64, base: usize, c: u8, next: StateSet) -> StateSet
-    requires { ⌜ word * 2 ^ base < 2 ^ states ⌝ }
-    ensures { λ r. ⌜ setOf r ≡ join (setOf next) (step (now (list .entry)) (word * 2 ^ base) c) ⌝ }
-{
-    let mut all = next;
-    let mut rest = word;
-    let mut s = base;
-    while rest != 0 {
-        all = join_targets(list, rest % 2 == 1, s, c, all);
-        rest = rest / 2;
-        s = s + 1;
+    let mut all = 0u64;
+    for i in 0..w.len() {
+        all = all | w[i];
     }
     all
+}
+
+// Says whether record i is an edge that byte c takes from a state of the frontier that the words hold. `places` has the places of its states
+// in their words. It is tested first: that costs least, and at a small frontier few records pass.
+fn leads(list: &[u8], frontier: &[u64], places: u64, c: u8, i: usize) -> bool
+    requires { ⌜ (i < records (now list)) × ((s : ℕ) → holds (num 64 (now frontier)) s ≡ true → holds places (s % 64) ≡ true) ⌝ }
+    ensures { λ r. ⌜ r ≡ leaves (now (list .entry)) (num 64 (now (frontier .entry))) (edge (now (list .entry)) c) i ⌝ }
+{
+    let s = from(list, i);
+    if (places >> (s % 64)) % 2 == 0 {
+        return false;
+    }
+    if edge(list, c, i) {
+        sets::bit_of(frontier, s)
+    } else {
+        false
+    }
 }
 
 // The frontier after byte c: the targets of all its states.
 pub fn step(list: &[u8], f: StateSet, c: u8) -> StateSet
     ensures { λ r. ⌜ setOf r ≡ step (now (list .entry)) (setOf f) c ⌝ }
 {
-    let words = f.words;
-    let mut next = StateSet::EMPTY;
-    for i in 0..sets::WORDS {
-        next = join_word(list, words[i], 64 * i, c, next);
+    let n = records(list);
+    let frontier = f.words;
+    let all = places(&frontier);
+    let none = StateSet::EMPTY;
+    let mut w = none.words;
+    for i in 0..n {
+        put_word(list, i, TARGET, leads(list, &frontier, all, c, i), &mut w);
     }
-    next
+    StateSet::of_words(w)
 }
 
 // Says whether record i is an accept at a state of the frontier that the words hold.

@@ -27,12 +27,6 @@ pub or-true : (a : Bool) → (a || true) ≡ true
 or-true true = refl
 or-true false = refl
 
-pub and-comm : (a b : Bool) → (a && b) ≡ (b && a)
-and-comm true true = refl
-and-comm true false = refl
-and-comm false true = refl
-and-comm false false = refl
-
 pub and-false : (a : Bool) → (a && false) ≡ false
 and-false true = refl
 and-false false = refl

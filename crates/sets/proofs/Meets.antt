@@ -1,20 +1,19 @@
 -- Two sets that meet: in words, and by the words of the code. Assumes nothing.
-use Prim.Native.Nat.{ℕ, zero, suc, _*_, _/_, _%_, _^_, _≤_, _<_, min}
+use Prim.Native.Nat.{ℕ, zero, suc, _*_, _/_, _%_, _^_, _<_, min}
 use mathlib.Core.Path.{_≡_, refl, sym, ap, _∙_}
 use mathlib.Core.Bool.{Bool, true, false, _&&_, not, true≢false}
 use mathlib.Core.List.{List}
 use mathlib.Core.Logic.{_↔_}
-use native.Mathlib.Nat.{mod-lt, zero-div, zero-mod, lt-of-not-le}
-use native.Mathlib.Decide.{decLt}
+use native.Mathlib.Nat.{mod-lt, zero-div, zero-mod}
 use native.Mathlib.Omega.{arith}
-use lib.ListN.{getD, List·getD-eq-default}
-use lib.Dec.{eqb, lit<}
+use lib.ListN.{getD}
+use lib.Dec.{eqb}
 use lib.Arith.{digits-mod}
 use lib.Bits.{bitAnd, and-shr, and-mod, and-step}
 use borrow.Author.Tests.{eqb-true, eq-eqb, ne-eqb, not-false}
 use Rattle.sets.specs.Set.{num, bit, holds, meets}
 use Rattle.sets.proofs.Laws.{two-pos}
-use Rattle.sets.proofs.Sets.{Words, holds-empty, holds-num, set-ext}
+use Rattle.sets.proofs.Sets.{Words, holds-empty, set-ext, word-holds}
 use Rattle.sets.proofs.Words.{word-at}
 
 -- bit by bit
@@ -75,18 +74,10 @@ module _ (m : ℕ) (a b : List ℕ) (va : Words m a) (vb : Words m b) where
 
   -- no word that they share
   pub meets-none : ((i : ℕ) → i < m → bitAnd (getD a i 0) (getD b i 0) ≡ 0) → meets (num 64 a) (num 64 b) ≡ false
-  unfolding holds
-  meets-none h = apart-exactly (num 64 a) (num 64 b) .1 (λ s p q. elim (decLt (s / 64) m) [ yes l ↦ inside s p q (h (s / 64) l) | no n ↦ past s p n ])
+  meets-none h = apart-exactly (num 64 a) (num 64 b) .1 (λ s p q. inside s (word-holds m a va s p) (word-holds m b vb s q .1))
     where
-      in-word : (ws : List ℕ) → Words m ws → (s : ℕ) → holds (num 64 ws) s ≡ true → holds (getD ws (s / 64) 0) (s % 64) ≡ true
-      in-word ws v s p = sym (holds-num 64 ws (v .small) (lit< tt) s) ∙ p
-
-      inside : (s : ℕ) → holds (num 64 a) s ≡ true → holds (num 64 b) s ≡ true → bitAnd (getD a (s / 64) 0) (getD b (s / 64) 0) ≡ 0 → ⊥
-      inside s p q z =
+      inside : (s : ℕ) → (s / 64 < m) × (holds (getD a (s / 64) 0) (s % 64) ≡ true) → holds (getD b (s / 64) 0) (s % 64) ≡ true → ⊥
+      inside s p q =
           true≢false
-          (sym (rw (in-word a va s p, in-word b vb s q) at (holds-and (getD a (s / 64) 0) (getD b (s / 64) 0) (s % 64)))
-          ∙ ap (λ (n : ℕ). holds n (s % 64)) z ∙ holds-empty (s % 64))
-
-      past : (s : ℕ) → holds (num 64 a) s ≡ true → (s / 64 < m → ⊥) → ⊥
-      past s p n =
-          true≢false (sym (in-word a va s p) ∙ ap (λ (x : ℕ). holds x (s % 64)) (List·getD-eq-default a 0 (omega (arith, va .long, lt-of-not-le (λ (l : suc (s / 64) ≤ m). n l)))) ∙ holds-empty (s % 64))
+          (sym (rw (p .1, q) at (holds-and (getD a (s / 64) 0) (getD b (s / 64) 0) (s % 64)))
+          ∙ ap (λ (n : ℕ). holds n (s % 64)) (h (s / 64) (p .0)) ∙ holds-empty (s % 64))

@@ -1,42 +1,54 @@
--- `step` goes through the words of the frontier; the invariant is the step of the states in the words passed. Assumes nothing.
+-- `step` goes through the records; the invariant is the definition for the records passed. Assumes nothing.
 use borrow.Author.Needs.{needs}
-use mathlib.Core.Path.{_≡_, sym, _∙_}
+use mathlib.Core.Path.{_≡_, refl}
 use Prim.Native.Nat.{_≤_, _-_}
 use native.Mathlib.Omega.{arith}
-use lib.ListN.{take}
-use Rattle.sets.specs.Set.{setWords, num, setOf}
+use native.Mathlib.Numerals.{add-one}
+use lib.ListN.{length}
+use Rattle.sets.specs.Set.{states, setWords, num}
 use Rattle.sets.proofs.Sets.{empty-words}
-use Rattle.sets.proofs.Words.{word-lt}
 use Rattle.sets.proofs.Whole.{valid-of}
-use Rattle.lists.specs.Automaton.{step}
-use Rattle.lists.proofs.Frontier.{none-read, word-read, all-read}
+use Rattle.rules.specs.Scan.{gather}
+use Rattle.lists.specs.List.{records, target}
+use Rattle.lists.specs.Automaton.{edge, leaves, step}
+use Rattle.lists.proofs.Quick.{has-place}
 use Rattle.lists.proofs.step.Statement.{statement}
 use Rattle.lists.proofs.step.Tie as tie
 
 abbrev Inv-loop : tie.InvT-loop
-Inv-loop list c words next₀ i₀ next i = (i ≤ setWords) × (setOf next ≡ step list (num 64 (take i words)) c)
+Inv-loop list c n frontier all w₀ i₀ w i =
+    (i ≤ n) × (length w ≡ setWords) × (num 64 w ≡ gather states (leaves list (num 64 frontier) (edge list c)) (target list) i)
 
 abbrev μ-loop : tie.MeasureT-loop
-μ-loop list c words next₀ i₀ next i = setWords - i
+μ-loop list c n frontier all w₀ i₀ w i = n - i
+
+records-requires : tie.Need-records-requires Inv-loop μ-loop
+records-requires c κs = search needs
+
+slice-aggregate-places : tie.Need-slice-aggregate-places Inv-loop μ-loop
+slice-aggregate-places c = search needs
+
+places-requires : tie.Need-places-requires Inv-loop μ-loop
+places-requires c κs = search needs
 
 loop-holds : tie.Need-loop-holds Inv-loop μ-loop
-loop-holds c =
-    let a = c .before .before .args in
-    (search needs, empty-words setWords ∙ sym (none-read (a .list .now) (a .f .words) (a .c)))
+unfolding gather
+loop-holds c = (search needs, search needs, empty-words setWords)
 
-mul-join-word : tie.Need-mul-join-word Inv-loop μ-loop
-mul-join-word c = search needs
+slice-aggregate-leads : tie.Need-slice-aggregate-leads Inv-loop μ-loop
+slice-aggregate-leads c = search needs
 
-array-read-join-word : tie.Need-array-read-join-word Inv-loop μ-loop
-array-read-join-word c = search needs
+leads-requires : tie.Need-leads-requires Inv-loop μ-loop
+leads-requires c κs =
+    let p = c .before .before .before .before in
+    let s = p .before .before .before .before .before in
+    (search needs, has-place setWords (s .args .f .words) _ (valid-of (s .args .f) _ (s .good .1 .0)) (p .places .ensures))
 
-mul-join-word-2 : tie.Need-mul-join-word-2 Inv-loop μ-loop
-mul-join-word-2 c = search needs
+slice-aggregate-put-word : tie.Need-slice-aggregate-put-word Inv-loop μ-loop
+slice-aggregate-put-word c = search needs
 
-join-word-requires : tie.Need-join-word-requires Inv-loop μ-loop
-join-word-requires c κs =
-    let s = c .before .before .before .before in
-    word-lt (s .args .f .words) (c .before .loop .i) setWords (valid-of (s .args .f) _ (s .good .1 .0) .small) (omega arith)
+put-word-requires : tie.Need-put-word-requires Inv-loop μ-loop
+put-word-requires c κs = search needs
 
 add-i : tie.Need-add-i Inv-loop μ-loop
 add-i c = search needs
@@ -45,18 +57,17 @@ loop-less : tie.Need-loop-less Inv-loop μ-loop
 loop-less c = search needs
 
 loop-again : tie.Need-loop-again Inv-loop μ-loop
+unfolding gather
 loop-again c =
-    let s = c .before .before .before .before .before in
-    let p = c .before .before .loop in (
-      search needs,
-      cc (word-read (s .args .list .now) (s .args .f .words) (s .args .c) (p .i) (valid-of (s .args .f) _ (s .good .1 .0) .small)),
-    )
+    let p = c .before .before .before .before .before .before .loop in
+    (search needs, search needs, rw (add-one, c .before .put-word .ensures, c .before .before .before .leads .ensures, p .inv .1, p .inv .2) refl)
+
+of-words-requires : tie.Need-of-words-requires Inv-loop μ-loop
+of-words-requires c κs = search needs
 
 returns : tie.Need-returns Inv-loop μ-loop
-returns c =
-    let s = c .before .before .before .before in
-    let p = c .before .loop in
-    p .inv .1 ∙ all-read (s .args .list .now) (s .args .f .words) (s .args .c) (p .i) (omega (arith, valid-of (s .args .f) _ (s .good .1 .0) .long))
+unfolding step
+returns c = let e : c .before .before .loop .i ≡ records (c .before .before .before .before .before .before .before .before .before .args .list .now) = omega arith in cc
 
 pub step-spec : {M : Type 1} → statement M
 step-spec =
@@ -64,12 +75,16 @@ step-spec =
     (tie.spec
     Inv-loop
     μ-loop
+    records-requires
+    slice-aggregate-places
+    places-requires
     loop-holds
-    mul-join-word
-    array-read-join-word
-    mul-join-word-2
-    join-word-requires
+    slice-aggregate-leads
+    leads-requires
+    slice-aggregate-put-word
+    put-word-requires
     add-i
     loop-less
     loop-again
+    of-words-requires
     returns)
