@@ -5,6 +5,7 @@ use mathlib.Core.Bool.{Bool, true, false, _&&_, not, true≢false}
 use mathlib.Core.List.{List}
 use mathlib.Core.Logic.{_↔_}
 use native.Mathlib.Nat.{mod-lt, zero-div, zero-mod}
+use native.Mathlib.Decide.{ℕ-discrete}
 use native.Mathlib.Omega.{arith}
 use lib.ListN.{getD}
 use lib.Dec.{eqb}
@@ -14,7 +15,7 @@ use borrow.Author.Tests.{eqb-true, eq-eqb, ne-eqb, not-false}
 use Rattle.sets.specs.Set.{num, bit, holds, meets}
 use Rattle.sets.proofs.Laws.{two-pos}
 use Rattle.sets.proofs.Sets.{Words, holds-empty, set-ext, word-holds}
-use Rattle.sets.proofs.Words.{word-at}
+use Rattle.sets.proofs.Words.{Laid, word-at}
 
 -- bit by bit
 bit-and : (a b s : ℕ) → bit (bitAnd a b) s ≡ min (bit a s) (bit b s)
@@ -81,3 +82,11 @@ module _ (m : ℕ) (a b : List ℕ) (va : Words m a) (vb : Words m b) where
           true≢false
           (sym (rw (p .1, q) at (holds-and (getD a (s / 64) 0) (getD b (s / 64) 0) (s % 64)))
           ∙ ap (λ (n : ℕ). holds n (s % 64)) (h (s / 64) (p .0)) ∙ holds-empty (s % 64))
+
+  -- the words that they share, laid over one another
+  pub meets-all : (shared : ℕ) → Laid (λ j. bitAnd (getD a j 0) (getD b j 0)) m shared → not (eqb shared 0) ≡ meets (num 64 a) (num 64 b)
+  meets-all shared h = go (ℕ-discrete shared 0)
+    where
+      go : Dec (shared ≡ 0) → not (eqb shared 0) ≡ meets (num 64 a) (num 64 b)
+      go (yes e) = ap not (eq-eqb shared 0 e) ∙ sym (meets-none (h .0 e))
+      go (no n) = let w = h .1 n in ap not (ne-eqb shared 0 n) ∙ sym (meets-at (w .0) (w .1) (w .2))

@@ -205,9 +205,8 @@ fn in_order(splits: &[u8], i: usize) -> bool
     if i == 0 {
         true
     } else {
-        let a = split_set(splits, i - 1);
-        let b = split_set(splits, i);
-        a.less(b)
+        let last = i - 1;
+        split_set(splits, i).follows_whole(splits, SPLIT_SIZE * last)
     }
 }
 
@@ -311,7 +310,7 @@ fn find_sorted(splits: &[u8], f: StateSet) -> usize
     let mut hi = n;
     while lo < hi {
         let mid = (lo + hi) / 2;
-        if split_set(splits, mid).less(f) {
+        if f.follows_whole(splits, SPLIT_SIZE * mid) {
             lo = mid + 1;
         } else {
             hi = mid;

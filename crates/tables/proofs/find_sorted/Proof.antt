@@ -32,14 +32,15 @@ bytes : (c : tie.At-loop Inv-loop μ-loop) → Small 8 (entry c .args .splits .n
 bytes c i = c .before .before .shared-slice-known .given i .fits
 
 -- what the test in the loop says, and the one behind it
-said : (c : tie.After-less Inv-loop μ-loop)
-    → c .less .result
-    ≡ before (setBytes (splitSet (entry (c .before .before .before) .args .splits .now) (middle (c .before .before .before)))) (setBytes (sought (c .before .before .before)))
-said c = c .less .ensures ∙ ap (λ (x : ℕ). before (setBytes x) (setBytes (sought (c .before .before .before)))) (c .before .split-set .ensures)
+said : (c : tie.After-follows-whole Inv-loop μ-loop)
+    → c .follows-whole .result
+    ≡ before (setBytes (splitSet (entry (c .before .before) .args .splits .now) (middle (c .before .before)))) (setBytes (sought (c .before .before)))
+unfolding splitSet
+said c = c .follows-whole .ensures
 
 same : (c : tie.After-same Inv-loop μ-loop)
     → c .same .result ≡ eqb (splitSet (entry (c .before .before .before) .args .splits .now) (c .before .before .before .loop .lo)) (sought (c .before .before .before))
-same c = c .same .ensures ∙ ap (λ (x : ℕ). eqb x (sought (c .before .before .before))) (c .before .split-set2 .ensures)
+same c = c .same .ensures ∙ ap (λ (x : ℕ). eqb x (sought (c .before .before .before))) (c .before .split-set .ensures)
 
 split-count-requires : tie.Need-split-count-requires Inv-loop μ-loop
 split-count-requires c κs = search needs
@@ -51,22 +52,22 @@ loop-holds c =
 add-mid : tie.Need-add-mid Inv-loop μ-loop
 add-mid c = omega (arith, c .before .loop .inv .order, c .before .loop .inv .most)
 
-split-set-requires : tie.Need-split-set-requires Inv-loop μ-loop
-split-set-requires c κs = search needs
+mul-follows-whole : tie.Need-mul-follows-whole Inv-loop μ-loop
+mul-follows-whole c = omega (arith, c .before .loop .inv .order, c .before .loop .inv .most)
 
-less-requires : tie.Need-less-requires Inv-loop μ-loop
-less-requires c κs = search needs
+follows-whole-requires : tie.Need-follows-whole-requires Inv-loop μ-loop
+follows-whole-requires c κs = omega (arith, c .before .loop .inv .order, c .before .loop .inv .most)
 
 add-lo : tie.Need-add-lo Inv-loop μ-loop
 add-lo c =
-    omega (arith, c .before .before .before .before .loop .inv .order, c .before .before .before .before .loop .inv .most)
+    omega (arith, c .before .before .before .loop .inv .order, c .before .before .before .loop .inv .most)
 
 loop-less : tie.Need-loop-less Inv-loop μ-loop
 loop-less c = search needs
 
 loop-again : tie.Need-loop-again Inv-loop μ-loop
 loop-again c =
-    let h = c .before .before .before .before in
+    let h = c .before .before .before in
     between-right (entry h .args .splits .now) (bytes h) (entry h .pre) (sought h) (h .loop .lo) (h .loop .hi) (middle h) (h .loop .inv)
     (omega arith) (omega arith) (sym (said (c .before)) ∙ c .if1 .taken)
 
@@ -75,12 +76,12 @@ loop-less-2 c = search needs
 
 loop-again-2 : tie.Need-loop-again-2 Inv-loop μ-loop
 loop-again-2 c =
-    let h = c .before .before .before .before in
+    let h = c .before .before .before in
     between-left (entry h .args .splits .now) (bytes h) (entry h .pre) (sought h) (h .loop .lo) (h .loop .hi) (middle h) (h .loop .inv)
     (omega arith) (omega arith) (sym (said (c .before)) ∙ c .if1 .left)
 
-split-set-requires-2 : tie.Need-split-set-requires-2 Inv-loop μ-loop
-split-set-requires-2 c κs = search needs
+split-set-requires : tie.Need-split-set-requires Inv-loop μ-loop
+split-set-requires c κs = search needs
 
 same-requires : tie.Need-same-requires Inv-loop μ-loop
 same-requires c κs = search needs
@@ -107,14 +108,14 @@ find-sorted-spec =
     split-count-requires
     loop-holds
     add-mid
-    split-set-requires
-    less-requires
+    mul-follows-whole
+    follows-whole-requires
     add-lo
     loop-less
     loop-again
     loop-less-2
     loop-again-2
-    split-set-requires-2
+    split-set-requires
     same-requires
     returns
     returns-2)
