@@ -26,7 +26,12 @@ class Reader:
         return int.from_bytes(self.take(count), "little")
 
     def block(self):
-        return self.take(self.number(4))
+        length, out = self.number(4), bytearray()
+        while len(out) < length:
+            zeros, count = self.number(1), self.number(1)
+            out += bytes(zeros) + self.take(count)
+        assert len(out) == length
+        return bytes(out)
 
 
 def replay(data, tape):

@@ -42,7 +42,19 @@ def u64(value):
 
 
 def block(data):
-    return u32(len(data)) + data
+    """The length, and the bytes in runs: how many zeros, how many bytes after them, these bytes. A
+    run ends where three zeros follow."""
+    out = [u32(len(data))]
+    at = 0
+    while at < len(data):
+        first = at
+        while at < len(data) and at - first < 255 and data[at] == 0:
+            at += 1
+        begin = at
+        while at < len(data) and at - begin < 255 and any(data[at:at + 3]):
+            at += 1
+        out += [bytes([begin - first, at - begin]), data[begin:at]]
+    return b"".join(out)
 
 
 class Tape:

@@ -27,9 +27,17 @@ impl<'a> Reader<'a> {
         u64::from_le_bytes(self.take(8).try_into().unwrap())
     }
 
+    /// A length, and its bytes in runs: how many zeros, how many bytes after them, these bytes.
     fn block(&mut self) -> Box<[u8]> {
         let length = self.u32() as usize;
-        self.take(length).into()
+        let mut bytes = Vec::with_capacity(length);
+        while bytes.len() < length {
+            let (zeros, count) = (self.take(1)[0], self.take(1)[0]);
+            bytes.resize(bytes.len() + usize::from(zeros), 0);
+            bytes.extend(self.take(count.into()));
+        }
+        assert_eq!(bytes.len(), length, "runs of a block");
+        bytes.into()
     }
 }
 

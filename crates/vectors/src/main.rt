@@ -1,7 +1,7 @@
 // The program of the vectors: it replays the commands of standard input through the library, and writes a line for each that answers.
 use feeds::Fed;
 ghost use mathlib.Core.Path.{_≡_};
-ghost use Prim.Native.Nat.{_<_};
+ghost use Prim.Native.Nat.{_<_, _≤_};
 ghost use lib.ListN.{length};
 ghost use Rattle.io.specs.Counts.{Counts};
 
@@ -106,11 +106,51 @@ fn read_number(n: usize) -> u64 {
     read_front(&mut b, n)
 }
 
-// Reads a field, a length and its bytes, into a buffer; answers how many bytes it takes there.
+// Makes all bytes 0.
+fn clear(b: &mut [u8]) {
+    for i in 0..b.len() {
+        b[i] = 0;
+    }
+}
+
+// The place so many bytes after a place, or the end where that comes first.
+fn place_after(b: &[u8], at: usize, n: usize) -> usize
+    requires { ⌜ at ≤ length (now b) ⌝ }
+    ensures { λ r. ⌜ (at ≤ r) × Counts r (now (b .entry)) ⌝ }
+{
+    if n < b.len() - at { at + n } else { b.len() }
+}
+
+// Reads a run to a place of a field: the input's next byte says how many zeros it has, the one after how many bytes follow them. Answers the place after it.
+fn read_run(b: &mut [u8], at: usize) -> usize
+    requires { ⌜ at ≤ length (now b) ⌝ }
+    ensures { λ r. ⌜ r ≤ length (now (b .exit)) ⌝ }
+{
+    let v = read_number(2) as usize;
+    let from = place_after(b, at, v % 256);
+    clear(&mut b[at..from]);
+    let end = place_after(b, from, v / 256);
+    io::read_full(0, &mut b[from..end]);
+    end
+}
+
+// Reads the runs of a field until it is full.
+fn read_runs(b: &mut [u8]) {
+    let mut at: usize = 0;
+    for _ in 0..b.len() {
+        if at == b.len() {
+            return;
+        }
+        at = read_run(b, at);
+    }
+}
+
+// Reads a field, a length and its bytes in runs, into a buffer; answers how many bytes it takes there.
 fn read_field(b: &mut [u8]) -> usize {
     let n = read_number(4) as usize;
     let k = within(b, n);
-    io::read_full(0, &mut b[..k])
+    read_runs(&mut b[..k]);
+    k
 }
 
 // The digest with one more byte.
