@@ -104,7 +104,7 @@
  *     bare interrupt, nor for a kernel that leaves those to the task that it interrupts: wake a task, and call from there.
  *   - Every call ends; that is proved. Its work is bounded by the lengths that it is given, and grows as docs/PERFORMANCE.md shows.
  *   - Every feed checks its list again, because what it promises holds for every list; then it gathers the accepting states. Together that is
- *     some 30 instructions a record and call, 110,000 on 4,096 records, before the first byte. So feed what has come in one call, and not byte by byte.
+ *     some 27 instructions a record and call, 220,000 on 8,192 records, before the first byte. So feed what has come in one call, and not byte by byte.
  *   - C++: the declarations have C linkage, no exception leaves a function, and the header compiles from C++98 on, where <stdint.h> and
  *     <stdbool.h> are there.
  *
@@ -126,13 +126,13 @@ extern "C" {
 #endif
 
 /* The version of the face that this header describes. */
-#define WATCH_VERSION 1
+#define WATCH_VERSION 2
 
 /* Bytes of stack that a call takes at most. */
-#define WATCH_MOST_STACK 576
+#define WATCH_MOST_STACK 1152
 
 /* States are the numbers below this one. */
-#define WATCH_STATES 256
+#define WATCH_STATES 1024
 
 /* Signatures are the numbers below this one. */
 #define WATCH_SIGNATURES 256
@@ -142,7 +142,7 @@ extern "C" {
 
 /* Bytes in a record of the list, the most records that a list may have, and the bytes of a list of so many. */
 #define WATCH_RECORD_SIZE 8
-#define WATCH_MOST_RECORDS 4096
+#define WATCH_MOST_RECORDS 8192
 #define WATCH_MOST_LIST (WATCH_MOST_RECORDS * WATCH_RECORD_SIZE)
 
 /* The places of the offset, the reserved bytes and the rows read in a flow record, which begins with a set; and its bytes. */

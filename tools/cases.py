@@ -12,11 +12,11 @@ import sys
 CRATES = os.path.join(os.path.dirname(os.path.abspath(__file__)), "..", "crates")
 
 # The sizes and limits: states and signatures are the numbers below theirs.
-STATES = 256
+STATES = 1024
 SIGNATURES = 256
 BYTE_VALUES = 256
 RECORD_SIZE = 8
-MOST_RECORDS = 4096
+MOST_RECORDS = 8192
 MOST_LIST = MOST_RECORDS * RECORD_SIZE
 
 # Bytes of a piece of the program's input.

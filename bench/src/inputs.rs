@@ -32,17 +32,17 @@ impl Dice {
         (z ^ (z >> 31)) % n
     }
 
-    fn state(&mut self) -> u8 {
-        self.below(STATES as u64) as u8
+    fn state(&mut self) -> u16 {
+        self.below(STATES as u64) as u16
     }
 
     /// A state that is not below another.
-    fn state_from(&mut self, from: u8) -> u8 {
-        from + self.below(STATES as u64 - u64::from(from)) as u8
+    fn state_from(&mut self, from: u16) -> u16 {
+        from + self.below(STATES as u64 - u64::from(from)) as u16
     }
 
-    fn signature(&mut self) -> u8 {
-        self.below(SIGNATURES as u64) as u8
+    fn signature(&mut self) -> u16 {
+        self.below(SIGNATURES as u64) as u16
     }
 
     /// Puts the records of a list into another order.
@@ -53,7 +53,7 @@ impl Dice {
     }
 }
 
-pub fn set_of(states: impl IntoIterator<Item = u8>) -> Bytes {
+pub fn set_of(states: impl IntoIterator<Item = u16>) -> Bytes {
     let mut set = [0; SET_BYTES];
     for s in states {
         set[usize::from(s / 8)] |= 1 << (s % 8);
@@ -69,28 +69,40 @@ fn join(sets: impl IntoIterator<Item = Bytes>) -> Bytes {
     all
 }
 
-fn holds(set: &Bytes, s: u8) -> bool {
+fn holds(set: &Bytes, s: u16) -> bool {
     set[usize::from(s / 8)] >> (s % 8) & 1 == 1
 }
 
-fn edge(low: u8, high: u8, from: u8, to: u8) -> Record {
-    [1, low, high, 0, from, 0, to, 0]
+/// A record of a kind, with its bytes 1 and 2 and its two numbers.
+fn record(kind: u8, low: u8, high: u8, from: u16, to: u16) -> Record {
+    let ([a, b], [c, d]) = (from.to_le_bytes(), to.to_le_bytes());
+    [kind, low, high, 0, a, b, c, d]
 }
 
-fn start(state: u8) -> Record {
-    [2, 0, 0, 0, 0, 0, state, 0]
+fn edge(low: u8, high: u8, from: u16, to: u16) -> Record {
+    record(1, low, high, from, to)
 }
 
-fn accept(state: u8, signature: u8) -> Record {
-    [3, 0, 0, 0, state, 0, signature, 0]
+fn start(state: u16) -> Record {
+    record(2, 0, 0, 0, state)
+}
+
+fn accept(state: u16, signature: u16) -> Record {
+    record(3, 0, 0, state, signature)
+}
+
+/// The state that a record leaves or names, and what it leads to.
+fn numbers(record: &Record) -> (u16, u16) {
+    let [.., a, b, c, d] = *record;
+    (u16::from_le_bytes([a, b]), u16::from_le_bytes([c, d]))
 }
 
 /// The step of a set on a byte, for building tables.
 fn step(list: &[Record], set: &Bytes, byte: u8) -> Bytes {
     set_of(
         list.iter()
-            .filter(|r| r[0] == 1 && r[1] <= byte && byte <= r[2] && holds(set, r[4]))
-            .map(|r| r[6]),
+            .filter(|r| r[0] == 1 && r[1] <= byte && byte <= r[2] && holds(set, numbers(r).0))
+            .map(|r| numbers(r).1),
     )
 }
 
@@ -125,7 +137,7 @@ pub fn barn_list() -> Vec<u8> {
 }
 
 /// An edge on one to six bytes.
-fn narrow_edge(dice: &mut Dice, from: u8, to: u8) -> Record {
+fn narrow_edge(dice: &mut Dice, from: u16, to: u16) -> Record {
     let low = dice.below(250) as u8;
     edge(low, low + dice.below(6) as u8, from, to)
 }
@@ -135,18 +147,18 @@ fn narrow_edge(dice: &mut Dice, from: u8, to: u8) -> Record {
 pub fn steady_list(n: usize, frontier: usize) -> Vec<u8> {
     let mut dice = Dice((n * 1000 + frontier) as u64);
     let mut list = vec![start(0)];
-    list.extend((0..frontier).map(|s| edge(0, 255, s as u8, s as u8)));
+    list.extend((0..frontier).map(|s| edge(0, 255, s as u16, s as u16)));
     list.truncate(n);
     while list.len() < n {
         let from = dice.state();
         // A frontier of all states would tell every signature at every byte: its list has edges alone.
         if list.len() % 16 == 15 && frontier < STATES {
             let state = frontier + usize::from(from) % (STATES - frontier);
-            list.push(accept(state as u8, dice.signature()));
+            list.push(accept(state as u16, dice.signature()));
             continue;
         }
         let to = if usize::from(from) < frontier {
-            dice.below(frontier as u64) as u8
+            dice.below(frontier as u64) as u16
         } else {
             dice.state()
         };
@@ -159,7 +171,7 @@ pub fn steady_list(n: usize, frontier: usize) -> Vec<u8> {
 /// The orders of a line: each a letter and then its digit, "A0" to "H7". State 0 stays for ever; order i is at state 1 + i after its
 /// letter and at state 1 + ORDERS + i after its digit, which accepts.
 const ORDERS: u8 = 8;
-const ORDER_STATES: u8 = 1 + 2 * ORDERS;
+const ORDER_STATES: u16 = 1 + 2 * ORDERS as u16;
 
 fn letter(order: u8) -> u8 {
     b'A' + order
@@ -175,11 +187,11 @@ pub fn orders_list(n: usize) -> Vec<u8> {
     let mut dice = Dice(n as u64);
     let mut list = vec![start(0), edge(0, 255, 0, 0)];
     for order in 0..ORDERS {
-        let (half, whole) = (1 + order, 1 + ORDERS + order);
+        let (half, whole) = (1 + u16::from(order), 1 + u16::from(ORDERS + order));
         list.push(edge(letter(order), letter(order), 0, half));
         list.push(edge(digit(order), digit(order), half, whole));
-        list.push(accept(whole, order));
-        list.push(accept(whole, 128 + order));
+        list.push(accept(whole, order.into()));
+        list.push(accept(whole, 128 + u16::from(order)));
     }
     for _ in 2 * usize::from(ORDERS)..n / 16 {
         list.push(accept(dice.state_from(ORDER_STATES), dice.signature()));
@@ -214,7 +226,7 @@ pub fn telling_bytes(n: usize) -> Vec<u8> {
 /// A list of 5 records: after the first byte the frontier is the states 0 to width - 1, for ever.
 pub fn wide_list(width: u8) -> Vec<u8> {
     let mut list = vec![start(0)];
-    list.extend((0..width).map(|s| edge(0, 255, 0, s)));
+    list.extend((0..width).map(|s| edge(0, 255, 0, s.into())));
     while list.len() < 5 {
         list.push(accept(255, 1));
     }
@@ -223,7 +235,7 @@ pub fn wide_list(width: u8) -> Vec<u8> {
 
 /// The states from which on the parts are that the rows never take: a set of them is less, as a string of bytes, than one with a state
 /// below.
-const IDLE: u8 = 8;
+const IDLE: u16 = 8;
 
 /// The list with accept records at the idle states, up to the most records.
 pub fn filled(mut list: Vec<u8>) -> Vec<u8> {
@@ -280,10 +292,10 @@ impl Builder {
     }
 
     /// Adds parts of 1 to 3 states from `from` on, up to n parts.
-    fn fill_parts(&mut self, n: usize, from: u8) {
+    fn fill_parts(&mut self, n: usize, from: u16) {
         while self.parts.len() < n {
             let size = 1 + self.dice.below(3);
-            let states: Vec<u8> = (0..size).map(|_| self.dice.state_from(from)).collect();
+            let states: Vec<u16> = (0..size).map(|_| self.dice.state_from(from)).collect();
             self.part(set_of(states));
         }
     }
@@ -354,7 +366,7 @@ pub fn orders_table(n: usize) -> Table {
     let mut b = Builder::new(n as u64);
     for s in 0..ORDER_STATES {
         b.part(set_of([s]));
-        b.split(vec![0, u16::from(s)]);
+        b.split(vec![0, s]);
     }
     let mut classes = vec![0; BYTE_VALUES];
     for order in 0..ORDERS {
@@ -370,7 +382,7 @@ pub fn orders_table(n: usize) -> Table {
 pub fn wide_table(n: usize, width: u8) -> Table {
     let mut b = Builder::new(n as u64 * 10 + u64::from(width));
     for s in 0..width {
-        b.part(set_of([s]));
+        b.part(set_of([s.into()]));
     }
     b.split(vec![]);
     b.split(vec![0]);
@@ -383,7 +395,7 @@ pub fn wide_table(n: usize, width: u8) -> Table {
     b.fill_parts(parts, IDLE);
     if width == 1 && n > MOST_PARTS {
         while b.splits.len() < n {
-            let states: Vec<u8> = (0..4).map(|_| b.dice.state_from(IDLE)).collect();
+            let states: Vec<u16> = (0..4).map(|_| b.dice.state_from(IDLE)).collect();
             let set = set_of(states);
             if b.sets.insert(set) {
                 b.splits.insert((set, vec![0]));

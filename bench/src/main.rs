@@ -249,7 +249,7 @@ fn rows() -> Vec<Row> {
         rows.push(Row { name, turn, make })
     };
     fn first(n: usize) -> Bytes {
-        inputs::set_of((0..n).map(|s| s as u8))
+        inputs::set_of((0..n).map(|s| s as u16))
     }
     fn fed(frontier: usize, piece: Vec<u8>) -> Call {
         Call::Feed {

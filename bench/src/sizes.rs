@@ -1,7 +1,7 @@
 //! The sizes of the rules, each in this one place.
 
 /// States are the numbers below this.
-pub const STATES: usize = 256;
+pub const STATES: usize = 1024;
 /// Signatures are the numbers below this.
 pub const SIGNATURES: usize = 256;
 /// A byte is a number below this, and each has a class.
@@ -16,7 +16,7 @@ pub const SIGNATURE_WORDS: usize = SIGNATURES / 64;
 
 /// A record of the list: kind, low, high, zero, from (2 bytes), to (2 bytes).
 pub const RECORD_BYTES: usize = 8;
-pub const MOST_RECORDS: usize = 4096;
+pub const MOST_RECORDS: usize = 8192;
 
 /// A flow record: the frontier, the offset (4 bytes), zeros (4 bytes), rows read (8 bytes).
 pub const FLOW_BYTES: usize = SET_BYTES + 16;

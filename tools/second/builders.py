@@ -6,8 +6,9 @@ from model import (BYTE_VALUES, MOST_CLASS, MOST_OFFSET, RECORD_SIZE, SIGNATURES
 from tape import MOST_WORDS
 
 LETTERS = [0, 1, 31, 32, 48, 64, 97, 98, 99, 122, 127, 128, 200, 254, 255]
-SOME_STATES = [0, 1, 2, 3, 5, 7, 8, 9, 15, 16, 31, 32, 62, 63, 64, 65, 71, 72, 127, 128,
-               129, 191, 192, 200, 248, STATES - 2, STATES - 1]
+SOME_STATES = [0, 1, 2, 3, 5, 7, 8, 9, 15, 16, 31, 63, 64, 65, 71, 127, 128, 129, 192, 200, 255,
+               256, 257, 300, 511, 512, 513, 639, 640, 700, 767, 768, 1000, STATES - 8, STATES - 2,
+               STATES - 1]
 
 
 # Records of a list

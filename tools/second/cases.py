@@ -90,8 +90,8 @@ def with_record(dice, records, record):
 
 def around(most):
     """Numbers below a limit, and past it in either byte."""
-    return (0, 1, most // 2 - 1, most // 2, most - 2, most - 1, most, most + 1, 2 * most - 2,
-            2 * most - 1, 2 * most, 4096, 32768, 65280, 65534, 65535)
+    return (0, 1, 255, 256, 257, most // 2 - 1, most // 2, most - 2, most - 1, most, most + 1,
+            2 * most - 2, 2 * most - 1, 2 * most, 4096, 32768, 65280, 65534, 65535)
 
 
 def lists(tape, dice):
@@ -177,7 +177,7 @@ def lists(tape, dice):
 def longest_lists(tape, dice):
     """The most records and one more, with the start at either end."""
     tape.load_table(examples.TABLE)
-    body = [edge(b % BYTE_VALUES, 255, b % 7, (b + 1) % 7) for b in range(2000)]
+    body = [edge(b % BYTE_VALUES, 255, b % 7, (b + 1) % 7) for b in range(MOST_RECORDS // 2)]
     body += [accept(b % 7, b % SIGNATURES) for b in range(MOST_RECORDS - 1 - len(body))]
     for data in (b"".join(body + [start(0)]), b"".join([start(0)] + body),
                  b"".join(body + [accept(0, 0)]), b"".join(body + [accept(0, SIGNATURES)]),
@@ -190,6 +190,26 @@ def longest_lists(tape, dice):
             tape.feed(offset_of(tape.record), words, b"ab\xff")
         tape.check_table(2)
         tape.split_feed(2, offset_of(tape.record), 600, b"ab")
+
+
+def list_limits(tape, dice):
+    """The last state and signature, and one more, in each place of a record that has one."""
+    tape.load_table(examples.TABLE)
+    for turn in range(15):
+        sample = any_list(dice)
+        low = dice.below(BYTE_VALUES)
+        for state, signature in ((STATES - 1, SIGNATURES - 1), (STATES, SIGNATURES)):
+            other, some = dice.below(STATES), dice.below(SIGNATURES)
+            for record in (edge(low, 255, state, other), edge(0, low, other, state), start(state),
+                           accept(state, some), accept(other, signature)):
+                tape.load_list(with_record(dice, sample.records, record))
+                tape.check_list()
+                tape.load_record(dice.bytes(FLOW_SIZE))
+                tape.open()
+                tape.feed(offset_of(tape.record), word_count(dice), dice.bytes(3))
+                if turn % 5 == 0:
+                    tape.check_table(2)
+                    tape.split_feed(2, offset_of(tape.record), 6, b"ab")
 
 
 # Opening
@@ -213,6 +233,29 @@ def openings(tape, dice):
         tape.load_record(dice.bytes(length))
         tape.open()
         tape.open()
+
+
+def record_limits(tape, dice):
+    """Records of the right size, a byte less or more, and of 48 bytes, which was the size with 256
+    states; and of the right size with as many rows as there may be, and one more."""
+    tape.load_table(examples.TABLE)
+    for turn in range(60):
+        tape.load_list(examples.LIST)
+        for size in (48, FLOW_SIZE - 1, FLOW_SIZE, FLOW_SIZE + 1):
+            content = dice.pick([bytes(size), b"\xff" * size, dice.bytes(size)])
+            tape.load_record(content)
+            tape.open()
+            fresh = (pack_flow(Flow(frozenset({0}), 0, 0)) + bytes(1))[:size]
+            for feed in (tape.feed, lambda *call: tape.split_feed(2, *call)):
+                tape.load_record(fresh)
+                answer = feed(0, 4, dice.pick([b"", b"ab", b"xaby"]))
+                assert answer.refusal == (0 if size == FLOW_SIZE else 4)
+        offset = dice.pick([0, 1, 2, 255, 256, 65535, 65536, dice.below(2 ** 32), MOST_OFFSET - 9])
+        for rows in (STATES * offset, STATES * offset + 1):
+            for feed in (tape.feed, lambda *call: tape.split_feed(2, *call)):
+                tape.load_record(pack_flow(Flow(frozenset({0}), offset, rows)))
+                answer = feed(offset, 4, dice.pick([b"", b"ab", b"xaby"]))
+                assert answer.refusal == (0 if rows == STATES * offset else 4)
 
 
 # Flows
@@ -691,6 +734,36 @@ def wild_tables(tape, dice):
                 walk.move()
 
 
+def set_sizes(tape, dice):
+    """Tables that are good but for the size of their sets: 32 bytes, which was the size with 256
+    states, and a few others."""
+    def sized(sets, size):
+        return b"".join((one + bytes(size))[:size] for one in model.cut(sets, SET_SIZE))
+
+    sizes = [32, SET_SIZE - 8, SET_SIZE - 1, SET_SIZE, SET_SIZE + 1, SET_SIZE + 8, 2 * SET_SIZE]
+    for turn in range(60):
+        sample, plan = (Sample(model.cut(examples.LIST, RECORD_SIZE), [97, 98], [0, 1, 2]), None)
+        table = examples.TABLE
+        if turn % 3:
+            sample, plan = good_table(dice, 2, 9, 5)
+            table = plan.table()
+        size = sizes[turn % len(sizes)] if turn % 2 else 32
+        cut = Table(table.classes, sized(table.parts, size), sized(table.rows, size),
+                    b"".join(sized(split[:SET_SIZE], size) + split[SET_SIZE:]
+                             for split in model.cut(table.splits, SPLIT_SIZE)))
+        for lists in (cut, table._replace(parts=cut.parts), table._replace(rows=cut.rows),
+                      table._replace(splits=cut.splits)):
+            tape.load_list(sample.data)
+            tape.load_table(lists)
+            for bound in (2, MOST_BOUND):
+                tape.check_table(bound)
+            tape.load_record(bytes(FLOW_SIZE))
+            tape.open()
+            tape.split_feed(2, 0, 12, a_piece(dice, sample, 4))
+        tape.load_table(table)
+        assert tape.check_table(2) == 0
+
+
 def largest_tables(tape, dice):
     """The most parts, the most splits, and one more of each."""
     tape.load_record(bytes(FLOW_SIZE))
@@ -830,7 +903,7 @@ def split_order(tape, dice):
 
     # The first byte, the last one and each between them.
     for places in ([0], [SET_SIZE - 1], range(1, SET_SIZE - 1)):
-        for turn in range(MANY):
+        for turn in range(max(MANY, len(places))):
             place = places[turn % len(places)]
             ask_either_way(tape, dice, lambda: orders.differ_at(dice, place))
 
@@ -986,9 +1059,10 @@ def equal_splits(tape, dice):
             tape.split_feed(bound, 7, 12, b"ab")
 
 
-GROUPS = [worked, lists, longest_lists, openings, plain_flows, crowded_flows, good_tables,
-          crowded_tables, faulty_tables, one_byte_tables, harmless_tables, wild_tables, long_pieces,
-          largest_tables, split_order, equal_splits, low_and_high, lengths_of_splits, no_split,
+GROUPS = [worked, lists, longest_lists, list_limits, openings, record_limits, plain_flows,
+          crowded_flows, good_tables, crowded_tables, faulty_tables, one_byte_tables,
+          harmless_tables, wild_tables, long_pieces, set_sizes, largest_tables,
+          split_order, equal_splits, low_and_high, lengths_of_splits, no_split,
           zero_records, old_content, long_pauses]
 
 

@@ -9,11 +9,11 @@ from collections import namedtuple
 from functools import lru_cache
 
 # The sizes and limits of the rules. What follows from another one is written so.
-STATES = 256  # states are the numbers below this one
+STATES = 1024  # states are the numbers below this one
 SIGNATURES = 256  # and signatures those below this one
 SET_SIZE = STATES // 8  # bytes in a set
 RECORD_SIZE = 8  # bytes in a record of the list
-MOST_RECORDS = 4096
+MOST_RECORDS = 8192
 MOST_LIST = MOST_RECORDS * RECORD_SIZE  # bytes of the longest list
 OFFSET_AT = SET_SIZE  # places in a flow record, which begins with a set
 RESERVED_AT = OFFSET_AT + 4
@@ -51,7 +51,8 @@ def cut(data, size):
 
 @lru_cache(maxsize=20000)
 def unpack_set(data):
-    return frozenset(s for s in range(STATES) if data[s // 8] // 2 ** (s % 8) % 2 == 1)
+    return frozenset(8 * at + bit for at, byte in enumerate(data) if byte != 0
+                     for bit in range(8) if byte // 2 ** bit % 2 == 1)
 
 
 @lru_cache(maxsize=20000)

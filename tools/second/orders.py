@@ -1,6 +1,6 @@
 """Neighbouring splits: pairs of sets and slots that try the order of splits.
 
-Sets are 32 bytes here, as they stand in a split.
+Sets are bytes here, as they stand in a split.
 """
 
 from model import BYTE_VALUES, SET_SIZE, cut, number, unpack_set

@@ -112,6 +112,28 @@ VERSIONS = [
                                        ("if r[0] == 1", "if r[0] <= 1")]),
     ("list: a record of zeros passes", [(NO_KIND, NO_KIND.replace("False", "not any(record)"))]),
 
+    # The sizes with 256 states
+    ("sizes: states below 256 alone", [
+        ("middle < STATES and last < STATES", "middle < 256 and last < 256"),
+        ("== {0} and last < STATES", "== {0} and last < 256"),
+        ("middle < STATES and last < SIGNATURES", "middle < 256 and last < SIGNATURES")]),
+    ("sizes: signatures below the states", [("last < SIGNATURES", "last < STATES")]),
+    ("sizes: 4,096 records", [("len(data) > MOST_LIST", "len(data) > 32768")]),
+    ("sizes: one record more", [("len(data) > MOST_LIST", "len(data) > MOST_LIST + 8")]),
+    ("sizes: a record of 48 bytes is opened", [
+        ("    if len(record) != FLOW_SIZE:\n", "    if len(record) not in (48, FLOW_SIZE):\n")]),
+    ("sizes: a record is opened where it is not too short", [
+        ("    if len(record) != FLOW_SIZE:\n", "    if len(record) < FLOW_SIZE:\n"),
+        ("return 0, " + OPENED, "return 0, %s + record[FLOW_SIZE:]" % OPENED)]),
+    ("sizes: rows up to 256 for each byte", [
+        ("flow.rows > STATES * flow.offset", "flow.rows > 256 * flow.offset")]),
+    ("sizes: one row more than all states", [
+        ("flow.rows > STATES * flow.offset", "flow.rows > STATES * flow.offset + 1")]),
+    ("sizes: states read by ten bits", [
+        ("r[2], number(r[4:6]), number(r[6:8])",
+         "r[2], number(r[4:6]) % STATES, number(r[6:8]) % STATES"),
+        ("middle < STATES and last < STATES", "True")]),
+
     # Opening
     ("opening: writes nothing", [("return 0, " + OPENED, "return 0, record")]),
     ("opening: keeps the old rows", [
@@ -152,12 +174,12 @@ VERSIONS = [
     ("table: K is at least 2", width("max(2, max(classes) + 1)")),
     ("table: K is the number of distinct classes", width("len(set(classes))")),
     ("table: the sets of splits are read by their first byte", [
-        ("name, unpack_set(name)", "name, unpack_set(name[:1] + bytes(31))")]),
+        ("name, unpack_set(name)", "name, unpack_set(name[:1] + bytes(SET_SIZE - 1))")]),
     ("table: the sets of parts and rows are read by their first byte", [
         ("[unpack_set(data) for data in cut(table.parts, SET_SIZE)]",
-         "[unpack_set(data[:1] + bytes(31)) for data in cut(table.parts, SET_SIZE)]"),
+         "[unpack_set(data[:1] + bytes(SET_SIZE - 1)) for data in cut(table.parts, SET_SIZE)]"),
         ("[unpack_set(data) for data in cut(table.rows, SET_SIZE)]",
-         "[unpack_set(data[:1] + bytes(31)) for data in cut(table.rows, SET_SIZE)]")]),
+         "[unpack_set(data[:1] + bytes(SET_SIZE - 1)) for data in cut(table.rows, SET_SIZE)]")]),
     ("table: a split is found by its first byte", [
         ("setdefault(split.members, split)", "setdefault(split.name[:1], split)"),
         ("nfa.starts not in table.first", "pack_set(nfa.starts)[:1] not in table.first"),
@@ -200,9 +222,9 @@ VERSIONS = [
      order("a.name < b.name or a.name == b.name and len(used_slots(a)) < len(used_slots(b))")),
     ("order: equal sets by their slots as numbers", by_key("(s.name, s.slots)")),
     ("order: equal sets by their slots, falling", order("(a.name, b.slots) < (b.name, a.slots)")),
-    ("order: all 40 bytes",
+    ("order: all bytes of a split",
      by_key('s.name + b"".join(n.to_bytes(2, "little") for n in s.slots)')),
-    ("order: all 40 bytes as a number",
+    ("order: all bytes of a split as a number",
      by_key('number(s.name + b"".join(n.to_bytes(2, "little") for n in s.slots))')),
     ("order: the slots, then the set", by_key("(s.slots, s.name)")),
     ("order: the set as a number", by_key("number(s.name)")),
@@ -219,10 +241,10 @@ VERSIONS = [
     ("order: the first byte alone, equal ones fail", by_key("s.name[0]")),
     ("order: the first word alone, equal ones pass", order("a.name[:8] <= b.name[:8]")),
     ("order: without the first byte", by_key("s.name[1:]")),
-    ("order: without the last byte", by_key("s.name[:31]")),
-    ("order: without the last byte, equal ones pass", order("a.name[:31] <= b.name[:31]")),
+    ("order: without the last byte", by_key("s.name[:-1]")),
+    ("order: without the last byte, equal ones pass", order("a.name[:-1] <= b.name[:-1]")),
     ("order: without the middle words, equal ones pass",
-     order("a.name[:8] + a.name[24:] <= b.name[:8] + b.name[24:]")),
+     order("a.name[:8] + a.name[-8:] <= b.name[:8] + b.name[-8:]")),
     ("order: every byte greater or equal",
      order("a.name != b.name and all(x <= y for x, y in zip(a.name, b.name))")),
     ("order: the set is a larger one", order("a.members < b.members")),

@@ -2,10 +2,10 @@
 //! is written so. `tools/sizes` in the repository holds them to the constants of the proved code.
 
 /// The version of the C face that this crate is written for. [`List::check`](crate::List::check) compares it with the archive's.
-pub const VERSION: u32 = 1;
+pub const VERSION: u32 = 2;
 
 /// States are the numbers below this one.
-pub const STATES: usize = 256;
+pub const STATES: usize = 1024;
 
 /// Signatures are the numbers below this one.
 pub const SIGNATURES: usize = 256;
@@ -17,7 +17,7 @@ pub const SET_SIZE: usize = STATES / 8;
 pub const RECORD_SIZE: usize = 8;
 
 /// The most records that a list may have.
-pub const MOST_RECORDS: usize = 4096;
+pub const MOST_RECORDS: usize = 8192;
 
 /// Bytes of a list of the most records.
 pub const MOST_LIST: usize = MOST_RECORDS * RECORD_SIZE;

@@ -6,7 +6,7 @@ use ordinary::Automaton;
 use watch::{Fed, Flow, List, Pair, Refusal, SplitError, Table, TableLists};
 use watch::{
     BYTE_VALUES, ENOUGH_WORDS, FLOW_SIZE, MOST_OFFSET, MOST_RECORDS, OFFSET_AT, RECORD_SIZE, RESERVED_AT, ROWS_AT,
-    SLOTS, STATES, UNUSED,
+    SET_SIZE, SIGNATURES, SLOTS, STATES, UNUSED,
 };
 
 /// Signature 7 after any "ab".
@@ -177,6 +177,13 @@ fn lists() {
     assert_eq!(list().as_ref(), &L[..]);
     assert_eq!(List::try_from(&L[1..]), Err(Refusal::ListLength));
     assert_eq!(List::check(&start(STATES)), Err(Refusal::ListRecord));
+    for (signature, good) in [(SIGNATURES - 1, true), (SIGNATURES, false)] {
+        let mut list = start(STATES - 1);
+        list.extend([3, 0, 0, 0]);
+        list.extend((STATES as u16 - 1).to_le_bytes());
+        list.extend((signature as u16).to_le_bytes());
+        assert_eq!(List::check(&list).is_ok(), good);
+    }
 }
 
 #[test]
@@ -185,6 +192,63 @@ fn the_table() {
     T::new().check(1, |checked, _| assert_eq!(checked, Err(Refusal::SplitRecord)));
     T::new().without(2).check(2, |checked, _| assert_eq!(checked, Err(Refusal::NotClosed)));
     T::new().without(0).check(2, |checked, _| assert_eq!(checked, Err(Refusal::NoStartSplit)));
+}
+
+/// T in sets of another size: each set's first bytes, or zeros behind them.
+fn in_sets_of(size: usize) -> T {
+    let cut = |sets: &[u8]| -> Vec<u8> {
+        sets.chunks(SET_SIZE).flat_map(|set| (0..size).map(|i| set.get(i).copied().unwrap_or(0))).collect()
+    };
+    let T { classes, parts, rows, splits } = T::new();
+    let splits = splits.iter().map(|split| [cut(&split[..SET_SIZE]), split[SET_SIZE..].to_vec()].concat()).collect();
+    T { classes, parts: cut(&parts), rows: cut(&rows), splits }
+}
+
+#[test]
+fn sets_of_another_size() {
+    in_sets_of(SET_SIZE).check(2, |checked, table| assert_eq!(checked, Ok(table)));
+    // 32 bytes are the sets of 256 states.
+    for size in [1, 32, SET_SIZE - 1, SET_SIZE + 1, 2 * SET_SIZE] {
+        in_sets_of(size).check(2, |checked, table| {
+            assert_eq!(checked, Err(Refusal::TableLists));
+            let fed = Flow::open(&list()).split_feed(&table, 0, b"abab", &mut [0; ENOUGH_WORDS]);
+            assert_eq!(fed, Err(SplitError::Refused(Refusal::TableLists)));
+        });
+    }
+}
+
+#[test]
+fn records_of_another_size() {
+    use watch::raw;
+    // 48 bytes are the record of 256 states.
+    for size in [0, 48, FLOW_SIZE - 1, FLOW_SIZE, FLOW_SIZE + 1] {
+        let mut record = vec![0xA5; size];
+        let refusal = if size == FLOW_SIZE { 0 } else { 4 };
+        // SAFETY: each pointer is good for its length, and the record is lent to nobody else.
+        let opened = unsafe { raw::watch_open(L.as_ptr(), L.len(), record.as_mut_ptr(), size) };
+        assert_eq!((opened, size), (refusal, size));
+        assert_eq!(record.iter().all(|&byte| byte == 0xA5), refusal == 4);
+        record.fill(0);
+        // SAFETY: as above; no words are lent.
+        let fed = unsafe {
+            raw::watch_feed(L.as_ptr(), L.len(), record.as_mut_ptr(), size, 0, L.as_ptr(), 0, [0; 1].as_mut_ptr(), 0)
+        };
+        assert_eq!((fed.refusal, size), (refusal, size));
+        assert_eq!(Flow::try_from(&record[..]).is_ok(), refusal == 0);
+    }
+}
+
+#[test]
+fn the_most_rows() {
+    for offset in [0, 1, 7, MOST_OFFSET] {
+        for (more, refusal) in [(0, None), (1, Some(Refusal::FlowRecord))] {
+            let mut record = *Flow::open(&list()).as_bytes();
+            record[OFFSET_AT..RESERVED_AT].copy_from_slice(&(offset as u32).to_le_bytes());
+            record[ROWS_AT..].copy_from_slice(&(STATES as u64 * offset + more).to_le_bytes());
+            let fed = Flow::from_bytes(record).feed(&list(), offset, b"", &mut []);
+            assert_eq!(fed.err(), refusal, "{offset} bytes, {more} more");
+        }
+    }
 }
 
 #[test]

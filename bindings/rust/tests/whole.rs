@@ -123,12 +123,13 @@ fn by_callback(flow: &mut Flow, list: &List, table: Option<&Table>, start: u64, 
 fn talkative_list(dice: &mut Dice) -> Vec<u8> {
     let mut list = builders::good_list(dice);
     if dice.once_in(2) {
-        let state = list.chunks(RECORD_SIZE).find(|record| record[0] == 2).map_or(0, |start| start[6]);
+        let start = list.chunks(RECORD_SIZE).find(|record| record[0] == 2);
+        let (low, high) = start.map_or((0, 0), |start| (start[6], start[7]));
         for signature in 0..dice.from(1, SIGNATURES) as u16 {
-            list.extend([3, 0, 0, 0, state, 0]);
+            list.extend([3, 0, 0, 0, low, high]);
             list.extend(signature.to_le_bytes());
         }
-        list.extend([1, 0, 255, 0, state, 0, state, 0]);
+        list.extend([1, 0, 255, 0, low, high, low, high]);
     }
     list
 }

@@ -211,6 +211,13 @@ fn hand(outside: bool, text: &[u8], answers: &[u8], i: usize, log: &mut [u8], en
     }
 }
 
+// Zeros for the list: more bytes than the longest has, so that a longer one is seen as too long.
+fn list_buffer() -> [u8; 65544]
+    ensures { λ r. ⌜ 65544 ≡ length r ⌝ }
+{
+    [0; 65544]
+}
+
 // Reads rules.bin into the list, up to its end, a read that fails, or the list's size; answers how many bytes came, none where it cannot be opened.
 fn read_rules(list: &mut [u8]) -> usize
     ensures { λ r. ⌜ Counts r (now (list .exit)) ⌝ }
@@ -285,9 +292,9 @@ fn watch(outside: bool, list: &[u8], input: &[u8], answers: &[u8], log: &mut [u8
     )
 }
 
-// The program. The list's buffer holds more than the longest list, so a longer one is seen as too long.
+// The program.
 pub fn start() {
-    let mut list = io::large_buffer();
+    let mut list = list_buffer();
     let n = read_rules(&mut list);
     let mut log = [0u8; 1];
     watch(true, &list[..n], b"", b"", &mut log);

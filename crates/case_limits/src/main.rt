@@ -1,4 +1,4 @@
-// A list of 4,096 records with state 255 and signature 255: it passes.
+// A list of 8,192 records with state 1,023 and signature 255: it passes.
 fn main() {
     app::start();
 }

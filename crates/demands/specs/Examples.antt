@@ -1,5 +1,5 @@
 -- The barn examples marked P: the list L, the table T, and one table of rows, each what a definition gives beside what the example says.
-use Prim.Native.Nat.{ℕ, _-_, _*_, _+_}
+use Prim.Native.Nat.{ℕ, _*_, _+_}
 use mathlib.Core.Bool.{cond}
 use mathlib.Core.List.{List, [], _∷_, _++_}
 use mathlib.Core.Path.{_≡_}
@@ -7,9 +7,9 @@ use lib.ListN.{replicate}
 use Rattle.sets.specs.Set.{states, signatures, setSize, digits, setBytes}
 use Rattle.lists.specs.List.{mostRecords, listRefusal}
 use Rattle.feeds.specs.Engine.{Outcome, mostOffset}
-use Rattle.flows.specs.Flow.{flowBytes, rowsOf}
+use Rattle.flows.specs.Flow.{flowSize, flowBytes, rowsOf}
 use Rattle.plain.specs.Plain.{opened, openRefusal, openSaved}
-use Rattle.tables.specs.Table.{Table, table, mostClass, mostParts, mostSplits, mostBound, tableRefusal}
+use Rattle.tables.specs.Table.{Table, table, splitSize, mostClass, mostParts, mostSplits, mostBound, tableRefusal}
 use Rattle.demands.specs.Calls.{Via, byList, byTable, outcome}
 
 -- a row: what a definition gives, and what the example says
@@ -109,8 +109,9 @@ afterBAB = fed byList afterA 1 (b ∷ a ∷ b ∷ []) 2 .saved
 
 abbrev pub feedRows : List Row
 feedRows =
-    -- the limits that the rules name: records, states, signatures; offset; class, parts, splits, bound
-    (mostRecords ∷ states ∷ signatures ∷ [], 4096 ∷ 256 ∷ 256 ∷ [])
+    -- the limits that the rules name: records, states, signatures; offset; class, parts, splits, bound; and the bytes of a set, a flow record, a split
+    (mostRecords ∷ states ∷ signatures ∷ [], 8192 ∷ 1024 ∷ 256 ∷ [])
+    ∷ (setSize ∷ flowSize ∷ splitSize ∷ [], 128 ∷ 144 ∷ 136 ∷ [])
     ∷ (mostOffset ∷ [], 4294967295 ∷ [])
     ∷ (mostClass ∷ mostParts ∷ mostSplits ∷ mostBound ∷ [], 63 ∷ 1024 ∷ 4096 ∷ 4 ∷ [])
     -- "abab": words 7, 2, 7, 4; 7 rows read
@@ -121,10 +122,10 @@ feedRows =
     ∷ (splitABAB 2 (s0 ++ (s01 ++ s02)) 2 .words, 7 ∷ 2 ∷ 7 ∷ 4 ∷ [])
     ∷ (rowsOf (splitABAB 2 (s0 ++ (s01 ++ s02)) 2 .saved) ∷ [], 7 ∷ [])
     ∷ (2 * splitABAB 2 (s0 ++ (s01 ++ s02)) 2 .bytes ∷ [], 8 ∷ [])
-    -- "aba" plain leaves 03 and 31 zeros, 03 00 00 00, four zeros, 05 and 7 zeros
+    -- "aba" plain leaves 03 and 127 zeros, 03 00 00 00, four zeros, 05 and 7 zeros
     ∷ (
       fed byList (opened L) 0 (a ∷ b ∷ a ∷ []) 2 .saved,
-      0x03 ∷ (replicate (setSize - 1) 0 ++ (0x03 ∷ 0 ∷ 0 ∷ 0 ∷ 0 ∷ 0 ∷ 0 ∷ 0 ∷ 0x05 ∷ 0 ∷ 0 ∷ 0 ∷ 0 ∷ 0 ∷ 0 ∷ 0 ∷ [])),
+      0x03 ∷ (replicate 127 0 ++ (0x03 ∷ 0 ∷ 0 ∷ 0 ∷ 0 ∷ 0 ∷ 0 ∷ 0 ∷ 0x05 ∷ 0 ∷ 0 ∷ 0 ∷ 0 ∷ 0 ∷ 0 ∷ 0 ∷ [])),
     )
     -- "a" then "bab" from start 1: the same pairs
     ∷ (answered (fed byList (opened L) 0 (a ∷ []) 2), 0 ∷ 1 ∷ 0 ∷ 1 ∷ [])
@@ -140,11 +141,12 @@ feedRows =
     -- an odd buffer filled with other numbers, "abab": room for one pair, and the words behind it stay, the odd last one too
     ∷ (odd .words, 7 ∷ 2 ∷ 9 ∷ [])
     ∷ (answered odd, 0 ∷ 3 ∷ 1 ∷ 0 ∷ [])
-    -- opening a record full of FF: the record of the start states; one of another size: 4, and it stays
+    -- opening a record full of FF: the record of the start states; one of another size, as that of 256 states, 48 bytes: 4, and it stays
     ∷ (openRefusal L (replicate (setSize + 16) 0xFF) ∷ openSaved L (replicate (setSize + 16) 0xFF), 0 ∷ opened L)
     ∷ (openRefusal L (0xFF ∷ []) ∷ openSaved L (0xFF ∷ []), 4 ∷ 0xFF ∷ [])
-    -- state 255 passes, state 256 gives 2; a record of kind 4 gives 2
-    ∷ (listRefusal (L ++ (2 ∷ 0 ∷ 0 ∷ 0 ∷ 0 ∷ 0 ∷ 0xFF ∷ 0 ∷ [])) ∷ listRefusal (L ++ (2 ∷ 0 ∷ 0 ∷ 0 ∷ 0 ∷ 0 ∷ 0 ∷ 1 ∷ [])) ∷ [], 0 ∷ 2 ∷ [])
+    ∷ (openRefusal L (replicate 48 0xFF) ∷ openSaved L (replicate 48 0xFF), 4 ∷ replicate 48 0xFF)
+    -- state 1,023 passes, state 1,024 gives 2; a record of kind 4 gives 2
+    ∷ (listRefusal (L ++ (2 ∷ 0 ∷ 0 ∷ 0 ∷ 0 ∷ 0 ∷ 0xFF ∷ 3 ∷ [])) ∷ listRefusal (L ++ (2 ∷ 0 ∷ 0 ∷ 0 ∷ 0 ∷ 0 ∷ 0 ∷ 4 ∷ [])) ∷ [], 0 ∷ 2 ∷ [])
     ∷ (listRefusal (L ++ (4 ∷ 0 ∷ 0 ∷ 0 ∷ 2 ∷ 0 ∷ 7 ∷ 0 ∷ [])) ∷ [], 2 ∷ [])
     -- L without its start record: 3
     ∷ (listRefusal (edges ++ accepts) ∷ [], 3 ∷ [])

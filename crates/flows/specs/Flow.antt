@@ -1,4 +1,4 @@
--- The flow record: 48 bytes, its fields, and the rules 4 to 6.
+-- The flow record: 144 bytes, its fields, and the rules 4 to 6.
 use Prim.Native.Nat.{ℕ, _+_, _*_}
 use mathlib.Core.Bool.{Bool, _||_, not}
 use mathlib.Core.List.{List, [], _∷_, _++_}

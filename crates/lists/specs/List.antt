@@ -15,7 +15,7 @@ abbrev pub recordSize : ℕ
 recordSize = 8
 
 abbrev pub mostRecords : ℕ
-mostRecords = 4096
+mostRecords = 8192
 
 -- two bytes at a place of a list, low byte first
 abbrev pub word : List ℕ → ℕ → ℕ

@@ -15,7 +15,7 @@ ghost use Rattle.lists.specs.Automaton.{edge, leaves, start, step, accep
 pub const RECORD_SIZE: usize = 8;
 
 // The most records that a list may have.
-pub const MOST_RECORDS: usize = 4096;
+pub const MOST_RECORDS: usize = 8192;
 
 // Byte 0 of a record, its kind: an edge, a start or an accept.
 const EDGE: u8 = 1;

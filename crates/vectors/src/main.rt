@@ -29,11 +29,25 @@ struct Sizes {
     record: usize,
 }
 
-// Zeros for the rows or the splits of a table.
-fn long_buffer() -> [u8; 196608]
-    ensures { λ r. ⌜ 196608 ≡ length r ⌝ }
+// Zeros for a list: 8,192 records, and 256 bytes more.
+fn list_buffer() -> [u8; 65792]
+    ensures { λ r. ⌜ 65792 ≡ length r ⌝ }
 {
-    [0; 196608]
+    [0; 65792]
+}
+
+// Zeros for the parts of a table: 1,024 sets, and 256 bytes more.
+fn parts_buffer() -> [u8; 131328]
+    ensures { λ r. ⌜ 131328 ≡ length r ⌝ }
+{
+    [0; 131328]
+}
+
+// Zeros for the rows or the splits of a table: 4,096 splits, and 256 bytes more.
+fn long_buffer() -> [u8; 557312]
+    ensures { λ r. ⌜ 557312 ≡ length r ⌝ }
+{
+    [0; 557312]
 }
 
 // Zeros for a piece.
@@ -447,9 +461,9 @@ fn replay(
 
 // The program.
 fn main() {
-    let mut list = io::large_buffer();
+    let mut list = list_buffer();
     let mut classes = short_buffer();
-    let mut parts = io::large_buffer();
+    let mut parts = parts_buffer();
     let mut rows = long_buffer();
     let mut splits = long_buffer();
     let mut record = short_buffer();
