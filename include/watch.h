@@ -25,7 +25,8 @@
  * numbers below WATCH_STATES, signatures those below WATCH_SIGNATURES.
  *
  *     byte 0      bytes 1 to 7
- *     1, edge     1 low, 2 high, 3 zero, 4-5 from, 6-7 to: taken on byte c when low <= c <= high
+ *     1, edge     1 low, 2 high, 3 zero or 1, 4-5 from, 6-7 to: taken on byte c when low <= c <= high; where byte 3 is 1 also when that
+ *                 holds of c with ASCII letter case exchanged (41 to 5A in hex plus 20, 61 to 7A less 20, any other byte as it is)
  *     2, start    1-5 zero, 6-7 state
  *     3, accept   1-3 zero, 4-5 state, 6-7 signature
  *
@@ -54,8 +55,8 @@
  * A refusal is one of these numbers, and 0 where there is none. Where several apply, the lowest is given.
  *
  *      1   the list's length is 0, over WATCH_MOST_LIST, or no multiple of WATCH_RECORD_SIZE
- *      2   a record of the list has another kind, a reserved byte that is not zero, low > high, a state that is not below
- *          WATCH_STATES, or a signature that is not below WATCH_SIGNATURES
+ *      2   a record of the list has another kind, a reserved byte that is not zero, a byte 3 of an edge that is over 1, low > high, a
+ *          state that is not below WATCH_STATES, or a signature that is not below WATCH_SIGNATURES
  *      3   the list has no start record
  *      4   the flow record is not WATCH_FLOW_SIZE bytes long; or, when it is fed, its four reserved bytes are not zero or its rows
  *          read are more than WATCH_STATES x offset
@@ -126,7 +127,7 @@ extern "C" {
 #endif
 
 /* The version of the face that this header describes. */
-#define WATCH_VERSION 2
+#define WATCH_VERSION 3
 
 /* Bytes of stack that a call takes at most. */
 #define WATCH_MOST_STACK 1152
@@ -276,8 +277,8 @@ static inline const char *watch_refusal_text(uint32_t n)
     case WATCH_REFUSED_LIST_LENGTH:
         return "the list is not 1 to " WATCH_TEXT(WATCH_MOST_RECORDS) " whole records of " WATCH_TEXT(WATCH_RECORD_SIZE) " bytes";
     case WATCH_REFUSED_LIST_RECORD:
-        return "a record of the list has another kind, a reserved byte that is not zero, low > high, a state that is not below "
-               WATCH_TEXT(WATCH_STATES) ", or a signature that is not below " WATCH_TEXT(WATCH_SIGNATURES);
+        return "a record of the list has another kind, a reserved byte that is not zero, a byte 3 of an edge that is over 1, low > high, "
+               "a state that is not below " WATCH_TEXT(WATCH_STATES) ", or a signature that is not below " WATCH_TEXT(WATCH_SIGNATURES);
     case WATCH_REFUSED_NO_START:
         return "the list has no start record";
     case WATCH_REFUSED_FLOW_RECORD:

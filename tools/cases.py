@@ -23,8 +23,8 @@ MOST_LIST = MOST_RECORDS * RECORD_SIZE
 PIECE = 4096
 
 
-def edge(low, high, source, target):
-    return bytes([1, low, high, 0]) + source.to_bytes(2, "little") + target.to_bytes(2, "little")
+def edge(low, high, source, target, either=0):
+    return bytes([1, low, high, either]) + source.to_bytes(2, "little") + target.to_bytes(2, "little")
 
 
 def start(state):
@@ -39,12 +39,18 @@ def good(r):
     """Whether rule 2 lets a record pass."""
     first, second = int.from_bytes(r[4:6], "little"), int.from_bytes(r[6:8], "little")
     if r[0] == 1:
-        return r[3] == 0 and r[1] <= r[2] and first < STATES and second < STATES
+        return r[3] <= 1 and r[1] <= r[2] and first < STATES and second < STATES
     if r[0] == 2:
         return not any(r[1:6]) and second < STATES
     if r[0] == 3:
         return not any(r[1:4]) and first < STATES and second < SIGNATURES
     return False
+
+
+def takes(r, c):
+    """Whether byte c takes an edge; where byte 3 is 1, in either case of an ASCII letter."""
+    cases = {c, ord(chr(c).lower()), ord(chr(c).upper())} if r[3] == 1 and c < 128 else {c}
+    return any(r[1] <= case <= r[2] for case in cases)
 
 
 def cut(rules):
@@ -66,7 +72,7 @@ def output(rules, data):
     frontier = {number(r, 6) for r in records if r[0] == 2}
     lines = []
     for k, c in enumerate(data, 1):
-        frontier = {number(r, 6) for r in records if r[0] == 1 and r[1] <= c <= r[2] and number(r, 4) in frontier}
+        frontier = {number(r, 6) for r in records if r[0] == 1 and number(r, 4) in frontier and takes(r, c)}
         for g in sorted({number(r, 6) for r in records if r[0] == 3 and number(r, 4) in frontier}):
             lines.append(f"{g} {k}\n")
     return "".join(lines) + f"end {len(data)}\n"
@@ -88,11 +94,11 @@ seven = [edge(0, 255, 0, 0), edge(0x61, 0x61, 0, 1), edge(0x62, 0x62, 1, 2), sta
 # the last state and the last signature
 last, last_signature = STATES - 1, SIGNATURES - 1
 
-# two start states; ranges that overlap, of one byte, and up to 255; a loop; a state with two signatures and two states with one
+# two start states; ranges that overlap, of one byte, up to 255, and in either case; a loop; a state with two signatures and two states with one
 ranges = [
     accept(last, last_signature), accept(3, 9), accept(2, 9), accept(2, 0), accept(2, 9),
     edge(0x00, 0x1F, 0, 1), edge(0x80, 0xFF, 1, 2), edge(0x40, 0x7F, 2, 2), edge(0x60, 0x60, 2, 3), edge(0x90, 0xBF, 1, last),
-    edge(0x00, 0xFF, 0, 0), start(last - 1), start(0), edge(0x00, 0x00, last - 1, last),
+    edge(0x00, 0xFF, 0, 0), edge(0x58, 0x62, 1, 2, 1), edge(0xE1, 0xE1, 1, 3, 1), start(last - 1), start(0), edge(0x00, 0x00, last - 1, last),
 ]
 
 

@@ -168,6 +168,16 @@ pub fn steady_list(n: usize, frontier: usize) -> Vec<u8> {
     list.concat()
 }
 
+/// The list with every edge for either case.
+pub fn either_case(mut list: Vec<u8>) -> Vec<u8> {
+    for record in list.chunks_exact_mut(RECORD_BYTES) {
+        if record[0] == 1 {
+            record[3] = 1;
+        }
+    }
+    list
+}
+
 /// The orders of a line: each a letter and then its digit, "A0" to "H7". State 0 stays for ever; order i is at state 1 + i after its
 /// letter and at state 1 + ORDERS + i after its digit, which accepts.
 const ORDERS: u8 = 8;

@@ -308,6 +308,16 @@ fn rows() -> Vec<Row> {
             );
         }
     }
+    for frontier in [8, STATES] {
+        row(
+            format!("plain feed, {full} records in either case, frontier {frontier}"),
+            2,
+            Box::new(move || {
+                let list = inputs::either_case(inputs::steady_list(MOST_RECORDS, frontier));
+                (list, fed(frontier, inputs::line(512)))
+            }),
+        );
+    }
     let traffic: [(&str, fn(usize) -> Vec<u8>); 2] = [
         (QUIET, inputs::quiet_bytes),
         (TELLING, inputs::telling_bytes),

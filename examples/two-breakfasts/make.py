@@ -9,12 +9,18 @@ HERE = os.path.dirname(os.path.abspath(__file__))
 ORDER = b"feed 9\n"
 
 
-def edge(low, high, source, target, why):
-    return bytes([1, low, high, 0, source, 0, target, 0]), why
+def edge(low, high, either, source, target, why):
+    return bytes([1, low, high, either, source, 0, target, 0]), why
 
 
 def start(state, why):
     return bytes([2, 0, 0, 0, 0, 0, state, 0]), why
+
+
+def order(source, which):
+    """The edges that read an order from a state on, its letters in either case."""
+    return [edge(c, c, int(chr(c).isalpha()), source + i, source + i + 1, "%s order, byte %r%s"
+                 % (which, chr(c), " in either case" if chr(c).isalpha() else "")) for i, c in enumerate(ORDER)]
 
 
 def accept(state, signature, why):
@@ -22,13 +28,11 @@ def accept(state, signature, why):
 
 
 records = [start(0, "the flow begins in state 0: no order for nine yet")]
-records.append(edge(0, 255, 0, 0, "any byte: still waiting for the first order"))
-for i, c in enumerate(ORDER):
-    records.append(edge(c, c, i, i + 1, "first order, byte %r" % chr(c)))
+records.append(edge(0, 255, 0, 0, 0, "any byte: still waiting for the first order"))
+records += order(0, "first")
 first = len(ORDER)
-records.append(edge(0, 255, first, first, "any byte: the first order has gone by"))
-for i, c in enumerate(ORDER):
-    records.append(edge(c, c, first + i, first + i + 1, "repeated order, byte %r" % chr(c)))
+records.append(edge(0, 255, 0, first, first, "any byte: the first order has gone by"))
+records += order(first, "repeated")
 records.append(accept(2 * first, 9, "the repeated order has gone by: signature 9"))
 
 with open(os.path.join(HERE, "rules.bin"), "wb") as f:

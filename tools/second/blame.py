@@ -11,7 +11,7 @@ from model import (BYTE_VALUES, FLOW_SIZE, MOST_BOUND, MOST_CLASS, MOST_LIST, MO
                    SPLIT_SIZE, STATES, UNUSED, cut, number, union, used_slots)
 
 # Bytes of a record that are zero, by kind.
-RESERVED = {1: [3], 2: [1, 2, 3, 4, 5], 3: [1, 2, 3]}
+RESERVED = {1: [], 2: [1, 2, 3, 4, 5], 3: [1, 2, 3]}
 
 
 # The list
@@ -23,6 +23,8 @@ def record_faults(record):
                 % kind]
     out = ["a non-zero reserved byte: byte %d is %02X" % (at, record[at])
            for at in RESERVED[kind] if record[at]]
+    if kind == 1 and record[3] > 1:
+        out.append("a byte 3 that is neither 0 nor 1: it is %02X" % record[3])
     if kind == 1 and low > high:
         out.append("low over high: %s over %s" % (saying.byte(low), saying.byte(high)))
     named = {1: [("from", middle), ("to", last)], 2: [("state", last)], 3: [("state", middle)]}
@@ -144,8 +146,11 @@ def where_9(table, bound):
 
 
 def alike(nfa):
-    """For each byte the lowest one that takes the same edges."""
-    borders = {edge.low for edge in nfa.edges} | {edge.high + 1 for edge in nfa.edges}
+    """For each byte one that takes the same edges."""
+    borders = set()
+    for edge in nfa.edges:
+        for low, high in saying.runs(saying.taken(edge)) if edge.either else [edge[:2]]:
+            borders |= {low, high + 1}
     out = []
     for value in range(BYTE_VALUES):
         out.append(value if value == 0 or value in borders else out[-1])

@@ -5,7 +5,7 @@ from model import (BYTE_VALUES, MOST_CLASS, MOST_OFFSET, RECORD_SIZE, SIGNATURES
                    Flow, Table, pack_flow, pack_set, padded)
 from tape import MOST_WORDS
 
-LETTERS = [0, 1, 31, 32, 48, 64, 97, 98, 99, 122, 127, 128, 200, 254, 255]
+LETTERS = [0, 1, 31, 32, 48, 64, 65, 90, 97, 98, 99, 122, 127, 128, 200, 254, 255]
 SOME_STATES = [0, 1, 2, 3, 5, 7, 8, 9, 15, 16, 31, 63, 64, 65, 71, 127, 128, 129, 192, 200, 255,
                256, 257, 300, 511, 512, 513, 639, 640, 700, 767, 768, 1000, STATES - 8, STATES - 2,
                STATES - 1]
@@ -13,8 +13,8 @@ SOME_STATES = [0, 1, 2, 3, 5, 7, 8, 9, 15, 16, 31, 63, 64, 65, 71, 127, 128, 129
 
 # Records of a list
 
-def edge(low, high, source, target):
-    return bytes([1, low, high, 0]) + source.to_bytes(2, "little") + target.to_bytes(2, "little")
+def edge(low, high, source, target, either=0):
+    return bytes([1, low, high, either]) + source.to_bytes(2, "little") + target.to_bytes(2, "little")
 
 
 def start(state):
@@ -55,7 +55,7 @@ def search_list(dice):
             to = rest.pop() if rest and dice.chance(80) else dice.pick(states)
             low = dice.pick(letters)
             high = dice.between(low, 255) if dice.chance(20) else low
-            records.append(edge(low, high, at, to))
+            records.append(edge(low, high, at, to, int(dice.chance(25))))
             at = to
         records.append(accept(at, dice.below(SIGNATURES)))
         if dice.chance(30):
@@ -80,7 +80,8 @@ def web_list(dice):
             low, high = 0, dice.pick(letters)
         else:
             low, high = dice.pick(letters), 255
-        records.append(edge(low, high, dice.pick(states), dice.pick(states)))
+        records.append(edge(low, high, dice.pick(states), dice.pick(states),
+                            int(dice.chance(25))))
     signatures = [dice.below(SIGNATURES) for _ in range(3)] + [SIGNATURES - 1]
     for _ in range(dice.below(7)):
         records.append(accept(dice.pick(states), dice.pick(signatures)))
@@ -122,7 +123,7 @@ def broken_list(dice, sample, number):
     if number == 2:
         bad = dice.pick([bytes([4, 0, 0, 0, 0, 0, 0, 0]), edge(9, 8, 0, 0), start(STATES),
                          accept(0, SIGNATURES), accept(STATES + 44, 1), edge(0, 1, STATES, 0),
-                         edge(0, 1, 0, 2 * STATES - 1), bytes([1, 0, 0, 1, 0, 0, 0, 0])])
+                         edge(0, 1, 0, 2 * STATES - 1), edge(0, 0, 0, 0, 2)])
         records.insert(dice.below(len(records) + 1), bad)
         return b"".join(records)
     records = [record for record in records if record[0] != 2]
@@ -142,6 +143,8 @@ def a_piece(dice, sample, length):
             out.append(min(255, near + 1))
         elif shape < 17:
             out.append(max(0, near - 1))
+        elif shape < 18:
+            out.append(model.exchanged(near))
         else:
             out.append(dice.below(BYTE_VALUES))
     return bytes(out)
@@ -224,7 +227,7 @@ def alike(nfa):
     """All bytes in groups that take the same edges, by lowest byte."""
     groups = {}
     for byte in range(BYTE_VALUES):
-        taken = frozenset(e for e in nfa.edges if e.low <= byte <= e.high)
+        taken = frozenset(e for e in nfa.edges if e.takes(byte))
         groups.setdefault(taken, []).append(byte)
     return list(groups.values())
 

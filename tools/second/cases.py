@@ -108,7 +108,7 @@ def lists(tape, dice):
                         bytes([kind]) + bytes(RECORD_SIZE - 1)))
 
     # Every reserved byte of each kind, and every byte of a record in turn.
-    for kind, places in ((1, [3]), (2, [1, 2, 3, 4, 5]), (3, [1, 2, 3])):
+    for kind, places in ((2, [1, 2, 3, 4, 5]), (3, [1, 2, 3])):
         for at in places:
             for value in (1, 2, 4, 8, 16, 32, 64, 128, 255, dice.between(1, 254)):
                 record = bytearray([kind]) + bytes(RECORD_SIZE - 1)
@@ -1059,11 +1059,120 @@ def equal_splits(tape, dice):
             tape.split_feed(bound, 7, 12, b"ab")
 
 
+# Either case
+
+# What stands around the letters, the letters at the ends, and bytes that have no case although a
+# letter is 32 away or another alphabet has one.
+EDGES_OF_LETTERS = [0x40, 0x41, 0x42, 0x59, 0x5A, 0x5B, 0x60, 0x61, 0x62, 0x79, 0x7A, 0x7B,
+                    0x20, 0x21, 0x3A, 0x80, 0xC1, 0xDA, 0xE1, 0xFA, 0x00, 0xFF]
+WORKED_RANGES = [(0x61, 0x61), (0x5A, 0x61), (0x40, 0x5B), (0xE1, 0xE1), (0x41, 0x5A), (0x61, 0x7A)]
+
+
+def letter_list(dice, low, high, either):
+    """A list on which one edge tells the bytes that it takes."""
+    root, seen = dice.some(builders.SOME_STATES, 2)
+    return Sample(dice.shuffled([start(root), edge(0, 255, root, root),
+                                 edge(low, high, root, seen, either),
+                                 accept(seen, dice.below(SIGNATURES))]),
+                  [low, high], [root, seen])
+
+
+def ask_letters(tape, dice, low, high, either):
+    """Every byte, through the plain feed and through a table that the check accepts."""
+    sample = letter_list(dice, low, high, either)
+    tape.load_list(sample.data)
+    assert tape.check_list() == 0
+    tape.load_record(bytes(FLOW_SIZE))
+    tape.open()
+    fresh = tape.record
+    every = bytes(range(BYTE_VALUES))
+    tape.feed(0, ENOUGH_WORDS + 2 * BYTE_VALUES, every)
+    plan = None
+    while plan is None:
+        plan = builders.build_plan(dice, sample, 2)
+    tape.load_table(plan.table())
+    assert tape.check_table(2) == 0
+    tape.load_record(fresh)
+    tape.split_feed(2, 0, ENOUGH_WORDS + 2 * BYTE_VALUES, every)
+
+
+def other_case(records, at):
+    """The records, of which one edge has the other value of byte 3."""
+    changed = bytearray(records[at])
+    changed[3] = 1 - changed[3]
+    return records[:at] + [bytes(changed)] + records[at + 1:]
+
+
+def tables_of_the_other_case(tape, dice):
+    """A table for one value of an edge's byte 3 beside the list with the other one: 10."""
+    made = {0: 0, 1: 0}
+    while min(made.values()) < MANY:
+        bound = dice.between(1, MOST_BOUND)
+        sample, plan = good_table(dice, bound, 9, 7)
+        at = dice.below(len(sample.records))
+        either = sample.records[at][3]
+        if sample.records[at][0] != 1 or made[either] == MANY:
+            continue
+        other = Sample(other_case(sample.records, at), sample.letters, sample.states)
+        if model.table_refusal(other.data, plan.table(), bound) != 10:
+            continue  # No part has the edge's state, or none of its bytes is a letter.
+        made[either] += 1
+        tape.load_list(other.data)
+        tape.load_table(plan.table())
+        tape.check_table(bound)
+        walk = Walk(tape, dice, other, bound)
+        walk.begin()
+        walk.go_on()
+        tape.load_list(sample.data)
+        tape.check_table(bound)
+
+
+def capitals(tape, dice):
+    """Byte 3 of an edge: 1 takes letters in either case, over 1 is refused."""
+    for low, high in WORKED_RANGES:
+        for either in (0, 1):
+            ask_letters(tape, dice, low, high, either)
+    for letter in EDGES_OF_LETTERS:
+        ask_letters(tape, dice, letter, letter, 1)
+        ask_letters(tape, dice, *sorted([letter, dice.pick(EDGES_OF_LETTERS)]), 1)
+    for turn in range(MANY):
+        low, high = sorted([dice.below(BYTE_VALUES), dice.between(0x38, 0x88)])
+        ask_letters(tape, dice, low, high, int(turn % 5 > 0))
+
+    # Every value of byte 3, and low over high beside 0 and 1.
+    tape.load_table(examples.TABLE)
+    for value in range(BYTE_VALUES):
+        low, high = sorted([dice.pick(EDGES_OF_LETTERS), dice.pick(EDGES_OF_LETTERS)])
+        tape.load_list(with_record(dice, [start(3), edge(0, 255, 3, 3), accept(2, 4)],
+                                   edge(low, high, 3, 2, value)))
+        assert tape.check_list() == (2 if value > 1 else 0)
+        ask_list(tape, dice, 10)
+    for turn in range(2 * MANY):
+        low, high = sorted(dice.some(EDGES_OF_LETTERS, 2))
+        tape.load_list(with_record(dice, [start(3)], edge(high, low, 3, 2, turn % 2)))
+        assert tape.check_list() == 2
+    # The records of the two other kinds keep byte 3 at zero.
+    for turn in range(2 * MANY):
+        record = bytearray(start(2) if turn % 2 else accept(2, 4))
+        record[3] = dice.pick([1, 1, 2, 255])
+        tape.load_list(with_record(dice, [start(3), edge(97, 97, 3, 2, 1)], bytes(record)))
+        assert tape.check_list() == 2
+
+    # A list of such edges without a start.
+    for _ in range(FEW):
+        low, high = sorted([dice.pick(EDGES_OF_LETTERS), dice.pick(EDGES_OF_LETTERS)])
+        tape.load_list(edge(low, high, 3, 2, 1) + accept(2, 4))
+        assert tape.check_list() == 3
+        assert tape.check_table(dice.pick(BOUNDS)) == 3
+
+    tables_of_the_other_case(tape, dice)
+
+
 GROUPS = [worked, lists, longest_lists, list_limits, openings, record_limits, plain_flows,
           crowded_flows, good_tables, crowded_tables, faulty_tables, one_byte_tables,
           harmless_tables, wild_tables, long_pieces, set_sizes, largest_tables,
           split_order, equal_splits, low_and_high, lengths_of_splits, no_split,
-          zero_records, old_content, long_pauses]
+          zero_records, old_content, long_pauses, capitals]
 
 
 def make(tape, dice):

@@ -32,7 +32,7 @@ def label_byte(value):
 
 def label(edges):
     """The bytes of the edges between two states."""
-    held = {value for edge in edges for value in range(edge.low, edge.high + 1)}
+    held = set().union(*(saying.taken(edge) for edge in edges))
     if len(held) == model.BYTE_VALUES:
         return "any"
     said = []

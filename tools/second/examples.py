@@ -93,5 +93,30 @@ def check():
     assert plain(last, MOST_OFFSET, [], b"")[:4] == (0, 0, 0, True)
     assert plain(last, MOST_OFFSET, [], b"x") == (6, 0, 0, False, [], last)
 
+    # Either case: the bytes of an edge from 0 to 1, alone on a list, by low, high and byte 3.
+    def bytes_of(low, high, either):
+        data = bytes([1, low, high, either, 0, 0, 1, 0]) + START
+        assert model.list_refusal(data) == 0
+        nfa = model.automaton(data)
+        return [byte for byte in range(BYTE_VALUES) if nfa.step(frozenset({0}), byte)]
+
+    def runs(*ends):
+        return [byte for low, high in ends for byte in range(low, high + 1)]
+
+    assert bytes_of(0x61, 0x61, 1) == [0x41, 0x61]
+    assert bytes_of(0x5A, 0x61, 1) == runs((0x41, 0x41), (0x5A, 0x61), (0x7A, 0x7A))
+    assert bytes_of(0x40, 0x5B, 1) == runs((0x40, 0x5B), (0x61, 0x7A))
+    assert bytes_of(0xE1, 0xE1, 1) == [0xE1]
+    assert bytes_of(0x5A, 0x61, 0) == runs((0x5A, 0x61))
+    for record in ("0161610200000100", "01616101FFFF0100", "016161FF00000100", "0162610100000100",
+                   "0200000100000000", "0300000100000000"):
+        assert model.list_refusal(START + bytes.fromhex(record)) == 2
+    # A table for byte 3 of 0 is refused with 10 for the list with 1.
+    capitals = LIST.replace(bytes.fromhex("01616100"), bytes.fromhex("01616101"))
+    assert model.list_refusal(capitals) == 0
+    assert model.table_refusal(capitals, TABLE, 2) == 10
+    assert model.plain_feed(capitals, fresh, 0, words, b"AbaB")[:5] == (
+        0, 4, 1, True, [7, 2, 13, 14, 15])
+
     # {8} comes before {0} in the order of byte strings.
     assert _set(8) < _set(0)

@@ -198,6 +198,18 @@ def class_10(dice, plan, bound, sample):
     return plan
 
 
+def case_10(dice, plan, bound, sample):
+    """A letter moves to the class of its partner in the other case."""
+    letters = [byte for byte in range(BYTE_VALUES)
+               if plan.classes[byte] != plan.classes[model.exchanged(byte)]]
+    if not letters:
+        return None
+    byte = dice.pick(letters)
+    plan.classes[byte] = plan.classes[model.exchanged(byte)]
+    plan.width = max(plan.classes) + 1
+    return plan
+
+
 def spare_10(dice, plan, bound, sample):
     """A wrong row of a part that no split uses."""
     named = {slot for _, slots in plan.splits for slot in used(slots)}
@@ -285,7 +297,8 @@ SINGLE = [
     (8, wider_8, 8),
     (9, no_part_9, 30), (9, after_unused_9, 18), (9, equal_slots_9, 18), (9, falling_9, 18),
     (9, too_many_9, 18), (9, order_9, 18), (9, word_order_9, 18), (9, equal_sets_9, 18),
-    (10, row_10, 40), (10, class_10, 30), (10, spare_10, 20), (10, swapped_10, 6),
+    (10, row_10, 40), (10, class_10, 30), (10, case_10, 30),
+    (10, spare_10, 20), (10, swapped_10, 6),
     (11, state_11, 50), (11, slots_11, 40),
     (12, start_12, 70),
     (13, target_13, 50), (13, empty_13, 25), (13, unclosed_13, 40),

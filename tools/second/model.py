@@ -30,7 +30,6 @@ SLOTS = 4  # in a split
 UNUSED = 65535  # the number in a slot that is not in use
 SPLIT_SIZE = SET_SIZE + 2 * SLOTS  # bytes in a split
 
-Edge = namedtuple("Edge", "low high source target")
 Accept = namedtuple("Accept", "state signature")
 Flow = namedtuple("Flow", "frontier offset rows")
 Table = namedtuple("Table", "classes parts rows splits")  # four byte lists
@@ -75,11 +74,24 @@ def pack_flow(flow):
 
 # The signature list
 
+def exchanged(byte):
+    """The byte with ASCII letter case exchanged."""
+    return bytes([byte]).swapcase()[0]
+
+
+class Edge(namedtuple("Edge", "low high source target either")):
+    """An edge, and whether it is for either case."""
+
+    def takes(self, byte):
+        return (self.low <= byte <= self.high
+                or self.either and self.low <= exchanged(byte) <= self.high)
+
+
 def sound(record):
     """Whether one record of a list passes by itself."""
     kind, middle, last = record[0], number(record[4:6]), number(record[6:8])
     if kind == 1:
-        return (record[1] <= record[2] and record[3] == 0
+        return (record[1] <= record[2] and record[3] <= 1
                 and middle < STATES and last < STATES)
     if kind == 2:
         return set(record[1:6]) == {0} and last < STATES
@@ -106,7 +118,8 @@ class Automaton:
     def __init__(self, data):
         records = cut(data, RECORD_SIZE)
         self.edges = frozenset(
-            Edge(r[1], r[2], number(r[4:6]), number(r[6:8])) for r in records if r[0] == 1)
+            Edge(r[1], r[2], number(r[4:6]), number(r[6:8]), r[3] == 1)
+            for r in records if r[0] == 1)
         self.starts = frozenset(number(r[6:8]) for r in records if r[0] == 2)
         self.accepts = frozenset(
             Accept(number(r[4:6]), number(r[6:8])) for r in records if r[0] == 3)
@@ -116,8 +129,7 @@ class Automaton:
         key = (frontier, byte)
         if key not in self.steps:
             self.steps[key] = frozenset(
-                e.target for e in self.edges
-                if e.low <= byte <= e.high and e.source in frontier)
+                e.target for e in self.edges if e.source in frontier and e.takes(byte))
         return self.steps[key]
 
     def signatures(self, frontier):

@@ -14,9 +14,9 @@ class Records:
     def __init__(self, data):
         self.starts, self.edges, self.accepts = {}, {}, {}
         for at, record in enumerate(cut(data, RECORD_SIZE)):
-            kind, low, high, middle, last = saying.fields(record)
+            kind, _, _, middle, last = saying.fields(record)
             if kind == 1:
-                self.edges.setdefault((middle, last), []).append((low, high, at))
+                self.edges.setdefault((middle, last), []).append((saying.an_edge(record), at))
             elif kind == 2:
                 self.starts.setdefault(last, at)
             else:
@@ -24,8 +24,8 @@ class Records:
 
     def edge(self, source, target, byte):
         """The record by which this byte leads from source to target, or None."""
-        return next((at for low, high, at in self.edges.get((source, target), [])
-                     if low <= byte <= high), None)
+        return next((at for edge, at in self.edges.get((source, target), [])
+                     if edge.takes(byte)), None)
 
 
 def frontiers(nfa, flow):

@@ -3,7 +3,7 @@
 Records, states, parts and splits count from 0, bytes of a flow from 1. Not proved.
 """
 
-from model import number
+from model import BYTE_VALUES, Edge, exchanged, number
 
 ESCAPES = {9: "\\t", 10: "\\n", 13: "\\r", 34: '\\"', 92: "\\\\"}
 LONG_TEXT = 60  # bytes of a text that is shown whole
@@ -100,11 +100,32 @@ def fields(record):
     return record[0], record[1], record[2], number(record[4:6]), number(record[6:8])
 
 
+def an_edge(record):
+    """The edge of a record that is one."""
+    _, low, high, middle, last = fields(record)
+    return Edge(low, high, middle, last, record[3] == 1)
+
+
+def taken(edge):
+    """The bytes that an edge takes."""
+    return {value for value in range(BYTE_VALUES) if edge.takes(value)}
+
+
+def on_bytes(record):
+    """The bytes of an edge's record, in words."""
+    return spread(record[1], record[2]) + (" in either case" if record[3] else "")
+
+
+def either_case(record):
+    """Whether an edge on one byte takes it in either case; None where the byte has no case."""
+    return None if exchanged(record[1]) == record[1] else record[3] == 1
+
+
 def record_words(record):
     """A record that is sound, in words."""
     kind, low, high, middle, last = fields(record)
     if kind == 1:
-        return "edge on %s from state %d to state %d" % (spread(low, high), middle, last)
+        return "edge on %s from state %d to state %d" % (on_bytes(record), middle, last)
     if kind == 2:
         return "start in state %d" % last
     return "state %d accepts signature %d" % (middle, last)
@@ -139,11 +160,12 @@ def folded_words(shape, records):
         return "%s, %d times" % (record_words(records[0]), len(records))
     if shape == "text":
         between = [fields(record)[3] for record in records[1:]]
-        return "edges that read %s from state %d to state %d, through %s" % (
-            text(bytes(record[1] for record in records)), first[3], last[4],
-            counted("state", between))
+        return "edges that read %s%s from state %d to state %d, through %s" % (
+            text(bytes(record[1] for record in records)),
+            " in either case" if any(either_case(record) for record in records) else "",
+            first[3], last[4], counted("state", between))
     if shape == "between":
-        said = [spread(record[1], record[2]) for record in records]
+        said = [on_bytes(record) for record in records]
         if len(said) > MOST_RUNS:
             said[MOST_RUNS:] = ["..."]
         return "edges on %s from state %d to state %d" % (", ".join(said), first[3], first[4])
@@ -153,6 +175,20 @@ def folded_words(shape, records):
         first[3], counted("signature", [fields(record)[4] for record in records]))
 
 
+def run_end(shape, records, at, sound):
+    """The place behind the last record of the run of this shape that begins at a place. The
+    letters of a text are all for one case, or all for either."""
+    end, cases = at + 1, set()
+    while (sound(records[at]) and end < len(records) and sound(records[end])
+           and follows(shape, records[end - 1], records[end])):
+        if shape == "text":
+            cases |= {either_case(records[end - 1]), either_case(records[end])}
+            if {True, False} <= cases:
+                break
+        end += 1
+    return end
+
+
 def folded(records, sound):
     """Runs of records as triples: the first, the one behind the last, the shape or None.
     Records for which sound does not hold stand alone."""
@@ -160,10 +196,7 @@ def folded(records, sound):
     while at < len(records):
         chosen, end = None, at + 1
         for shape, fewest in SHAPES:
-            reach = at + 1
-            while (sound(records[at]) and reach < len(records) and sound(records[reach])
-                   and follows(shape, records[reach - 1], records[reach])):
-                reach += 1
+            reach = run_end(shape, records, at, sound)
             if reach - at >= fewest:
                 chosen, end = shape, reach
                 break

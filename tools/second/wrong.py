@@ -29,6 +29,8 @@ CHECK_ONLY = {"passes_9", "breaks_9", "table_refusal"}
 NOT_DEEP = CHECK_ONLY | {"sound", "list_refusal", "open_flow", "wrong_lists", "padded",
                          "taken_slots", "feed_refusal", "run", "refused", "plain_feed",
                          "split_feed"}
+# What the steps of an automaton hang on.
+STEPS = {"Automaton", "Edge", "exchanged"}
 
 
 # Changes: what stands in model.py, and what stands there instead.
@@ -82,6 +84,12 @@ def feed_8(table):
              "cut(table.splits[:len(table.splits) // SPLIT_SIZE * SPLIT_SIZE], SPLIT_SIZE)")]
 
 
+def exchange(byte):
+    """Another exchange of case."""
+    return [("return " + CASE, "return " + byte)]
+
+
+CASE = "bytes([byte]).swapcase()[0]"
 NO_KIND = "    return False\n\n\n@lru_cache(maxsize=64)\n"
 SLOT = "low + 256 * high"
 TAKEN = "split.slots[:split.slots.index(UNUSED)]"
@@ -133,6 +141,47 @@ VERSIONS = [
         ("r[2], number(r[4:6]), number(r[6:8])",
          "r[2], number(r[4:6]) % STATES, number(r[6:8]) % STATES"),
         ("middle < STATES and last < STATES", "True")]),
+
+    # Either case
+    ("case: byte 3 is not looked at by the check", [(" and record[3] <= 1", "")]),
+    ("case: byte 3 of 2 passes", [("record[3] <= 1", "record[3] <= 2")]),
+    ("case: byte 3 of 1 is refused", [("record[3] <= 1", "record[3] == 0")]),
+    ("case: any byte 3 but 0 is either case", [(" and record[3] <= 1", ""),
+                                               ("r[3] == 1", "r[3] != 0")]),
+    ("case: low over high passes with 1", [
+        ("record[1] <= record[2] and", "record[3] == 1 or record[1] <= record[2] and")]),
+    ("case: byte 3 of a start may be 1", [
+        ("set(record[1:6]) == {0}", "set(record[1:3] + record[4:6]) == {0} and record[3] <= 1")]),
+    ("case: byte 3 of an accept may be 1", [
+        ("set(record[1:4]) == {0}", "set(record[1:3]) == {0} and record[3] <= 1")]),
+    ("case: no edge is for either", [("r[3] == 1", "False")]),
+    ("case: every edge is for either", [("r[3] == 1", "True")]),
+    ("case: exchanged by bit 5 in every byte", exchange("byte ^ 32")),
+    ("case: capitals from small letters alone", exchange("bytes([byte]).upper()[0]")),
+    ("case: small letters from capitals alone", exchange("bytes([byte]).lower()[0]")),
+    ("case: the letters past ASCII too", exchange(
+        "bytes([byte]).swapcase()[0] if byte < 192 else byte ^ 32")),
+    ("case: 0 for what is no letter", exchange("0 if %s == byte else %s" % (CASE, CASE))),
+    ("case: without the first letter", exchange("byte if byte in b\"Aa\" else " + CASE)),
+    ("case: without the last letter", exchange("byte if byte in b\"Zz\" else " + CASE)),
+    ("case: one byte before the letters too", exchange(
+        "byte ^ 32 if byte in b\"@`\" else " + CASE)),
+    ("case: one byte behind the letters too", exchange(
+        "byte ^ 32 if byte in b\"[{\" else " + CASE)),
+    ("case: low and high exchanged instead of the byte", [
+        ("self.low <= exchanged(byte) <= self.high",
+         "exchanged(self.low) <= byte <= exchanged(self.high)")]),
+    ("case: the range as a whole, where both its ends are letters", [
+        ("and self.low <= exchanged(byte) <= self.high",
+         "and exchanged(self.low) != self.low and exchanged(self.high) != self.high"
+         " and self.low <= exchanged(byte) <= self.high")]),
+    ("case: the exchanged byte alone", [
+        ("return (self.low <= byte <= self.high\n",
+         "return (self.low <= byte <= self.high and not self.either\n")]),
+    ("case: the exchanged byte must lie in the range too", [
+        ("return (self.low <= byte <= self.high\n                or self.either and",
+         "return (self.low <= byte <= self.high\n                and (not self.either or"),
+        ("exchanged(byte) <= self.high)", "exchanged(byte) <= self.high))")]),
 
     # Opening
     ("opening: writes nothing", [("return 0, " + OPENED, "return 0, record")]),
@@ -312,7 +361,7 @@ def quick(automaton):
             lowest = {}
             self.like = []
             for byte in range(model.BYTE_VALUES):
-                taken = frozenset(e for e in self.edges if e.low <= byte <= e.high)
+                taken = frozenset(e for e in self.edges if e.takes(byte))
                 self.like.append(lowest.setdefault(taken, byte))
 
         def step(self, frontier, byte):
@@ -348,7 +397,7 @@ def lines_of(changes, stream, right):
     exec(compile(text, "version", "exec"), version.__dict__)
     before, after = parts_of(SOURCE), parts_of(text)
     changed = {name for name in after if before.get(name) != after[name]}
-    if "Automaton" in changed:
+    if changed & STEPS:
         version.automaton = lru_cache(maxsize=8)(quick(version.Automaton))
     else:
         version.automaton = model.automaton

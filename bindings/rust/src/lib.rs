@@ -110,9 +110,10 @@ pub fn archive_version() -> u32 {
 
 /// A signature list that has passed its check.
 ///
-/// It is 1 to [`MOST_RECORDS`] records of [`RECORD_SIZE`] bytes: edges `1 low high 0 from from to to`, starts `2 0 0 0 0 0 state state`,
+/// It is 1 to [`MOST_RECORDS`] records of [`RECORD_SIZE`] bytes: edges `1 low high case from from to to`, starts `2 0 0 0 0 0 state state`,
 /// accepts `3 0 0 0 state state signature signature`. Two-byte numbers have the low byte first. States are below [`STATES`], signatures
-/// below [`SIGNATURES`].
+/// below [`SIGNATURES`]. An edge is taken on a byte from low to high, where its case is 1 also on a byte that is one with ASCII letter case
+/// exchanged; else its case is 0.
 #[derive(Clone, Copy, PartialEq, Eq)]
 pub struct List<'a> {
     bytes: &'a [u8],

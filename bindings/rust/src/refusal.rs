@@ -17,8 +17,8 @@ use core::fmt;
 pub enum Refusal {
     /// 1: list length is 0, over [`MOST_LIST`], or no multiple of [`RECORD_SIZE`].
     ListLength = 1,
-    /// 2: a record has another kind, a non-zero reserved byte, low > high, a state not below [`STATES`], or a signature not below
-    /// [`SIGNATURES`].
+    /// 2: a record has another kind, a non-zero reserved byte, a byte 3 of an edge over 1, low > high, a state not below [`STATES`],
+    /// or a signature not below [`SIGNATURES`].
     ListRecord = 2,
     /// 3: no start record.
     NoStart = 3,
@@ -98,8 +98,8 @@ impl fmt::Display for Refusal {
             Refusal::ListLength => write!(f, "list length is 0, over {MOST_LIST}, or no multiple of {RECORD_SIZE}"),
             Refusal::ListRecord => write!(
                 f,
-                "a record has another kind, a non-zero reserved byte, low > high, a state not below {STATES}, \
-                 or a signature not below {SIGNATURES}"
+                "a record has another kind, a non-zero reserved byte, a byte 3 of an edge over 1, low > high, \
+                 a state not below {STATES}, or a signature not below {SIGNATURES}"
             ),
             Refusal::NoStart => f.write_str("no start record"),
             Refusal::FlowRecord => write!(

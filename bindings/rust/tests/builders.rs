@@ -17,8 +17,8 @@ fn record(front: [u8; 4], middle: u16, last: u16) -> [u8; RECORD_SIZE] {
     [front[0], front[1], front[2], front[3], a, b, c, d]
 }
 
-fn edge(low: u8, high: u8, from: u16, to: u16) -> [u8; RECORD_SIZE] {
-    record([1, low, high, 0], from, to)
+fn edge(low: u8, high: u8, either_case: bool, from: u16, to: u16) -> [u8; RECORD_SIZE] {
+    record([1, low, high, u8::from(either_case)], from, to)
 }
 
 fn start(state: u16) -> [u8; RECORD_SIZE] {
@@ -34,7 +34,7 @@ fn any_state(dice: &mut Dice) -> u16 {
 }
 
 /// The letters that pieces and edges are mostly made of.
-const LETTERS: &[u8] = b"abcde\x00\xFF";
+const LETTERS: &[u8] = b"abcdeABZ\x00\xFF";
 
 /// A good list: some states, edges on letters and ranges, and accepts from none to all signatures at one state.
 pub fn good_list(dice: &mut Dice) -> Vec<u8> {
@@ -58,11 +58,11 @@ pub fn good_list(dice: &mut Dice) -> Vec<u8> {
                 (letter, letter)
             }
         };
-        records.push(edge(low, high, from, to));
+        records.push(edge(low, high, dice.once_in(3), from, to));
     }
     if dice.once_in(2) {
         let state = dice.pick(&states);
-        records.push(edge(0, 255, state, state));
+        records.push(edge(0, 255, false, state, state));
     }
     for _ in 0..dice.from(1, 3) {
         records.push(start(dice.pick(&states)));
@@ -104,7 +104,7 @@ pub fn broken_list(dice: &mut Dice) -> Vec<u8> {
             break;
         }
         let at = RECORD_SIZE * dice.below((list.len() + RECORD_SIZE - 1) / RECORD_SIZE);
-        match dice.below(12) {
+        match dice.below(14) {
             0 => list.clear(),
             1 => list.truncate(list.len() - dice.from(1, list.len().min(RECORD_SIZE + 1))),
             2 => list.extend((0..dice.from(1, RECORD_SIZE - 1)).map(|_| dice.byte())),
@@ -122,7 +122,7 @@ pub fn broken_list(dice: &mut Dice) -> Vec<u8> {
             }
             7 if at + 7 < list.len() => list[at + 7] = dice.from(1, 255) as u8,
             8 if at + 5 < list.len() => list[at + 5] = dice.from(1, 255) as u8,
-            9 if at + 3 < list.len() => list[at + 3] = dice.from(1, 255) as u8,
+            9 if at + 3 < list.len() => list[at + 3] = if dice.once_in(2) { 2 } else { dice.from(1, 255) as u8 },
             10 if at + 2 < list.len() => list.swap(at + 1, at + 2),
             _ => list = list.chunks(RECORD_SIZE).filter(|record| record[0] != 2).collect::<Vec<_>>().concat(),
         }
@@ -158,14 +158,11 @@ fn states_of(automaton: &Automaton) -> Vec<u16> {
     states.into_iter().collect()
 }
 
-/// The bytes at which some edge begins, or the byte after which it ends: between two of them all bytes step alike.
+/// The bytes at which some edge begins to be taken, or no longer is: between two of them all bytes step alike.
 fn corners(automaton: &Automaton) -> Vec<u8> {
     let mut corners = BTreeSet::from([0]);
     for edge in automaton.edges.values().flatten() {
-        corners.insert(edge.low);
-        if edge.high < 255 {
-            corners.insert(edge.high + 1);
-        }
+        corners.extend((1..=255).filter(|&byte| edge.takes(byte) != edge.takes(byte - 1)));
     }
     corners.into_iter().collect()
 }

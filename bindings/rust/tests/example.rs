@@ -23,6 +23,11 @@ fn the_second_order_is_told() {
 }
 
 #[test]
+fn capitals_are_orders_too() {
+    assert_eq!(writes(&file("loud"), &file("rules.bin")), ("9 42\nend 56\n".to_string(), true));
+}
+
+#[test]
 fn a_single_order_is_not() {
     assert_eq!(writes(&file("once"), &file("rules.bin")), ("end 58\n".to_string(), true));
 }

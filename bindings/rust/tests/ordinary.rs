@@ -33,7 +33,16 @@ fn number(bytes: &[u8]) -> u64 {
 pub struct Edge {
     pub low: u8,
     pub high: u8,
+    pub either_case: bool,
     pub to: u16,
+}
+
+impl Edge {
+    /// Whether a byte takes the edge: itself, or for either case in capitals or in small letters.
+    pub fn takes(&self, byte: u8) -> bool {
+        let lies = |byte| self.low <= byte && byte <= self.high;
+        lies(byte) || (self.either_case && (lies(byte.to_ascii_uppercase()) || lies(byte.to_ascii_lowercase())))
+    }
 }
 
 #[derive(Clone, Debug, Default)]
@@ -65,11 +74,11 @@ impl Automaton {
             match record[0] {
                 1 => {
                     let (low, high) = (record[1], record[2]);
-                    if low > high || record[3] != 0 {
+                    if low > high || record[3] > 1 {
                         return Err(2);
                     }
-                    let to = below(STATES, last)?;
-                    automaton.edges.entry(below(STATES, middle)?).or_default().push(Edge { low, high, to });
+                    let edge = Edge { low, high, either_case: record[3] == 1, to: below(STATES, last)? };
+                    automaton.edges.entry(below(STATES, middle)?).or_default().push(edge);
                 }
                 2 => {
                     if record[1..6].iter().any(|&b| b != 0) {
@@ -98,7 +107,7 @@ impl Automaton {
         let mut next = Set::new();
         for state in frontier {
             for edge in self.edges.get(state).map_or(&[][..], |edges| edges) {
-                if edge.low <= byte && byte <= edge.high {
+                if edge.takes(byte) {
                     next.insert(edge.to);
                 }
             }

@@ -14,7 +14,7 @@ use Rattle.feeds.specs.Engine.{run, costs, due, pairsAt, told, consumed, ended,
 use Rattle.flows.specs.Flow.{flowBytes, badFlow}
 use Rattle.tables.specs.Table.{largest, part, row, splitSet, slots, usedSlots, takenSlots, allBelow, joined, badClasses, badCount, badRowsLength, badLengths, goodSlots, inOrder, badSplits, badRows, badUnion, noStartSplit, notClosed, tableRefusal, splitOf}
 use Rattle.splits.specs.Split.{taken, stuck, splitStep}
-use Rattle.demands.specs.Examples.{Row, Agree, feedRows, acceptedRow, boundRow, closedRow, startRow, examples}
+use Rattle.demands.specs.Examples.{Row, Agree, feedRows, acceptedRow, boundRow, closedRow, startRow, loudRow, examples}
 
 -- rows are compared by computing; what computes as the same is the same
 abbrev same : List ℕ → List ℕ → Bool
@@ -75,6 +75,10 @@ start-holds : T (same (startRow .0) (startRow .1))
 unfolding steps checks
 start-holds = tt
 
+loud-holds : T (same (loudRow .0) (loudRow .1))
+unfolding steps checks
+loud-holds = tt
+
 feeds-hold : T (agree feedRows)
 unfolding steps checks feeds
 feeds-hold = tt
@@ -86,7 +90,10 @@ examples-hold = (
     same-sound (boundRow .0) (boundRow .1) bound-holds,
     (
       same-sound (closedRow .0) (closedRow .1) closed-holds,
-      (same-sound (startRow .0) (startRow .1) start-holds, agree-sound feedRows feeds-hold),
+      (
+        same-sound (startRow .0) (startRow .1) start-holds,
+        (same-sound (loudRow .0) (loudRow .1) loud-holds, agree-sound feedRows feeds-hold),
+      ),
     ),
   ),
 )

@@ -1,11 +1,12 @@
 -- The barn examples marked P: the list L, the table T, and one table of rows, each what a definition gives beside what the example says.
-use Prim.Native.Nat.{ℕ, _*_, _+_}
+use Prim.Native.Nat.{ℕ, zero, suc, _*_, _+_}
 use mathlib.Core.Bool.{cond}
 use mathlib.Core.List.{List, [], _∷_, _++_}
 use mathlib.Core.Path.{_≡_}
 use lib.ListN.{replicate}
 use Rattle.sets.specs.Set.{states, signatures, setSize, digits, setBytes}
 use Rattle.lists.specs.List.{mostRecords, listRefusal}
+use Rattle.lists.specs.Automaton.{edge}
 use Rattle.feeds.specs.Engine.{Outcome, mostOffset}
 use Rattle.flows.specs.Flow.{flowSize, flowBytes, rowsOf}
 use Rattle.plain.specs.Plain.{opened, openRefusal, openSaved}
@@ -23,11 +24,15 @@ Agree (r ∷ rs) = (r .0 ≡ r .1) × Agree rs
 
 -- ---- list L: signature 7 after any "ab"
 
-abbrev pub edges : List ℕ
-edges =
+-- byte 3 of the edge on "a": 0 in L
+abbrev pub edgesBy : ℕ → List ℕ
+edgesBy flag =
     0x01 ∷ 0x00 ∷ 0xFF ∷ 0x00 ∷ 0x00 ∷ 0x00 ∷ 0x00 ∷ 0x00
-    ∷ 0x01 ∷ 0x61 ∷ 0x61 ∷ 0x00 ∷ 0x00 ∷ 0x00 ∷ 0x01 ∷ 0x00
+    ∷ 0x01 ∷ 0x61 ∷ 0x61 ∷ flag ∷ 0x00 ∷ 0x00 ∷ 0x01 ∷ 0x00
     ∷ 0x01 ∷ 0x62 ∷ 0x62 ∷ 0x00 ∷ 0x01 ∷ 0x00 ∷ 0x02 ∷ 0x00 ∷ []
+
+abbrev pub edges : List ℕ
+edges = edgesBy 0
 
 abbrev pub starts : List ℕ
 starts = 0x02 ∷ 0x00 ∷ 0x00 ∷ 0x00 ∷ 0x00 ∷ 0x00 ∷ 0x00 ∷ 0x00 ∷ []
@@ -37,6 +42,23 @@ accepts = 0x03 ∷ 0x00 ∷ 0x00 ∷ 0x00 ∷ 0x02 ∷ 0x00 ∷ 0x07 ∷ 0x00 �
 
 abbrev pub L : List ℕ
 L = edges ++ (starts ++ accepts)
+
+-- the same after "Ab" too
+abbrev pub loud : List ℕ
+loud = edgesBy 1 ++ (starts ++ accepts)
+
+-- one edge alone, from 0 to 1, by low, high and byte 3; the bytes below n that take it
+abbrev pub edgeOf : ℕ → ℕ → ℕ → List ℕ
+edgeOf l h flag = 0x01 ∷ l ∷ h ∷ flag ∷ 0x00 ∷ 0x00 ∷ 0x01 ∷ 0x00 ∷ []
+
+abbrev pub takers : List ℕ → ℕ → List ℕ
+takers E zero = []
+takers E (suc n) = takers E n ++ cond (edge E n 0) (n ∷ []) []
+
+-- n numbers from k on
+abbrev pub from : ℕ → ℕ → List ℕ
+from k zero = []
+from k (suc n) = k ∷ from (k + 1) n
 
 -- ---- table T
 
@@ -148,6 +170,18 @@ feedRows =
     -- state 1,023 passes, state 1,024 gives 2; a record of kind 4 gives 2
     ∷ (listRefusal (L ++ (2 ∷ 0 ∷ 0 ∷ 0 ∷ 0 ∷ 0 ∷ 0xFF ∷ 3 ∷ [])) ∷ listRefusal (L ++ (2 ∷ 0 ∷ 0 ∷ 0 ∷ 0 ∷ 0 ∷ 0 ∷ 4 ∷ [])) ∷ [], 0 ∷ 2 ∷ [])
     ∷ (listRefusal (L ++ (4 ∷ 0 ∷ 0 ∷ 0 ∷ 2 ∷ 0 ∷ 7 ∷ 0 ∷ [])) ∷ [], 2 ∷ [])
+    -- either case: "a" takes 41 and 61, 5A to 61 also 41 and 7A, 40 to 5B also 61 to 7A, and E1 no other
+    ∷ (takers (edgeOf 0x61 0x61 1) 256, 0x41 ∷ 0x61 ∷ [])
+    ∷ (takers (edgeOf 0x5A 0x61 1) 256, 0x41 ∷ (from 0x5A 8 ++ (0x7A ∷ [])))
+    ∷ (takers (edgeOf 0x40 0x5B 1) 256, from 0x40 28 ++ from 0x61 26)
+    ∷ (takers (edgeOf 0xE1 0xE1 1) 256, 0xE1 ∷ [])
+    ∷ (takers (edgeOf 0x61 0x61 0) 256, 0x61 ∷ [])
+    -- byte 3 of an edge: 1 passes, 2 and 255 give 2, and so do low over high beside it, and 1 in a start or an accept
+    ∷ (listRefusal (L ++ edgeOf 0x61 0x61 1) ∷ listRefusal (L ++ edgeOf 0x61 0x61 2) ∷ listRefusal (L ++ edgeOf 0x61 0x61 255) ∷ [], 0 ∷ 2 ∷ 2 ∷ [])
+    ∷ (listRefusal (L ++ edgeOf 0x62 0x61 1) ∷ [], 2 ∷ [])
+    ∷ (listRefusal (L ++ (2 ∷ 0 ∷ 0 ∷ 1 ∷ 0 ∷ 0 ∷ 0 ∷ 0 ∷ [])) ∷ listRefusal (L ++ (3 ∷ 0 ∷ 0 ∷ 1 ∷ 0 ∷ 0 ∷ 0 ∷ 0 ∷ [])) ∷ [], 2 ∷ 2 ∷ [])
+    -- "AbaB" on the loud list: one pair, since its "b" is for one case
+    ∷ (outcome (opened loud) (record { list = loud; via = byList; at = 0; piece = 0x41 ∷ b ∷ a ∷ 0x42 ∷ []; out = room 2 }) .words, 7 ∷ 2 ∷ 0 ∷ 0 ∷ [])
     -- L without its start record: 3
     ∷ (listRefusal (edges ++ accepts) ∷ [], 3 ∷ [])
     -- T without its split {0,2}, fed "abab": 14 at the third byte, after the pair (7, 2); with room 0 the pause comes first
@@ -174,6 +208,10 @@ closedRow = (tableRefusal L 2 (tableOf (s0 ++ s01)) ∷ [], 13 ∷ [])
 abbrev pub startRow : Row
 startRow = (tableRefusal L 2 (tableOf (s01 ++ s02)) ∷ [], 12 ∷ [])
 
+-- T on the loud list, whose step of {0} on "A" is another: 10
+abbrev pub loudRow : Row
+loudRow = (tableRefusal loud 2 T₃ ∷ [], 10 ∷ [])
+
 -- the one table
 abbrev pub examples : List Row
-examples = acceptedRow ∷ boundRow ∷ closedRow ∷ startRow ∷ feedRows
+examples = acceptedRow ∷ boundRow ∷ closedRow ∷ startRow ∷ loudRow ∷ feedRows

@@ -1,4 +1,5 @@
 pub mod Listed
+pub mod Letters
 pub mod Steps
 pub mod Quick
 pub mod Unique

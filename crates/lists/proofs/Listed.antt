@@ -3,7 +3,7 @@ use Prim.Native.Nat.{ℕ, zero, suc, _+_, _*_, _%_, _≤_, _<_}
 use mathlib.Core.Path.{_≡_, refl, ap, _∙_}
 use mathlib.Core.Bool.{Bool, true, false, _||_, not}
 use mathlib.Core.List.{List}
-use mathlib.Core.Logic.{_⊎_, _↔_}
+use mathlib.Core.Logic.{_⊎_, inl, inr, _↔_}
 use native.Mathlib.Omega.{arith}
 use native.Mathlib.Numerals.{add-one}
 use lib.ListN.{length, getD}
@@ -59,18 +59,18 @@ zeros-exactly L i n = (there, back)
     back : ((k : ℕ) → 1 ≤ k → k ≤ n → byteOf L i k ≡ 0) → zeros L i n ≡ true
     back z = every-all n (λ j. eqb (byteOf L i (j + 1)) 0) (λ j h. eq-eqb (byteOf L i (j + 1)) 0 (z (j + 1) (omega arith) (omega arith)))
 
--- an edge: low is at most high, byte 3 is zero, both states are states
+-- an edge: low is at most high, byte 3 is 0 or 1, both states are states
 pub edge-good : (L : List ℕ) (i : ℕ) → goodEdge L i ≡ true
-    ↔ ((isEdge L i ≡ true) × (byteOf L i 1 ≤ byteOf L i 2) × (byteOf L i 3 ≡ 0) × (from L i < states) × (target L i < states))
-edge-good L i = (there, λ g. rw (g .0, le-leb _ _ (g .1), eq-eqb _ _ (g .2), lt-ltb _ _ (g .3), lt-ltb _ _ (g .4)))
+    ↔ ((isEdge L i ≡ true) × (byteOf L i 1 ≤ byteOf L i 2) × (byteOf L i 3 ≤ 1) × (from L i < states) × (target L i < states))
+edge-good L i = (there, λ g. rw (g .0, le-leb _ _ (g .1), le-leb _ _ (g .2), lt-ltb _ _ (g .3), lt-ltb _ _ (g .4)))
   where
-    there : goodEdge L i ≡ true → (isEdge L i ≡ true) × (byteOf L i 1 ≤ byteOf L i 2) × (byteOf L i 3 ≡ 0) × (from L i < states) × (target L i < states)
+    there : goodEdge L i ≡ true → (isEdge L i ≡ true) × (byteOf L i 1 ≤ byteOf L i 2) × (byteOf L i 3 ≤ 1) × (from L i < states) × (target L i < states)
     there e =
         let t = both _ _ e in
         let f = both _ _ (t .0) in
         let z = both _ _ (f .0) in
         let k = both _ _ (z .0) in
-        (k .0, leb-true _ _ (k .1), eqb-true _ _ (z .1), ltb-true _ _ (f .1), ltb-true _ _ (t .1))
+        (k .0, leb-true _ _ (k .1), leb-true _ _ (z .1), ltb-true _ _ (f .1), ltb-true _ _ (t .1))
 
 -- a start: bytes 1 to 5 are zero, its state is a state
 pub start-good : (L : List ℕ) (i : ℕ) → goodStart L i ≡ true
@@ -125,11 +125,18 @@ module _ (L : List ℕ) (i : ℕ) where
   pub target-bytes : target L i ≡ getD L (8 * i + 6) 0 + 256 * getD L (8 * i + 7) 0
   target-bytes = let e : 8 * i + 6 + 1 ≡ 8 * i + 7 = omega arith in rw e
 
--- 1, edge: 1 low, 2 high, 3 zero, 4-5 from, 6-7 to
+zero-or-one : (x : ℕ) → (x ≤ 1) ↔ ((x ≡ 0) ⊎ (x ≡ 1))
+zero-or-one x = (there x, λ s. choose s (λ e. omega (arith, e)) (λ e. omega (arith, e)))
+  where
+    there : (x : ℕ) → x ≤ 1 → (x ≡ 0) ⊎ (x ≡ 1)
+    there zero h = inl refl
+    there (suc x) h = inr (omega (arith, h))
+
+-- 1, edge: 1 low, 2 high, 3 zero or 1, 4-5 from, 6-7 to
 pub record Edge-bytes (L : List ℕ) (i : ℕ) : Type 0 where
   pub kind : getD L (8 * i) 0 ≡ 1
   pub order : getD L (8 * i + 1) 0 ≤ getD L (8 * i + 2) 0
-  pub reserved : getD L (8 * i + 3) 0 ≡ 0
+  pub flag : (getD L (8 * i + 3) 0 ≡ 0) ⊎ (getD L (8 * i + 3) 0 ≡ 1)
   pub state : getD L (8 * i + 4) 0 + 256 * getD L (8 * i + 5) 0 < states
   pub next : getD L (8 * i + 6) 0 + 256 * getD L (8 * i + 7) 0 < states
 
@@ -153,11 +160,11 @@ module _ (L : List ℕ) (i : ℕ) where
       there : goodEdge L i ≡ true → Edge-bytes L i
       there e =
           let g = edge-good L i .0 e in
-          record { kind = kind-edge L i .0 (g .0); order = g .1; reserved = g .2; state = rw (← from-bytes L i) (g .3); next = rw (← target-bytes L i) (g .4) }
+          record { kind = kind-edge L i .0 (g .0); order = g .1; flag = zero-or-one _ .0 (g .2); state = rw (← from-bytes L i) (g .3); next = rw (← target-bytes L i) (g .4) }
 
       back : Edge-bytes L i → goodEdge L i ≡ true
       back g =
-          edge-good L i .1 (kind-edge L i .1 (g .kind), g .order, g .reserved, rw (from-bytes L i) (g .state), rw (target-bytes L i) (g .next))
+          edge-good L i .1 (kind-edge L i .1 (g .kind), g .order, zero-or-one _ .1 (g .flag), rw (from-bytes L i) (g .state), rw (target-bytes L i) (g .next))
 
   start-bytes : goodStart L i ≡ true ↔ Start-bytes L i
   start-bytes = (there, back)

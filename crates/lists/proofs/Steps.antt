@@ -3,36 +3,45 @@ use Prim.Native.Nat.{ℕ, suc, _^_, _≤_, _<_}
 use mathlib.Core.Path.{_≡_, refl, sym, _∙_}
 use mathlib.Core.Bool.{Bool, true, false, _&&_, _||_, true≢false}
 use mathlib.Core.List.{List}
-use mathlib.Core.Logic.{_↔_}
+use mathlib.Core.Logic.{_⊎_, _↔_}
 use native.Mathlib.Omega.{arith}
 use native.Mathlib.Nat.{lt-of-not-le}
 use native.Mathlib.Decide.{decLt}
-use lib.Dec.{leb}
-use borrow.Author.Tests.{leb-true, le-leb, not-false}
+use borrow.Author.Tests.{eqb-true, eq-eqb, not-false}
 use Rattle.sets.specs.Set.{states, signatures, holds, join, meets}
 use Rattle.sets.proofs.Sets.{holds-empty, holds-join, holds-past, set-ext}
 use Rattle.sets.proofs.Meets.{apart-exactly}
 use Rattle.rules.specs.Scan.{every, gather}
-use Rattle.lists.specs.List.{records, isEdge, isStart, isAccept, low, high, from, target, goodRecord, badRecord, listRefusal}
-use Rattle.lists.specs.Automaton.{edge, leaves, start, step, accepted, accepting}
-use Rattle.rules.proofs.Scanning.{and-false, both, every-at, gather-exactly, gather-lt, gather-none, gather-join}
+use Rattle.lists.specs.List.{records, byteOf, isEdge, isStart, isAccept, low, high, eitherCase, from, target, goodRecord, badRecord, listRefusal}
+use Rattle.lists.specs.Automaton.{exchanged, between, edge, leaves, start, step, accepted, accepting}
+use Rattle.rules.proofs.Scanning.{and-false, both, either-words, every-at, gather-exactly, gather-lt, gather-none, gather-join}
 use Rattle.rules.proofs.Rules.{passes}
+use Rattle.lists.proofs.Letters.{between-words}
 use Rattle.lists.proofs.Listed.{good-edge, good-accept, edge-good, accept-good}
 
--- byte c takes edge record i
+-- byte c takes edge record i: it lies between low and high or, where byte 3 is 1, its exchanged partner does
 pub record Takes (L : List ℕ) (c i : ℕ) : Type 0 where
   pub kind : isEdge L i ≡ true
-  pub above : low L i ≤ c
-  pub below : c ≤ high L i
+  pub range : ((low L i ≤ c) × (c ≤ high L i)) ⊎ ((byteOf L i 3 ≡ 1) × (low L i ≤ exchanged c) × (exchanged c ≤ high L i))
 
 pub edge-exactly : (L : List ℕ) (c i : ℕ) → edge L c i ≡ true ↔ Takes L c i
-edge-exactly L c i = (there, λ t. rw (t .kind, le-leb (low L i) c (t .above), le-leb c (high L i) (t .below)))
+edge-exactly L c i = (there, λ t. rw (t .kind) (range .1 (t .range)))
   where
+    partner : (eitherCase L i && between L (exchanged c) i) ≡ true ↔ ((byteOf L i 3 ≡ 1) × (low L i ≤ exchanged c) × (exchanged c ≤ high L i))
+    partner =
+        let w = between-words (low L i) (high L i) (exchanged c) in (
+          λ e. let r = both (eitherCase L i) (between L (exchanged c) i) e in let q = w .0 (r .1) in (eqb-true _ _ (r .0), q .0, q .1),
+          λ t. rw (eq-eqb _ _ (t .0)) (w .1 (t .1, t .2)),
+        )
+
+    range : (between L c i || eitherCase L i && between L (exchanged c) i) ≡ true
+        ↔ (((low L i ≤ c) × (c ≤ high L i)) ⊎ ((byteOf L i 3 ≡ 1) × (low L i ≤ exchanged c) × (exchanged c ≤ high L i)))
+    range = either-words _ _ (between L c i) (eitherCase L i && between L (exchanged c) i) (between-words (low L i) (high L i) c) partner
+
     there : edge L c i ≡ true → Takes L c i
     there e =
-        let r = both (isEdge L i && leb (low L i) c) (leb c (high L i)) e in
-        let q = both (isEdge L i) (leb (low L i) c) (r .0) in
-        record { kind = q .0; above = leb-true (low L i) c (q .1); below = leb-true c (high L i) (r .1) }
+        let r = both (isEdge L i) (between L c i || eitherCase L i && between L (exchanged c) i) e in
+        record { kind = r .0; range = range .0 (r .1) }
 
 -- s is a start state exactly when some start record names it
 pub start-exactly : (L : List ℕ) (s : ℕ) → holds (start L) s ≡ true ↔ ((s < states) × ((i : ℕ) × (i < records L) × (isStart L i ≡ true) × (target L i ≡ s)))

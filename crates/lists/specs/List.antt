@@ -41,12 +41,15 @@ isStart L i = eqb (byteOf L i 0) 2
 abbrev pub isAccept : List ℕ → ℕ → Bool
 isAccept L i = eqb (byteOf L i 0) 3
 
--- an edge: 1 low, 2 high, 3 zero, 4-5 from, 6-7 to
+-- an edge: 1 low, 2 high, 3 zero or 1 for either case, 4-5 from, 6-7 to
 abbrev pub low : List ℕ → ℕ → ℕ
 low L i = byteOf L i 1
 
 abbrev pub high : List ℕ → ℕ → ℕ
 high L i = byteOf L i 2
+
+abbrev pub eitherCase : List ℕ → ℕ → Bool
+eitherCase L i = eqb (byteOf L i 3) 1
 
 -- the state that an edge leaves, or that an accept record names
 abbrev pub from : List ℕ → ℕ → ℕ
@@ -63,7 +66,7 @@ abbrev pub zeros : List ℕ → ℕ → ℕ → Bool
 zeros L i n = every n (λ k. eqb (byteOf L i (k + 1)) 0)
 
 abbrev pub goodEdge : List ℕ → ℕ → Bool
-goodEdge L i = isEdge L i && leb (low L i) (high L i) && eqb (byteOf L i 3) 0 && ltb (from L i) states && ltb (target L i) states
+goodEdge L i = isEdge L i && leb (low L i) (high L i) && leb (byteOf L i 3) 1 && ltb (from L i) states && ltb (target L i) states
 
 abbrev pub goodStart : List ℕ → ℕ → Bool
 goodStart L i = isStart L i && zeros L i 5 && ltb (target L i) states
@@ -80,7 +83,7 @@ goodRecord L i = goodEdge L i || goodStart L i || goodAccept L i
 unfoldable pub badLength : List ℕ → Bool
 badLength L = eqb (length L) 0 || ltb (recordSize * mostRecords) (length L) || not (eqb (length L % recordSize) 0)
 
--- 2: a record has another kind, a non-zero reserved byte, low > high, or a state or signature over the largest
+-- 2: a record has another kind, a non-zero reserved byte, a byte 3 of an edge over 1, low > high, or a state or signature over the largest
 unfoldable pub badRecord : List ℕ → Bool
 badRecord L = not (every (records L) (goodRecord L))
 

@@ -2,14 +2,15 @@
 use sets::SigSet;
 use sets::StateSet;
 ghost use mathlib.Core.Path.{_≡_};
-ghost use mathlib.Core.Bool.{true, cond};
-ghost use Prim.Native.Nat.{ℕ, _+_, _*_, _%_, _<_};
+ghost use mathlib.Core.Bool.{true, _&&_, _||_, cond};
+ghost use Prim.Native.Nat.{ℕ, _+_, _-_, _*_, _%_, _<_};
 ghost use lib.ListN.{length, getD};
+ghost use lib.Dec.{leb};
 ghost use Rattle.sets.specs.Set.{num, setOf, sigsOf, holds, insert};
 ghost use Rattle.rules.specs.Scan.{some};
-ghost use Rattle.lists.specs.List.{recordSize, records, word, byteOf, wordOf, isEdge, isStart, isAccept, from};
+ghost use Rattle.lists.specs.List.{recordSize, records, word, byteOf, wordOf, isEdge, isStart, isAccept, low, high, eitherCase, from};
 ghost use Rattle.lists.specs.List.{target, zeros, goodEdge, goodStart, goodAccept, goodRecord, badLength, badRecord, noStart, listRefusal};
-ghost use Rattle.lists.specs.Automaton.{edge, leaves, start, step, accepted, accepting};
+ghost use Rattle.lists.specs.Automaton.{exchanged, between, edge, leaves, start, step, accepted, accepting};
 
 // Bytes in a record.
 pub const RECORD_SIZE: usize = 8;
@@ -23,6 +24,9 @@ const EDGE: u8 = 1;
 const START: u8 = 2;
 
 const ACCEPT: u8 = 3;
+
+// Byte 3 of an edge that is taken by letters in either case.
+const EITHER_CASE: u8 = 1;
 
 // The places of a record's two numbers: the state that it leaves or names, and the state or signature that it leads to.
 const FROM: usize = 4;
@@ -118,7 +122,7 @@ fn good_edge(list: &[u8], i: usize) -> bool
 {
     is_edge(list, i)
         & (byte_of(list, i, 1) <= byte_of(list, i, 2))
-        & (byte_of(list, i, 3) == 0)
+        & (byte_of(list, i, 3) <= 1)
         & (from(list, i) < sets::STATES)
         & (target(list, i) < sets::STATES)
 }
@@ -228,15 +232,70 @@ pub fn start_set(list: &[u8]) -> StateSet
     StateSet::of_words(w)
 }
 
-// Says whether record i is an edge that byte c takes. The range is tested at once, by how far c and high are above low, where 0 follows 255:
-// few records pass, while each of its ends alone lets half of them pass, and no processor foresees which.
-fn edge(list: &[u8], c: u8, i: usize) -> bool
+// The byte with ASCII letter case exchanged.
+fn exchanged(c: u8) -> u8
+    ensures { λ r. ⌜ r ≡ exchanged c ⌝ }
+{
+    if (65 <= c) & (c <= 90) {
+        return c + 32;
+    }
+    if (97 <= c) & (c <= 122) {
+        return c - 32;
+    }
+    c
+}
+
+// How far byte c is above low of record i, where 0 follows 255.
+fn above(list: &[u8], c: u8, i: usize) -> usize
     requires { ⌜ i < records (now list) ⌝ }
+    ensures { λ r. ⌜ r ≡ (c + 256 - low (now (list .entry)) i) % 256 ⌝ }
+{
+    (c as usize + 256 - byte_of(list, i, 1) as usize) % 256
+}
+
+// Says whether byte c is no further above low of record i than high is. So a range is tested at once: few records pass, while each of its
+// ends alone lets half of them pass, and no processor foresees which.
+fn near(list: &[u8], c: u8, i: usize) -> bool
+    requires { ⌜ i < records (now list) ⌝ }
+    ensures { λ r. ⌜ r ≡ leb ((c + 256 - low (now (list .entry)) i) % 256) ((high (now (list .entry)) i + 256 - low (now (list .entry)) i) % 256) ⌝ }
+{
+    above(list, c, i) <= above(list, byte_of(list, i, 2), i)
+}
+
+// Says whether low of record i is at most high, by how far high is above low, which `near` has at hand.
+fn ordered(list: &[u8], i: usize) -> bool
+    requires { ⌜ i < records (now list) ⌝ }
+    ensures { λ r. ⌜ r ≡ leb (low (now (list .entry)) i) (high (now (list .entry)) i) ⌝ }
+{
+    byte_of(list, i, 1) as usize + above(list, byte_of(list, i, 2), i) < 256
+}
+
+// Says whether byte c is near or, where record i is for either case, d; where low is at most high, that is the range. Byte 3 is read only where c
+// is not near. That low is at most d is then so anyway; testing it keeps the compiler from testing d before byte 3.
+fn ranges(list: &[u8], c: u8, d: u8, i: usize) -> bool
+    requires { ⌜ i < records (now list) ⌝ }
+    ensures { λ r. ⌜ (r && leb (low (now (list .entry)) i) (high (now (list .entry)) i)) ≡
+        (between (now (list .entry)) c i || eitherCase (now (list .entry)) i && between (now (list .entry)) d i) ⌝ }
+{
+    if near(list, c, i) {
+        return true;
+    }
+    if byte_of(list, i, 3) != EITHER_CASE {
+        return false;
+    }
+    (byte_of(list, i, 1) <= d) & near(list, d, i)
+}
+
+// Says whether record i is an edge that byte c takes; d is c with its case exchanged.
+fn edge(list: &[u8], c: u8, d: u8, i: usize) -> bool
+    requires { ⌜ (i < records (now list)) × (d ≡ exchanged c) ⌝ }
     ensures { λ r. ⌜ r ≡ edge (now (list .entry)) c i ⌝ }
 {
-    let low = byte_of(list, i, 1) as usize;
-    let high = byte_of(list, i, 2) as usize;
-    ((c as usize + 256 - low) % 256 <= (high + 256 - low) % 256) & is_edge(list, i) & (low <= high)
+    if ranges(list, c, d, i) {
+        is_edge(list, i) & ordered(list, i)
+    } else {
+        false
+    }
 }
 
 // The words laid over one another: bit j is 1 where some word has it.
@@ -250,17 +309,17 @@ fn places(w: &[u64]) -> u64
     all
 }
 
-// Says whether record i is an edge that byte c takes from a state of the frontier that the words hold. `places` has the places of its states
-// in their words. It is tested first: that costs least, and at a small frontier few records pass.
-fn leads(list: &[u8], frontier: &[u64], places: u64, c: u8, i: usize) -> bool
-    requires { ⌜ (i < records (now list)) × ((s : ℕ) → holds (num 64 (now frontier)) s ≡ true → holds places (s % 64) ≡ true) ⌝ }
+// Says whether record i is an edge that byte c takes from a state of the frontier that the words hold; d is c with its case exchanged. `places`
+// has the places of its states in their words. It is tested first: that costs least, and at a small frontier few records pass.
+fn leads(list: &[u8], frontier: &[u64], places: u64, c: u8, d: u8, i: usize) -> bool
+    requires { ⌜ (i < records (now list)) × (d ≡ exchanged c) × ((s : ℕ) → holds (num 64 (now frontier)) s ≡ true → holds places (s % 64) ≡ true) ⌝ }
     ensures { λ r. ⌜ r ≡ leaves (now (list .entry)) (num 64 (now (frontier .entry))) (edge (now (list .entry)) c) i ⌝ }
 {
     let s = from(list, i);
     if (places >> (s % 64)) % 2 == 0 {
         return false;
     }
-    if edge(list, c, i) {
+    if edge(list, c, d, i) {
         sets::bit_of(frontier, s)
     } else {
         false
@@ -274,10 +333,17 @@ pub fn step(list: &[u8], f: StateSet, c: u8) -> StateSet
     let n = records(list);
     let frontier = f.words;
     let all = places(&frontier);
+    let d = exchanged(c);
     let none = StateSet::EMPTY;
     let mut w = none.words;
     for i in 0..n {
-        put_word(list, i, TARGET, leads(list, &frontier, all, c, i), &mut w);
+        put_word(
+            list,
+            i,
+            TARGET,
+            leads(list, &frontier, all, c, d, i),
+            &mut w,
+        );
     }
     StateSet::of_words(w)
 }

@@ -1,55 +1,29 @@
--- `edge` is the definition, with the range tested at once. Assumes nothing.
+-- `edge` is the definition: the kind, the range in either case, and low at most high, which the range alone does not say. Assumes nothing.
 use borrow.Author.Needs.{needs}
-use Rattle.lists.specs.List.{isEdge, low, high}
-use Rattle.lists.proofs.Quick.{between}
+use mathlib.Core.Path.{refl, sym, _∙_}
+use Rattle.rules.proofs.Scanning.{and-false}
+use Rattle.lists.specs.List.{isEdge}
 use Rattle.lists.proofs.edge.Statement.{statement}
 use Rattle.lists.proofs.edge.Tie as tie
 
-byte-of-requires : tie.Need-byte-of-requires
-byte-of-requires c κs = search needs
-
-cast-low : tie.Need-cast-low
-cast-low c = search needs
-
-byte-of-requires-2 : tie.Need-byte-of-requires-2
-byte-of-requires-2 c κs = search needs
-
-cast-high : tie.Need-cast-high
-cast-high c = search needs
-
-add-result : tie.Need-add-result
-add-result c = search needs
-
-sub-result : tie.Need-sub-result
-sub-result c = search needs
-
-add-result-2 : tie.Need-add-result-2
-add-result-2 c = search needs
-
-sub-result-2 : tie.Need-sub-result-2
-sub-result-2 c = search needs
+ranges-requires : tie.Need-ranges-requires
+ranges-requires c κs = search needs
 
 is-edge-requires : tie.Need-is-edge-requires
 is-edge-requires c κs = search needs
 
+ordered-requires : tie.Need-ordered-requires
+ordered-requires c κs = search needs
+
 returns : tie.Need-returns
 returns c =
-    let a = c .before .before .before .before .args in
-    let k = c .before .before .before .shared-slice-known .given in
-    rw (c .is-edge .ensures, c .before .byte-of2 .ensures, c .before .before .byte-of .ensures)
-    (between (isEdge (a .list .now) (a .i)) (low (a .list .now) (a .i)) (a .c) (high (a .list .now) (a .i)) (k _ .fits) (search needs) (k _ .fits))
+    let r = c .before .before .before in
+    rw (c .ordered .ensures, c .before .is-edge .ensures, ← r .before .before .pre .1, ← (rw (c .before .before .if1 .taken) at (r .ranges .ensures))) refl
+
+returns-2 : tie.Need-returns-2
+returns-2 c =
+    let s = c .before .before .before in
+    rw (← s .pre .1, ← (rw (c .if1 .left) at (c .before .ranges .ensures))) (sym (and-false (isEdge (s .args .list .now) (s .args .i))))
 
 pub edge-spec : {M : Type 1} → statement M
-edge-spec =
-    tie.close
-    (tie.spec
-    byte-of-requires
-    cast-low
-    byte-of-requires-2
-    cast-high
-    add-result
-    sub-result
-    add-result-2
-    sub-result-2
-    is-edge-requires
-    returns)
+edge-spec = tie.close (tie.spec ranges-requires is-edge-requires ordered-requires returns returns-2)

@@ -19,7 +19,7 @@ returns : tie.Need-returns
 returns c =
     let s = c .before .before .before .before in
     let f = from (s .args .list .now) (s .args .i) in
-    rw (no-place (num 64 (s .args .frontier .now)) (s .args .places) f (s .pre .1 f) (rw (c .before .from .ensures) at (c .if1 .taken)))
+    rw (no-place (num 64 (s .args .frontier .now)) (s .args .places) f (s .pre .2 f) (rw (c .before .from .ensures) at (c .if1 .taken)))
     (sym (and-false (edge (s .args .list .now) (s .args .c) (s .args .i))))
 
 edge-requires : tie.Need-edge-requires

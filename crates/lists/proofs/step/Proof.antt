@@ -16,11 +16,11 @@ use Rattle.lists.proofs.step.Statement.{statement}
 use Rattle.lists.proofs.step.Tie as tie
 
 abbrev Inv-loop : tie.InvT-loop
-Inv-loop list c n frontier all w₀ i₀ w i =
+Inv-loop list c n frontier all d w₀ i₀ w i =
     (i ≤ n) × (length w ≡ setWords) × (num 64 w ≡ gather states (leaves list (num 64 frontier) (edge list c)) (target list) i)
 
 abbrev μ-loop : tie.MeasureT-loop
-μ-loop list c n frontier all w₀ i₀ w i = n - i
+μ-loop list c n frontier all d w₀ i₀ w i = n - i
 
 records-requires : tie.Need-records-requires Inv-loop μ-loop
 records-requires c κs = search needs
@@ -31,6 +31,9 @@ slice-aggregate-places c = search needs
 places-requires : tie.Need-places-requires Inv-loop μ-loop
 places-requires c κs = search needs
 
+exchanged-requires : tie.Need-exchanged-requires Inv-loop μ-loop
+exchanged-requires c κs = search needs
+
 loop-holds : tie.Need-loop-holds Inv-loop μ-loop
 unfolding gather
 loop-holds c = (search needs, search needs, empty-words setWords)
@@ -40,9 +43,10 @@ slice-aggregate-leads c = search needs
 
 leads-requires : tie.Need-leads-requires Inv-loop μ-loop
 leads-requires c κs =
-    let p = c .before .before .before .before in
+    let x = c .before .before .before .before in
+    let p = x .before in
     let s = p .before .before .before .before .before in
-    (search needs, has-place setWords (s .args .f .words) _ (valid-of (s .args .f) _ (s .good .1 .0)) (p .places .ensures))
+    (search needs, x .exchanged .ensures, has-place setWords (s .args .f .words) _ (valid-of (s .args .f) _ (s .good .1 .0)) (p .places .ensures))
 
 slice-aggregate-put-word : tie.Need-slice-aggregate-put-word Inv-loop μ-loop
 slice-aggregate-put-word c = search needs
@@ -67,7 +71,7 @@ of-words-requires c κs = search needs
 
 returns : tie.Need-returns Inv-loop μ-loop
 unfolding step
-returns c = let e : c .before .before .loop .i ≡ records (c .before .before .before .before .before .before .before .before .before .args .list .now) = omega arith in cc
+returns c = let e : c .before .before .loop .i ≡ records (c .before .before .before .before .before .before .before .before .before .before .args .list .now) = omega arith in cc
 
 pub step-spec : {M : Type 1} → statement M
 step-spec =
@@ -78,6 +82,7 @@ step-spec =
     records-requires
     slice-aggregate-places
     places-requires
+    exchanged-requires
     loop-holds
     slice-aggregate-leads
     leads-requires
