@@ -39,7 +39,8 @@
  * good one; it is run as it stands.
  *
  * Pairs are 32-bit words in the machine's own order: signature, offset, signature, offset and so on, by offset, then by signature. Each
- * is told once. The pair (g, k) is due when the frontier after k bytes of the flow, k from 1 on, holds a state that accepts g.
+ * is told once. The pair (g, k) is due when the frontier after k bytes of the flow, k from 0 on, holds a state that accepts g. Those of
+ * offset 0 are told by opening, the others by the feeds.
  *
  * A split table is four lists and a bound of 1 to WATCH_MOST_BOUND:
  *
@@ -71,11 +72,12 @@
  *     12   the start set is no split
  *     13   for some split and some byte, the automaton's step of the split's set is no split
  *     14   at a byte of a split feed: the frontier is no split, or the slots taken name no part or are more than the bound
+ *     15   at opening: the pairs of offset 0 are more than pairs_len div 2
  *
  * Each has a name, WATCH_REFUSED_ and some words, and a sentence that watch_refusal_text gives.
  *
- * The list check gives 1 to 3; opening 1 to 4; the plain feed 1 to 6; the table check 1 to 3 and 7 to 13; the split feed 1 to 8,
- * and 14 per byte. A refusal 1 to 13 changes no buffer.
+ * The list check gives 1 to 3; opening 1 to 4 and 15; the plain feed 1 to 6; the table check 1 to 3 and 7 to 13; the split feed 1 to 8,
+ * and 14 per byte. A refusal other than 14 changes no buffer.
  *
  *
  * WHAT THE CALLER OWES
@@ -127,7 +129,7 @@ extern "C" {
 #endif
 
 /* The version of the face that this header describes. */
-#define WATCH_VERSION 3
+#define WATCH_VERSION 4
 
 /* Bytes of stack that a call takes at most. */
 #define WATCH_MOST_STACK 1152
@@ -155,7 +157,7 @@ extern "C" {
 /* The largest offset. */
 #define WATCH_MOST_OFFSET 4294967295
 
-/* Words of pairs with which a feed never stands still: room for a pair of each signature. */
+/* Words of pairs with which a feed never stands still and an opening never gives 15: room for a pair of each signature. */
 #define WATCH_ENOUGH_WORDS (2 * WATCH_SIGNATURES)
 
 /* Bytes that a piece may have; each has a class. */
@@ -192,8 +194,17 @@ enum watch_refusal {
     WATCH_REFUSED_WRONG_UNION = 11,
     WATCH_REFUSED_NO_START_SPLIT = 12,
     WATCH_REFUSED_NOT_CLOSED = 13,
-    WATCH_REFUSED_NO_SPLIT = 14
+    WATCH_REFUSED_NO_SPLIT = 14,
+    WATCH_REFUSED_NO_ROOM = 15
 };
+
+/* What an opening answers. */
+struct watch_opened {
+    uint64_t pairs;   /* pairs written: twice as many words */
+    uint32_t refusal; /* WATCH_PASSED, 0, or the number of the refusal */
+};
+
+typedef struct watch_opened watch_opened;
 
 /* What a feed answers. */
 struct watch_fed {
@@ -207,10 +218,12 @@ typedef struct watch_fed watch_fed;
 
 #if defined(__cplusplus) && __cplusplus >= 201103L
 static_assert(sizeof(size_t) == 8 && sizeof(watch_fed) == 24, "watch.h: the layout is that of x86-64");
+static_assert(sizeof(watch_opened) == 16 && offsetof(watch_opened, refusal) == 8, "watch.h: the layout is that of x86-64");
 static_assert(offsetof(watch_fed, pairs) == 8 && offsetof(watch_fed, refusal) == 16 && offsetof(watch_fed, all) == 20,
               "watch.h: the layout is that of x86-64");
 #elif defined(__STDC_VERSION__) && __STDC_VERSION__ >= 201112L
 _Static_assert(sizeof(size_t) == 8 && sizeof(watch_fed) == 24, "watch.h: the layout is that of x86-64");
+_Static_assert(sizeof(watch_opened) == 16 && offsetof(watch_opened, refusal) == 8, "watch.h: the layout is that of x86-64");
 _Static_assert(offsetof(watch_fed, pairs) == 8 && offsetof(watch_fed, refusal) == 16 && offsetof(watch_fed, all) == 20,
                "watch.h: the layout is that of x86-64");
 #endif
@@ -221,9 +234,13 @@ uint32_t watch_version(void);
 /* The list check: 0, or a refusal 1 to 3. */
 uint32_t watch_check_list(const uint8_t *list, size_t list_len);
 
-/* Opens a flow: 0, and the record holds the start states, offset 0 and no rows read; or a refusal 1 to 4. What was in the
- * record before does not matter. */
-uint32_t watch_open(const uint8_t *list, size_t list_len, uint8_t *flow, size_t flow_len);
+/* Opens a flow. The record then holds the start states, offset 0 and no rows read; what was in it before does not matter. The pairs of
+ * offset 0, one for each signature that a start state accepts, are written, by signature; the words after them stay as they are, and an
+ * odd last word always. Refusals 1 to 4 and 15 answer 0 pairs and change nothing. With WATCH_ENOUGH_WORDS words 15 is never given; where no
+ * start state accepts, none are needed. To open a record again is to begin a new flow, and its pairs are told again. */
+watch_opened watch_open(const uint8_t *list, size_t list_len,
+                        uint8_t *flow, size_t flow_len,
+                        uint32_t *pairs, size_t pairs_len);
 
 /* The plain feed. The piece begins at offset `start` of the flow, which has to be the record's own offset. Consumes the longest
  * front of the piece whose pairs all fit into pairs_len div 2 pairs, writes those pairs and the record as after the last byte consumed.
@@ -305,6 +322,8 @@ static inline const char *watch_refusal_text(uint32_t n)
         return "for some split and some byte, the automaton's step of the split's set is no split";
     case WATCH_REFUSED_NO_SPLIT:
         return "at a byte of a split feed, the frontier is no split, or the slots taken name no part or are more than the bound";
+    case WATCH_REFUSED_NO_ROOM:
+        return "at opening, the pairs of offset 0 are more than there is room for";
     default:
         return "no refusal has this number";
     }

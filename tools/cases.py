@@ -69,10 +69,11 @@ def output(rules, data):
     if not any(r[0] == 2 for r in records):
         return "refused 3\n"
     number = lambda r, i: int.from_bytes(r[i : i + 2], "little")
-    frontier = {number(r, 6) for r in records if r[0] == 2}
+    frontiers = [{number(r, 6) for r in records if r[0] == 2}]
+    for c in data:
+        frontiers.append({number(r, 6) for r in records if r[0] == 1 and number(r, 4) in frontiers[-1] and takes(r, c)})
     lines = []
-    for k, c in enumerate(data, 1):
-        frontier = {number(r, 6) for r in records if r[0] == 1 and number(r, 4) in frontier and takes(r, c)}
+    for k, frontier in enumerate(frontiers):
         for g in sorted({number(r, 6) for r in records if r[0] == 3 and number(r, 4) in frontier}):
             lines.append(f"{g} {k}\n")
     return "".join(lines) + f"end {len(data)}\n"
@@ -121,6 +122,7 @@ cases = {
     "case_refused": ([r for r in seven if r[0] != 2], b"abab"),
     "case_missing": (None, b"abab"),
     "case_pauses": ([start(0), edge(0, 255, 0, 0)] + [accept(0, g) for g in reversed(range(SIGNATURES))], bytes(range(246, 256)) + b"0123456789"),
+    "case_at_once": (seven + [accept(0, 5), accept(0, 3), accept(0, 5)], b""),
     "case_binary": (ranges, mixed(10000)),
     "case_limits": (many(MOST_RECORDS), b"\x00a\xff"),
     "case_long": (many(MOST_RECORDS + 1), b"\x00a\xff"),

@@ -34,7 +34,7 @@ const RUN: f64 = 25e6;
 /// One side's five functions.
 struct Side {
     check_list: fn(&[u8]) -> u32,
-    open: fn(&[u8], &mut [u8]) -> u32,
+    open: fn(&[u8], &mut [u8], &mut [u32]) -> Fed,
     feed: fn(&[u8], &mut [u8], u64, &[u8], &mut [u32]) -> Fed,
     check_table: fn(&[u8], u64, &ordinary::Table) -> u32,
     split_feed: fn(&[u8], u64, &ordinary::Table, &mut [u8], u64, &[u8], &mut [u32]) -> Fed,
@@ -136,7 +136,7 @@ impl Work {
         };
         match &self.call {
             Call::CheckList => checked((side.check_list)(&self.list)),
-            Call::Open => checked((side.open)(&self.list, &mut buffers.flow)),
+            Call::Open => (side.open)(&self.list, &mut buffers.flow, &mut buffers.pairs),
             Call::Feed { flow, piece } => {
                 buffers.flow = *flow;
                 (side.feed)(&self.list, &mut buffers.flow, 0, piece, &mut buffers.pairs)

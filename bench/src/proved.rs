@@ -9,9 +9,22 @@ struct WatchFed {
     all: bool,
 }
 
+#[repr(C)]
+struct WatchOpened {
+    pairs: u64,
+    refusal: u32,
+}
+
 extern "C" {
     fn watch_check_list(list: *const u8, list_len: usize) -> u32;
-    fn watch_open(list: *const u8, list_len: usize, flow: *mut u8, flow_len: usize) -> u32;
+    fn watch_open(
+        list: *const u8,
+        list_len: usize,
+        flow: *mut u8,
+        flow_len: usize,
+        pairs: *mut u32,
+        pairs_len: usize,
+    ) -> WatchOpened;
     fn watch_feed(
         list: *const u8,
         list_len: usize,
@@ -73,8 +86,23 @@ pub fn check_list(list: &[u8]) -> u32 {
     unsafe { watch_check_list(list.as_ptr(), list.len()) }
 }
 
-pub fn open(list: &[u8], flow: &mut [u8]) -> u32 {
-    unsafe { watch_open(list.as_ptr(), list.len(), flow.as_mut_ptr(), flow.len()) }
+pub fn open(list: &[u8], flow: &mut [u8], pairs: &mut [u32]) -> Fed {
+    let opened = unsafe {
+        watch_open(
+            list.as_ptr(),
+            list.len(),
+            flow.as_mut_ptr(),
+            flow.len(),
+            pairs.as_mut_ptr(),
+            pairs.len(),
+        )
+    };
+    Fed {
+        refusal: opened.refusal,
+        bytes: 0,
+        pairs: opened.pairs as usize,
+        all: false,
+    }
 }
 
 pub fn feed(list: &[u8], flow: &mut [u8], start: u64, piece: &[u8], pairs: &mut [u32]) -> Fed {

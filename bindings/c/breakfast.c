@@ -12,7 +12,8 @@
  *   - the flow arrives in pieces of 7 bytes;
  *   - between pieces the flow record is saved to a file and loaded again, as if the box had been switched off;
  *   - the buffer for pairs begins with a single word, which is no room at all, so the feed pauses at each byte that tells a
- *     pair. The rest of the piece is then fed from its middle, and where not a byte was consumed, with a larger room.
+ *     pair. The rest of the piece is then fed from its middle, and where not a byte was consumed, with a larger room. So is a flow opened
+ *     again whose list tells pairs at once.
  *
  * How many pieces, pauses and saved records there were goes to standard error, and so does the sentence of a refusal. The exit status is 0
  * where the flow ended, 1 where it was refused, 2 where a file could not be read or the archive is not the header's.
@@ -64,6 +65,33 @@ static void save_and_load(FILE *disk, uint8_t flow[WATCH_FLOW_SIZE])
     saves++;
 }
 
+/* A larger room. */
+static size_t more(size_t words)
+{
+    return 2 * words + 1 < WATCH_ENOUGH_WORDS ? 2 * words + 1 : WATCH_ENOUGH_WORDS;
+}
+
+static void print(const uint32_t *pairs, uint64_t count)
+{
+    for (uint64_t i = 0; i < count; i++)
+        printf("%" PRIu32 " %" PRIu32 "\n", pairs[2 * i], pairs[2 * i + 1]);
+}
+
+/* Opens a flow and prints the pairs of offset 0. Answers the refusal, or WATCH_PASSED. */
+static uint32_t open_flow(const uint8_t *list, size_t list_len, uint8_t *flow)
+{
+    uint32_t pairs[WATCH_ENOUGH_WORDS];
+    size_t words = 1;
+    for (;;) {
+        watch_opened opened = watch_open(list, list_len, flow, WATCH_FLOW_SIZE, pairs, words);
+        print(pairs, opened.pairs);
+        if (opened.refusal != WATCH_REFUSED_NO_ROOM)
+            return opened.refusal;
+        /* With WATCH_ENOUGH_WORDS there is always room, so this ends. */
+        words = more(words);
+    }
+}
+
 /* Feeds a whole piece that begins at `start`, whatever pauses it takes, and prints its pairs. Answers the refusal, or WATCH_PASSED. */
 static uint32_t feed_piece(const uint8_t *list, size_t list_len, uint8_t *flow, uint64_t start,
                            const uint8_t *piece, size_t piece_len)
@@ -72,18 +100,14 @@ static uint32_t feed_piece(const uint8_t *list, size_t list_len, uint8_t *flow, 
     size_t words = 1;
     for (;;) {
         watch_fed fed = watch_feed(list, list_len, flow, WATCH_FLOW_SIZE, start, piece, piece_len, pairs, words);
-        for (uint64_t i = 0; i < fed.pairs; i++)
-            printf("%" PRIu32 " %" PRIu32 "\n", pairs[2 * i], pairs[2 * i + 1]);
+        print(pairs, fed.pairs);
         if (fed.refusal != WATCH_PASSED)
             return fed.refusal;
         if (fed.all)
             return WATCH_PASSED;
         pauses++;
         /* A feed that stood still gets more room. With WATCH_ENOUGH_WORDS none does, so this ends. */
-        if (fed.bytes == 0)
-            words = 2 * words + 1 < WATCH_ENOUGH_WORDS ? 2 * words + 1 : WATCH_ENOUGH_WORDS;
-        else
-            words = 1;
+        words = fed.bytes == 0 ? more(words) : 1;
         start += fed.bytes;
         piece += fed.bytes;
         piece_len -= fed.bytes;
@@ -109,7 +133,7 @@ int main(int argc, char **argv)
     fclose(file);
 
     uint8_t flow[WATCH_FLOW_SIZE];
-    uint32_t refusal = watch_open(list, list_len, flow, sizeof flow);
+    uint32_t refusal = open_flow(list, list_len, flow);
     if (refusal != WATCH_PASSED)
         return refused(refusal);
 

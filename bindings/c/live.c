@@ -8,9 +8,9 @@
  *
  * Usage: live RULES LINE RECORD LINES. LINE is a file, a pipe or a device that is read with read(2), so each piece is what has come, and a pair
  * is told as soon as its last byte is there. Lines go to the file LINES: signature and offset of each pair, and last `end` and the offset, or
- * `refused` and the number. After each feed the lines are written, and then the flow record is saved in the file RECORD.
+ * `refused` and the number. After the opening and after each feed the lines are written, and then the flow record is saved in the file RECORD.
  *
- * So the record never runs ahead of the lines, and the lines run ahead of it by one feed at most. At a start with a saved record the lines past
+ * So the record never runs ahead of the lines, and the lines run ahead of it by one opening or feed at most. At a start with a saved record the lines past
  * its offset are cut off, and the input is read again from that offset: LINE is moved there, and where it can't be moved the sender
  * has to begin there; the offset is said on standard error. LINES is then what one run would have written. Who acts on a line as it is
  * written keeps the offset of the last one and passes over those up to it. Without a saved record the flow begins at 0, and LINES is emptied. A
@@ -146,7 +146,7 @@ static uint64_t offset_of(const uint8_t flow[WATCH_FLOW_SIZE])
     return offset;
 }
 
-/* Opens the file of lines and cuts off what is past the offset: from the first line on that is no whole pair or has a greater one. */
+/* Opens the file of lines and cuts off what is not below an offset: from the first line on that is no whole pair or has another one. */
 static int cut_lines(const char *name, uint64_t offset)
 {
     int file = opened(name, O_RDWR | O_CREAT);
@@ -157,7 +157,7 @@ static int cut_lines(const char *name, uint64_t offset)
     char line[64], end;
     uint32_t signature, told;
     while (fgets(line, sizeof line, lines) != NULL
-           && sscanf(line, "%" SCNu32 " %" SCNu32 "%c", &signature, &told, &end) == 3 && end == '\n' && told <= offset)
+           && sscanf(line, "%" SCNu32 " %" SCNu32 "%c", &signature, &told, &end) == 3 && end == '\n' && told < offset)
         kept += (off_t)strlen(line);
     fclose(lines);
     step();
@@ -209,12 +209,19 @@ int main(int argc, char **argv)
     uint32_t pairs[WATCH_ENOUGH_WORDS];
     bool saved = load(record, flow);
     uint64_t start = saved ? offset_of(flow) : 0;
-    /* A feed of no bytes changes nothing and refuses what any feed would. */
-    uint32_t refusal = saved ? watch_feed(list, list_len, flow, sizeof flow, start, piece, 0, pairs, 0).refusal
-                             : watch_open(list, list_len, flow, sizeof flow);
-    int lines = cut_lines(told, start);
-    if (refusal != WATCH_PASSED)
-        return refused(lines, told, refusal);
+    /* The lines that belong to the record are those up to its offset; without a record none does. */
+    int lines = cut_lines(told, saved ? start + 1 : 0);
+    watch_opened opening = {0, WATCH_PASSED};
+    if (saved) /* a feed of no bytes changes nothing and refuses what any feed would */
+        opening.refusal = watch_feed(list, list_len, flow, sizeof flow, start, piece, 0, pairs, 0).refusal;
+    else
+        opening = watch_open(list, list_len, flow, sizeof flow, pairs, WATCH_ENOUGH_WORDS);
+    if (opening.refusal != WATCH_PASSED)
+        return refused(lines, told, opening.refusal);
+    if (!saved) {
+        tell(lines, told, pairs, opening.pairs);
+        save(record, flow);
+    }
 
     int line = opened(argv[2], O_RDONLY);
     if (start != 0 && lseek(line, (off_t)start, SEEK_SET) < 0)

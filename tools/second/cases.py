@@ -446,7 +446,7 @@ def long_pieces(tape, dice):
 
 def agree(dice, sample, table, bound):
     """An accepted table tells what the plain feed tells, within its rows."""
-    record = model.open_flow(sample.data, bytes(FLOW_SIZE))[1]
+    record = model.open_flow(sample.data, bytes(FLOW_SIZE), [0] * ENOUGH_WORDS).record
     piece = a_piece(dice, sample, 40)
     plain = model.plain_feed(sample.data, record, 0, [0] * 900, piece)
     split = model.split_feed(sample.data, table, bound, record, 0, [0] * 900, piece)
@@ -1168,11 +1168,54 @@ def capitals(tape, dice):
     tables_of_the_other_case(tape, dice)
 
 
+def first_pairs(tape, dice):
+    """Openings at start states that accept: with room for all pairs of offset 0, for one less, for one more and for none, on
+    records of any length and on lists that are refused; and feeds from there."""
+    def ask(data, words, record=None):
+        tape.load_list(data)
+        tape.load_record(dice.pick([b"\xff" * FLOW_SIZE, dice.bytes(FLOW_SIZE)])
+                         if record is None else record)
+        return tape.open(max(0, words))
+
+    for words in (5, 4, 3, 2, 1, 0, 6):
+        assert ask(examples.AT_ONCE, words) == (0 if words > 3 else 15)
+    assert ask(examples.AT_ONCE, 0, bytes(FLOW_SIZE - 1)) == 4
+    assert ask(examples.LIST, 0) == 0
+
+    # All signatures, and fewer, given in any order and some of them more than once.
+    for count in (1, 2, 9, SIGNATURES - 1, SIGNATURES):
+        for turn in range(6):
+            told = dice.some(range(SIGNATURES), count)
+            records = [accept(dice.pick([7, 9]), signature) for signature in told + told[:turn]]
+            data = b"".join(dice.shuffled(records + [start(7), start(9), edge(0, 255, 7, 7)]))
+            for words in (2 * count - 2, 2 * count - 1, 2 * count, 2 * count + 1, ENOUGH_WORDS):
+                assert ask(data, words) == (15 if words < 2 * count else 0)
+
+    # Any list with accept records for some of its start states, and for other states.
+    for turn in range(90):
+        sample = any_list(dice)
+        starts = sorted(sample.nfa.starts)
+        more = [accept(dice.pick(starts), dice.below(SIGNATURES))
+                for _ in range(dice.between(1, 5))]
+        more += [accept(dice.pick(sample.states), dice.below(SIGNATURES)) for _ in range(2)]
+        data = b"".join(dice.shuffled(sample.records + more))
+        tape.load_list(data)
+        needed = tape.first_words()
+        for words in dice.shuffled([needed - 2, needed - 1, needed, needed + 1, 0]):
+            ask(data, words)
+        ask(data, needed - dice.between(1, 2), dice.bytes(dice.pick([0, FLOW_SIZE - 1, FLOW_SIZE + 1])))
+        ask(broken_list(dice, sample, 1 + turn % 3), dice.below(3))
+        ask(data, needed)
+        tape.feed(0, word_count(dice), a_piece(dice, sample, dice.below(5)))
+        if dice.chance(50):
+            tape.open(needed)
+
+
 GROUPS = [worked, lists, longest_lists, list_limits, openings, record_limits, plain_flows,
           crowded_flows, good_tables, crowded_tables, faulty_tables, one_byte_tables,
           harmless_tables, wild_tables, long_pieces, set_sizes, largest_tables,
           split_order, equal_splits, low_and_high, lengths_of_splits, no_split,
-          zero_records, old_content, long_pauses, capitals]
+          zero_records, old_content, long_pauses, capitals, first_pairs]
 
 
 def make(tape, dice):

@@ -8,6 +8,7 @@ LIST = bytes.fromhex("0100FF0000000000" "0161610000000100" "0162620001000200"
                      "0200000000000000" "0300000002000700")
 RECORDS = model.cut(LIST, RECORD_SIZE)
 START = RECORDS[3]
+AT_ONCE = LIST + b"".join(bytes([3, 0, 0, 0, 0, 0, signature, 0]) for signature in (5, 3, 5))
 NO_START = b"".join(record for record in RECORDS if record != START)
 
 
@@ -31,10 +32,16 @@ WITHOUT_0 = TABLE._replace(splits=SPLITS[1] + SPLITS[2])
 
 
 def check():
-    opened = model.open_flow(LIST, b"\xff" * FLOW_SIZE)
-    assert opened == (0, _set(0) + bytes(FLOW_SIZE - SET_SIZE))
-    fresh = opened[1]
+    opened = model.open_flow(LIST, b"\xff" * FLOW_SIZE, [])
+    assert opened == (0, 0, [], _set(0) + bytes(FLOW_SIZE - SET_SIZE))
+    fresh = opened.record
     words = [11, 12, 13, 14, 15]
+
+    # A start state that accepts: its pairs have offset 0, and 15 comes after 4.
+    full = b"\xff" * FLOW_SIZE
+    assert model.open_flow(AT_ONCE, full, words) == (0, 2, [3, 0, 5, 0, 15], fresh)
+    assert model.open_flow(AT_ONCE, full, words[:3]) == (15, 0, words[:3], full)
+    assert model.open_flow(AT_ONCE, full[1:], []) == (4, 0, [], full[1:])
 
     def plain(record, start, words, piece):
         return model.plain_feed(LIST, record, start, words, piece)

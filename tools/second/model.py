@@ -20,7 +20,7 @@ RESERVED_AT = OFFSET_AT + 4
 ROWS_AT = RESERVED_AT + 4
 FLOW_SIZE = ROWS_AT + 8  # bytes in a flow record
 MOST_OFFSET = 4294967295
-ENOUGH_WORDS = 2 * SIGNATURES  # words with which a feed never stands still
+ENOUGH_WORDS = 2 * SIGNATURES  # words with which a feed never stands still, and opening gives no 15
 BYTE_VALUES = 256  # bytes that a piece may have, each with a class
 MOST_CLASS = 63
 MOST_PARTS = 1024
@@ -35,6 +35,7 @@ Flow = namedtuple("Flow", "frontier offset rows")
 Table = namedtuple("Table", "classes parts rows splits")  # four byte lists
 Split = namedtuple("Split", "name members slots")
 Answer = namedtuple("Answer", "refusal consumed pairs all words record")
+Opened = namedtuple("Opened", "refusal pairs words record")
 
 
 # Numbers and sets as bytes
@@ -141,14 +142,19 @@ def automaton(data):
     return Automaton(data)
 
 
-def open_flow(data, record):
-    """Refusal and record at exit."""
+def open_flow(data, record, words):
+    """The pairs of offset 0 are told, and the record is that of the start states."""
     refusal = list_refusal(data)
+    if not refusal and len(record) != FLOW_SIZE:
+        refusal = 4
     if refusal:
-        return refusal, record
-    if len(record) != FLOW_SIZE:
-        return 4, record
-    return 0, pack_flow(Flow(automaton(data).starts, 0, 0))
+        return Opened(refusal, 0, words, record)
+    nfa = automaton(data)
+    first = [value for signature in nfa.signatures(nfa.starts) for value in (signature, 0)]
+    if len(first) // 2 > len(words) // 2:
+        return Opened(15, 0, words, record)
+    return Opened(0, len(first) // 2, first + words[len(first):],
+                  pack_flow(Flow(nfa.starts, 0, 0)))
 
 
 # The split table

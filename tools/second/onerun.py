@@ -109,8 +109,6 @@ def why(data, flow, signature, offset, whole=False):
     not_due = "The pair %d %d is not due: " % (signature, offset)
     if signature >= model.SIGNATURES or not due:
         return False, [not_due + "no record accepts signature %d." % signature]
-    if offset == 0:
-        return False, [not_due + "pairs are due from offset 1 on."]
     if offset > len(flow):
         return False, [not_due + "the flow ends at byte %d." % len(flow)]
     fronts = frontiers(nfa, flow[:offset])
@@ -118,15 +116,16 @@ def why(data, flow, signature, offset, whole=False):
     if not ends:
         return False, [
             not_due + "no state of the frontier there accepts signature %d." % signature,
-            "After byte %d the frontier is %s; signature %d is accepted by %s." % (
-                offset, saying.members(fronts[offset]), signature, saying.counted("state", due)),
+            "%s the frontier is %s; signature %d is accepted by %s." % (
+                saying.moment(offset).capitalize(), saying.members(fronts[offset]), signature,
+                saying.counted("state", due)),
             told_at(nfa, flow, signature, due)]
     states = run(records, fronts, flow, ends[0])
     lines = ["The pair %d %d is due. A run of the automaton that leads to it:"
              % (signature, offset)]
     lines += run_lines(records, states, flow, whole)
-    lines.append("state %d accepts signature %d after byte %d, by record %d" % (
-        ends[0], signature, offset, records.accepts[ends[0], signature]))
+    lines.append("state %d accepts signature %d %s, by record %d" % (
+        ends[0], signature, saying.moment(offset), records.accepts[ends[0], signature]))
     return True, lines
 
 
@@ -136,7 +135,7 @@ def accepting(nfa, signature):
 
 def told_at(nfa, flow, signature, due):
     """The offsets of this flow at which the signature is due, in words."""
-    offsets = [at for at, front in enumerate(frontiers(nfa, flow)) if at and due & front]
+    offsets = [at for at, front in enumerate(frontiers(nfa, flow)) if due & front]
     if not offsets:
         return "Signature %d is due nowhere in this flow." % signature
     return "In this flow it is due at %s." % saying.counted("offset", offsets)

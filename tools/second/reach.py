@@ -10,8 +10,7 @@ class Reach:
     """What can be reached in an automaton.
 
     named: states that a record speaks of. reached: those that a run from a start
-    state comes to. entered: those that one comes to by a byte, so that their pairs
-    are told. useful: reached ones from which an entered state that accepts is reached.
+    state comes to. useful: reached ones from which a state that accepts is reached.
     """
 
     def __init__(self, nfa):
@@ -23,8 +22,7 @@ class Reach:
             self.after.setdefault(edge.source, []).append(edge)
             self.before.setdefault(edge.target, []).append(edge)
         self.reached = self.closure(nfa.starts, self.after, lambda edge: edge.target)
-        self.entered = {edge.target for edge in nfa.edges if edge.source in self.reached}
-        telling = {a.state for a in nfa.accepts} & self.entered
+        telling = {a.state for a in nfa.accepts} & self.reached
         self.useful = self.reached & self.closure(telling, self.before, lambda edge: edge.source)
 
     @staticmethod
@@ -51,8 +49,8 @@ class Reach:
 
     def soonest(self):
         """For each signature that can be told a shortest text whose end tells it."""
-        texts = {}
-        todo = deque((state, b"") for state in sorted(self.nfa.starts))
+        texts = {state: b"" for state in sorted(self.nfa.starts)}
+        todo = deque(texts.items())
         while todo:
             state, text = todo.popleft()
             for edge in self.after.get(state, []):

@@ -47,7 +47,7 @@ def replay(data, tape):
         elif command == b"c":
             tape.check_list()
         elif command == b"o":
-            tape.open()
+            tape.open(reader.number(4))
         elif command == b"f":
             start, words, piece = reader.number(8), reader.number(4), reader.block()
             tape.feed(start, words, piece)

@@ -41,6 +41,16 @@ def text(data):
     return "%s ... %s" % (text(data[:half]), text(data[-half:]))
 
 
+def moment(offset):
+    """When a flow has come to an offset."""
+    return "after byte %d" % offset if offset else "when the flow is opened"
+
+
+def after(data):
+    """When a flow of these bytes has been fed."""
+    return "after " + text(data) if data else moment(0)
+
+
 # Numbers and sets of them
 
 def runs(values):

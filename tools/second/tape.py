@@ -7,10 +7,10 @@ command answers, works out its line with the model.
 
 import model
 
-# Word i of a lent buffer holds this number plus i before each feed.
+# Word i of a lent buffer holds this number plus i before each opening and each feed.
 WORD_FILL = 2774138880
 
-# The most words and the longest piece of a feed.
+# The most words of an opening or a feed, and the longest piece of a feed.
 MOST_WORDS = 1200
 MOST_PIECE = 4200
 
@@ -105,9 +105,21 @@ class Tape:
     def check_list(self):
         return self._answer(b"c", "c", [model.list_refusal(self.list)])
 
-    def open(self):
-        refusal, self.record = model.open_flow(self.list, self.record)
-        return self._answer(b"o", "o", [refusal, digest(self.record)])
+    def first_words(self):
+        """The words that the pairs of offset 0 need on the current list."""
+        opened = model.open_flow(self.list, bytes(model.FLOW_SIZE), [0] * model.ENOUGH_WORDS)
+        return 2 * opened.pairs
+
+    def open(self, words=None):
+        """With so many words; where that is not said, as many as are needed, or one or two more."""
+        if words is None:
+            words = self.first_words() + len(self.lines) % 3
+        assert words <= MOST_WORDS
+        buffer = [WORD_FILL + i for i in range(words)]
+        opened = model.open_flow(self.list, self.record, buffer)
+        self.record = opened.record
+        return self._answer(b"o" + u32(words), "o", [
+            opened.refusal, opened.pairs, digest_words(opened.words), digest(opened.record)])
 
     def check_table(self, bound):
         return self._answer(b"k" + u64(bound), "k",

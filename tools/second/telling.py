@@ -69,8 +69,8 @@ def state_lines(nfa):
         out.append("can never be told: %s" % saying.counted("signature", never))
     for signature in sorted(soonest)[:LONG_SOONEST]:
         text = soonest[signature]
-        out.append("signature %d is told at the soonest at offset %d, after %s"
-                   % (signature, len(text), saying.text(text)))
+        out.append("signature %d is told at the soonest at offset %d, %s"
+                   % (signature, len(text), saying.after(text)))
     if len(soonest) > LONG_SOONEST:
         out.append("... and %s can be told" % saying.many(
             len(soonest) - LONG_SOONEST, "further signature"))

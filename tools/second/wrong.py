@@ -94,7 +94,9 @@ NO_KIND = "    return False\n\n\n@lru_cache(maxsize=64)\n"
 SLOT = "low + 256 * high"
 TAKEN = "split.slots[:split.slots.index(UNUSED)]"
 KEPT = "written + words[len(written):]"
-OPENED = "pack_flow(Flow(automaton(data).starts, 0, 0))"
+OPENED = "pack_flow(Flow(nfa.starts, 0, 0))"
+AT_ONCE = "[value for signature in nfa.signatures(nfa.starts) for value in (signature, 0)]"
+NO_ROOM = "    if len(first) // 2 > len(words) // 2:\n"
 LOOKS_UP = "taken = taken_slots(lists.first[frontier])"
 
 VERSIONS = [
@@ -184,20 +186,45 @@ VERSIONS = [
         ("exchanged(byte) <= self.high)", "exchanged(byte) <= self.high))")]),
 
     # Opening
-    ("opening: writes nothing", [("return 0, " + OPENED, "return 0, record")]),
-    ("opening: keeps the old rows", [
-        ("return 0, " + OPENED,
-         "return 0, %s[:ROWS_AT] + record[ROWS_AT:]" % OPENED)]),
+    ("opening: writes nothing", [(OPENED, "record")]),
+    ("opening: keeps the old rows", [(OPENED, OPENED + "[:ROWS_AT] + record[ROWS_AT:]")]),
     ("opening: keeps the old reserved bytes", [
-        ("return 0, " + OPENED,
-         "return 0, %s[:RESERVED_AT] + record[RESERVED_AT:ROWS_AT] + bytes(8)" % OPENED)]),
+        (OPENED, OPENED + "[:RESERVED_AT] + record[RESERVED_AT:ROWS_AT] + bytes(8)")]),
     ("opening: refuses old content that a feed refuses", [
-        ("    return 0, " + OPENED,
-         "    if feed_refusal(data, record, unpack_flow(record).offset, b\"\"):\n"
-         "        return 4, record\n    return 0, " + OPENED)]),
+        (NO_ROOM, "    if feed_refusal(data, record, unpack_flow(record).offset, b\"\"):\n"
+         "        return Opened(4, 0, words, record)\n" + NO_ROOM)]),
     ("opening: refuses old content that is not zeros", [
-        ("    return 0, " + OPENED,
-         "    if any(record):\n        return 4, record\n    return 0, " + OPENED)]),
+        (NO_ROOM, "    if any(record):\n        return Opened(4, 0, words, record)\n" + NO_ROOM)]),
+    ("opening: tells no pairs", [(AT_ONCE, "[]")]),
+    ("opening: tells in the order of records", [
+        (AT_ONCE, "[value for g in dict.fromkeys(number(r[6:8]) for r in cut(data, RECORD_SIZE)\n"
+         "             if r[0] == 3 and number(r[4:6]) in nfa.starts) for value in (g, 0)]")]),
+    ("opening: tells a signature as often as it is accepted", [
+        (AT_ONCE, "[value for g in sorted(number(r[6:8]) for r in cut(data, RECORD_SIZE)\n"
+         "             if r[0] == 3 and number(r[4:6]) in nfa.starts) for value in (g, 0)]")]),
+    ("opening: tells offset 1", [("for value in (signature, 0)", "for value in (signature, 1)")]),
+    ("opening: tells the offset first", [
+        ("for value in (signature, 0)", "for value in (0, signature)")]),
+    ("opening: tells of all states", [
+        ("nfa.signatures(nfa.starts)", "nfa.signatures(range(STATES))")]),
+    ("opening: 15 for a room that is just enough", [
+        ("len(first) // 2 > len(words) // 2", "len(first) // 2 >= len(words) // 2")]),
+    ("opening: an odd last word is room", [
+        ("len(first) // 2 > len(words) // 2", "len(first) // 2 > (len(words) + 1) // 2")]),
+    ("opening: 15 without a word", [
+        ("len(first) // 2 > len(words) // 2", "len(first) // 2 > len(words) // 2 or not words")]),
+    ("opening: 15 before 4", [
+        ("if not refusal and len(record) != FLOW_SIZE:",
+         "if not refusal and len(record) != FLOW_SIZE and "
+         "2 * len(automaton(data).signatures(automaton(data).starts)) <= len(words):")]),
+    ("opening: the record is written though 15", [
+        ("Opened(15, 0, words, record)", "Opened(15, 0, words, %s)" % OPENED)]),
+    ("opening: the pairs that fit are told though 15", [
+        ("Opened(15, 0, words, record)",
+         "Opened(15, 0, first[:len(words) // 2 * 2] + words[len(words) // 2 * 2:], record)")]),
+    ("opening: the words behind the pairs are cleared", [
+        ("first + words[len(first):]", "first + [0] * (len(words) - len(first))")]),
+    ("opening: words are counted for pairs", [("Opened(0, len(first) // 2,", "Opened(0, len(first),")]),
 
     # Both feeds
     ("feeds: the words behind the pairs are cleared", [

@@ -59,7 +59,14 @@ fn watch(rules: &[u8], mut flow: impl Read, out: &mut impl Write) -> io::Result<
         Ok(list) => list,
         Err(refusal) => return Ok(Err(refusal)),
     };
-    let mut saved = Flow::open(&list).into_bytes();
+    let mut written = Ok(());
+    let mut saved = Flow::open_all(&list, |pair| {
+        if written.is_ok() {
+            written = writeln!(out, "{pair}");
+        }
+    })
+    .into_bytes();
+    written?;
     let mut buffer = [0; PIECE];
     let mut offset = 0;
     loop {

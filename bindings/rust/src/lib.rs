@@ -16,9 +16,11 @@
 //!     3, 0, 0, 0, 2, 0, 7, 0, //       accept: state 2 tells signature 7
 //! ];
 //! let list = List::check(&bytes)?;
-//! let mut flow = Flow::open(&list);
 //! let mut words = [0; watch::ENOUGH_WORDS];
 //!
+//! let opened = Flow::open(&list, &mut words)?;
+//! assert_eq!(opened.pairs, 0); // no start state accepts, so nothing is told before the first byte
+//! let mut flow = opened.flow;
 //! let fed = flow.feed(&list, 0, b"abab", &mut words)?;
 //! assert!(fed.all);
 //! let told: Vec<Pair> = fed.told(&words).collect();
@@ -49,7 +51,7 @@
 //! }
 //! # let bytes = *b"\x01\x00\xFF\0\0\0\0\0\x02\0\0\0\0\0\0\0\x03\0\0\0\0\0\x09\0";
 //! # let list = List::check(&bytes).unwrap();
-//! # let mut flow = Flow::open(&list);
+//! # let mut flow = Flow::open_all(&list, |_| ());
 //! # let mut told = 0;
 //! # watch_all(&list, &mut flow, &[0; 1000], |_| told += 1).unwrap();
 //! # assert_eq!(told, 1000);
@@ -57,6 +59,9 @@
 //!
 //! With [`ENOUGH_WORDS`] words a feed of a non-empty piece that is not refused consumes at least one byte, so such a loop ends.
 //! [`Flow::feed_all`] is such a loop, and [`Flow::split_feed_all`] the same over a table.
+//!
+//! A start state that accepts is told when the flow is opened, at offset 0. [`Flow::open`] tells all of these pairs or, where they do not
+//! fit, refuses; with [`ENOUGH_WORDS`] words they always do, and [`Flow::open_all`] brings its own.
 //!
 //! # Split tables
 //!
@@ -136,7 +141,10 @@ impl<'a> List<'a> {
     /// ```
     pub fn check(bytes: &'a [u8]) -> Result<List<'a>, Refusal> {
         let archive = archive_version();
-        assert!(archive == VERSION, "libwatch_c.a has version {archive} of the face, and the crate watch is for {VERSION}");
+        assert!(
+            archive == VERSION,
+            "libwatch_c.a has version {archive} of the face, and the crate watch is for {VERSION}"
+        );
         // SAFETY: pointer and length are those of a slice that is borrowed over the call.
         let number = unsafe { raw::watch_check_list(bytes.as_ptr(), bytes.len()) };
         Refusal::verdict(number)?;
@@ -187,7 +195,7 @@ impl fmt::Debug for List<'_> {
 /// # let bytes = *b"\x01\x00\xFF\0\0\0\0\0\x01aa\0\0\0\x01\0\x01bb\0\x01\0\x02\0\x02\0\0\0\0\0\0\0\x03\0\0\0\x02\0\x07\0";
 /// let list = List::check(&bytes)?; // signature 7 after any "ab"
 /// let mut words = [0; ENOUGH_WORDS];
-/// let mut flow = Flow::open(&list);
+/// let mut flow = Flow::open(&list, &mut words)?.flow;
 /// assert!(flow.feed(&list, 0, b"a", &mut words)?.all);
 /// let saved: [u8; FLOW_SIZE] = *flow.as_bytes();
 ///
@@ -202,14 +210,58 @@ pub struct Flow {
 }
 
 impl Flow {
-    /// Opens a flow on a list: the start states, offset 0, no rows read. A list that has passed its check is never refused here.
-    pub fn open(list: &List<'_>) -> Flow {
+    /// Opens a flow on a list: the start states, offset 0, no rows read.
+    ///
+    /// The pairs of offset 0, one for each signature that a start state accepts, are in the first `2 * pairs` words; later words stay as they
+    /// are, an odd last word always. Where they do not all fit, refusal 15, and no word is written. A list that has passed its check is refused
+    /// for nothing else here.
+    ///
+    /// ```
+    /// # use watch::{Flow, List, Refusal};
+    /// # let bytes = *b"\x02\0\0\0\0\0\0\0\x03\0\0\0\0\0\x05\0\x03\0\0\0\0\0\x03\0";
+    /// let list = List::check(&bytes)?; // the start state accepts 5 and 3
+    /// let mut words = [9; 5];
+    ///
+    /// let opened = Flow::open(&list, &mut words)?;
+    /// assert_eq!((opened.pairs, words), (2, [3, 0, 5, 0, 9]));
+    /// assert_eq!(Flow::open(&list, &mut words[..3]), Err(Refusal::NoRoom));
+    /// # Ok::<(), Refusal>(())
+    /// ```
+    pub fn open(list: &List<'_>, pairs: &mut [u32]) -> Result<Opened, Refusal> {
         let mut flow = Flow { bytes: [0; FLOW_SIZE] };
-        // SAFETY: the list is a borrowed slice; the record is this function's own.
-        let number =
-            unsafe { raw::watch_open(list.bytes.as_ptr(), list.bytes.len(), flow.bytes.as_mut_ptr(), FLOW_SIZE) };
-        assert_eq!(number, 0, "opening refuses nothing but a bad list and a record of another size");
-        flow
+        // SAFETY: the list and the words are borrowed slices, the words as mutable; the record is this function's own.
+        let opened = unsafe {
+            raw::watch_open(
+                list.bytes.as_ptr(),
+                list.bytes.len(),
+                flow.bytes.as_mut_ptr(),
+                FLOW_SIZE,
+                pairs.as_mut_ptr(),
+                pairs.len(),
+            )
+        };
+        Refusal::verdict(opened.refusal)?;
+        Ok(Opened { flow, pairs: opened.pairs as usize })
+    }
+
+    /// Opens a flow on a list, and hands each pair of offset 0 to `told`, in order.
+    ///
+    /// The room for pairs is its own, [`ENOUGH_WORDS`] words of the stack, so it is never refused.
+    ///
+    /// ```
+    /// # use watch::{Flow, List};
+    /// # let bytes = *b"\x02\0\0\0\0\0\0\0\x03\0\0\0\0\0\x05\0\x03\0\0\0\0\0\x03\0";
+    /// # let list = List::check(&bytes).unwrap();
+    /// // A list whose start state accepts 5 and 3:
+    /// let mut told = Vec::new();
+    /// let flow = Flow::open_all(&list, |pair| told.push(pair.to_string()));
+    /// assert_eq!((flow.offset(), told), (0, vec!["3 0".to_string(), "5 0".to_string()]));
+    /// ```
+    pub fn open_all(list: &List<'_>, told: impl FnMut(Pair)) -> Flow {
+        let mut words = [0; ENOUGH_WORDS];
+        let opened = Flow::open(list, &mut words).expect("the list has passed, and there is room for every signature");
+        opened.told(&words).for_each(told);
+        opened.flow
     }
 
     /// The flow with a record that was saved.
@@ -244,7 +296,7 @@ impl Flow {
     /// # let bytes = *b"\x02\0\0\0\0\0\x03\0\x02\0\0\0\0\0\xFF\0";
     /// # let list = List::check(&bytes).unwrap();
     /// // A list with the start states 3 and 255:
-    /// assert_eq!(Flow::open(&list).frontier().collect::<Vec<u16>>(), [3, 255]);
+    /// assert_eq!(Flow::open_all(&list, |_| ()).frontier().collect::<Vec<u16>>(), [3, 255]);
     /// ```
     pub fn frontier(&self) -> impl Iterator<Item = u16> + '_ {
         (0..STATES as u16).filter(|&state| self.bytes[usize::from(state / 8)] >> (state % 8) & 1 == 1)
@@ -258,8 +310,8 @@ impl Flow {
     /// # use watch::{Flow, List, Refusal};
     /// # let bytes = *b"\x01\x00\xFF\0\0\0\0\0\x01aa\0\0\0\x01\0\x01bb\0\x01\0\x02\0\x02\0\0\0\0\0\0\0\x03\0\0\0\x02\0\x07\0";
     /// let list = List::check(&bytes)?; // signature 7 after any "ab"
-    /// let mut flow = Flow::open(&list);
     /// let mut words = [0; 2]; // room for one pair
+    /// let mut flow = Flow::open(&list, &mut words)?.flow;
     ///
     /// let fed = flow.feed(&list, 0, b"abab", &mut words)?;
     /// assert_eq!((fed.bytes, fed.pairs, fed.all), (3, 1, false)); // paused before the second pair
@@ -305,7 +357,7 @@ impl Flow {
     /// #     set
     /// # }
     /// # let bytes = *b"\x01\x00\xFF\0\0\0\0\0\x02\0\0\0\0\0\0\0\x03\0\0\0\0\0\x09\0";
-    /// let list = List::check(&bytes)?; // signature 9 at every byte, by state 0
+    /// let list = List::check(&bytes)?; // signature 9 at opening and at every byte, by state 0
     /// let classes = [0; BYTE_VALUES];
     /// let parts = set(&[0]);
     /// let rows = set(&[0]);
@@ -313,7 +365,8 @@ impl Flow {
     /// let table = Table::check(&list, 1, TableLists { classes: &classes, parts: &parts, rows: &rows, splits: &splits })?;
     ///
     /// let mut words = [0; 3];
-    /// let mut flow = Flow::open(&list);
+    /// let mut flow = Flow::open(&list, &mut words)?.flow;
+    /// assert_eq!(words, [9, 0, 0]);
     /// let fed = flow.split_feed(&table, 0, b"x", &mut words)?;
     /// assert_eq!((fed.all, words), (true, [9, 1, 0]));
     ///
@@ -373,9 +426,9 @@ impl Flow {
     /// # use watch::{Flow, List, Refusal};
     /// # let bytes = *b"\x01\x00\xFF\0\0\0\0\0\x01aa\0\0\0\x01\0\x01bb\0\x01\0\x02\0\x02\0\0\0\0\0\0\0\x03\0\0\0\x02\0\x07\0";
     /// let list = List::check(&bytes)?; // signature 7 after any "ab"
-    /// let mut flow = Flow::open(&list);
     /// let mut told = Vec::new();
     ///
+    /// let mut flow = Flow::open_all(&list, |pair| told.push(pair));
     /// let fed = flow.feed_all(&list, 0, &b"ab".repeat(1000), |pair| told.push(pair))?;
     /// assert_eq!((fed.bytes, fed.pairs), (2000, 1000));
     /// assert_eq!((told.len(), told[999].to_string()), (1000, "7 2000".to_string()));
@@ -410,11 +463,12 @@ impl Flow {
     /// # let mut set = [0; SET_SIZE];
     /// # set[0] = 1;
     /// # let splits = [&set[..], &[0, 0, 255, 255, 255, 255, 255, 255]].concat();
-    /// // Signature 9 at every byte, by state 0:
+    /// // Signature 9 at opening and at every byte, by state 0:
     /// let table = Table::check(&list, 1, TableLists { classes: &classes, parts: &set, rows: &set, splits: &splits })?;
-    /// let (mut flow, mut told) = (Flow::open(&list), 0);
+    /// let mut told = 0;
+    /// let mut flow = Flow::open_all(&list, |_| told += 1);
     /// let fed = flow.split_feed_all(&table, 0, &[0; 1000], |_| told += 1)?;
-    /// assert_eq!((fed.bytes, fed.pairs, told), (1000, 1000, 1000));
+    /// assert_eq!((fed.bytes, fed.pairs, told), (1000, 1000, 1001));
     ///
     /// // Rows that lead to a set that is no split: halted at the second byte.
     /// let table = Table::unchecked(&list, 1, TableLists { rows: &[0; SET_SIZE], ..table.lists() });
@@ -473,6 +527,28 @@ struct Frontier<'a>(&'a Flow);
 impl fmt::Debug for Frontier<'_> {
     fn fmt(&self, f: &mut fmt::Formatter<'_>) -> fmt::Result {
         f.debug_list().entries(self.0.frontier()).finish()
+    }
+}
+
+/// What an opening that was not refused did.
+#[derive(Clone, Debug, PartialEq, Eq, Hash)]
+#[must_use = "the pairs of offset 0 are told by the opening alone"]
+#[non_exhaustive]
+pub struct Opened {
+    /// The flow.
+    pub flow: Flow,
+    /// Pairs of offset 0 written, two words each.
+    pub pairs: usize,
+}
+
+impl Opened {
+    /// The pairs told, read from the buffer that the opening wrote.
+    ///
+    /// # Panics
+    ///
+    /// Where the buffer is shorter than what the opening wrote: it is another one.
+    pub fn told<'w>(&self, words: &'w [u32]) -> impl Iterator<Item = Pair> + 'w {
+        pairs_in(&words[..2 * self.pairs])
     }
 }
 
@@ -677,10 +753,12 @@ const _: () = {
     send_and_sync::<Table<'static>>();
     send_and_sync::<TableLists<'static>>();
     send_and_sync::<Flow>();
+    send_and_sync::<Opened>();
     send_and_sync::<Fed>();
     send_and_sync::<FedAll>();
     send_and_sync::<Pair>();
     send_and_sync::<Refusal>();
     send_and_sync::<SplitError>();
     send_and_sync::<raw::WatchFed>();
+    send_and_sync::<raw::WatchOpened>();
 };

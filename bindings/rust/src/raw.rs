@@ -22,6 +22,16 @@ pub struct WatchFed {
     pub all: bool,
 }
 
+/// What an opening answers, as C lays it out.
+#[repr(C)]
+#[derive(Clone, Copy, Debug, PartialEq, Eq)]
+pub struct WatchOpened {
+    /// Pairs written, two words each.
+    pub pairs: u64,
+    /// 0, or the number of the refusal.
+    pub refusal: u32,
+}
+
 extern "C" {
     /// The version of the face that the archive has. It may be called at any time.
     pub fn watch_version() -> u32;
@@ -29,8 +39,15 @@ extern "C" {
     /// The list check: 0, or a refusal 1 to 3.
     pub fn watch_check_list(list: *const u8, list_len: usize) -> u32;
 
-    /// Opens a flow: 0, or a refusal 1 to 4.
-    pub fn watch_open(list: *const u8, list_len: usize, flow: *mut u8, flow_len: usize) -> u32;
+    /// Opens a flow: refusals 1 to 4 and 15.
+    pub fn watch_open(
+        list: *const u8,
+        list_len: usize,
+        flow: *mut u8,
+        flow_len: usize,
+        pairs: *mut u32,
+        pairs_len: usize,
+    ) -> WatchOpened;
 
     /// The plain feed: refusals 1 to 6.
     pub fn watch_feed(

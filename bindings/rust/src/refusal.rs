@@ -1,7 +1,7 @@
 use crate::{FLOW_SIZE, MOST_BOUND, MOST_CLASS, MOST_LIST, MOST_OFFSET, RECORD_SIZE, SIGNATURES, STATES};
 use core::fmt;
 
-/// Why a call was refused. Each has a [`number`](Refusal::number), 1 to 14; of several that apply, the lowest is given.
+/// Why a call was refused. Each has a [`number`](Refusal::number), 1 to 15; of several that apply, the lowest is given.
 ///
 /// ```
 /// use watch::{List, Refusal, MOST_LIST, RECORD_SIZE};
@@ -45,6 +45,8 @@ pub enum Refusal {
     NotClosed = 13,
     /// 14: split feed, at a byte: the frontier is no split, or the slots taken name no part or are more than b.
     NoSplit = 14,
+    /// 15: opening: more pairs of offset 0 than room.
+    NoRoom = 15,
 }
 
 impl Refusal {
@@ -64,9 +66,10 @@ impl Refusal {
         Refusal::NoStartSplit,
         Refusal::NotClosed,
         Refusal::NoSplit,
+        Refusal::NoRoom,
     ];
 
-    /// The refusal's number, 1 to 14.
+    /// The refusal's number, 1 to 15.
     pub const fn number(self) -> u32 {
         self as u32
     }
@@ -87,7 +90,7 @@ impl Refusal {
     pub(crate) fn verdict(number: u32) -> Result<(), Refusal> {
         match number {
             0 => Ok(()),
-            _ => Err(Refusal::from_number(number).expect("the archive answers 0 to 14")),
+            _ => Err(Refusal::from_number(number).expect("the archive answers 0 to 15")),
         }
     }
 }
@@ -124,6 +127,7 @@ impl fmt::Display for Refusal {
             Refusal::NoSplit => f.write_str(
                 "split feed, at a byte: the frontier is no split, or the slots taken name no part or are more than b",
             ),
+            Refusal::NoRoom => f.write_str("opening: more pairs of offset 0 than room"),
         }
     }
 }

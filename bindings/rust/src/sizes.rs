@@ -2,7 +2,7 @@
 //! is written so. `tools/sizes` in the repository holds them to the constants of the proved code.
 
 /// The version of the C face that this crate is written for. [`List::check`](crate::List::check) compares it with the archive's.
-pub const VERSION: u32 = 3;
+pub const VERSION: u32 = 4;
 
 /// States are the numbers below this one.
 pub const STATES: usize = 1024;
@@ -37,7 +37,7 @@ pub const FLOW_SIZE: usize = ROWS_AT + 8;
 /// The largest offset.
 pub const MOST_OFFSET: u64 = 4_294_967_295;
 
-/// Words with which a feed never stands still: room for a pair of each signature.
+/// Words with which a feed never stands still, and an opening is never refused with 15: room for a pair of each signature.
 pub const ENOUGH_WORDS: usize = 2 * SIGNATURES;
 
 /// Bytes that a piece may have; each has a class.

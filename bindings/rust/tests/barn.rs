@@ -45,6 +45,11 @@ fn list() -> List<'static> {
     List::check(&L).unwrap()
 }
 
+/// A flow of L. No start state accepts, so no room is needed.
+fn opened() -> Flow {
+    Flow::open(&list(), &mut []).unwrap().flow
+}
+
 fn set(states: &[u16]) -> Vec<u8> {
     ordinary::bytes_of(&states.iter().copied().collect()).to_vec()
 }
@@ -100,9 +105,49 @@ impl T {
     }
 }
 
+/// L with state 0 accepting 5, 3 and 5 again.
+fn at_once() -> Vec<u8> {
+    let accepts = [5, 3, 5].iter().flat_map(|&signature| [3, 0, 0, 0, 0, 0, signature, 0]);
+    L.iter().copied().chain(accepts).collect()
+}
+
+#[test]
+fn a_start_state_that_accepts_is_told_at_once() {
+    let bytes = at_once();
+    let list = List::check(&bytes).unwrap();
+    let mut words = [9; 5];
+    let begun = Flow::open(&list, &mut words).unwrap();
+    assert_eq!((begun.pairs, words), (2, [3, 0, 5, 0, 9]));
+    assert_eq!(begun.flow, opened());
+    let told: Vec<String> = begun.told(&words).map(|pair| pair.to_string()).collect();
+    assert_eq!(told, ["3 0", "5 0"]);
+    // Opened again it is a new flow, and tells again.
+    let mut flow = begun.flow;
+    assert!(flow.feed(&list, 0, b"ab", &mut [0; ENOUGH_WORDS]).unwrap().all);
+    assert_eq!((Flow::open(&list, &mut words[1..]).unwrap().pairs, words), (2, [3, 3, 0, 5, 0]));
+}
+
+#[test]
+fn an_opening_without_room_changes_nothing() {
+    use watch::raw;
+    let bytes = at_once();
+    let (mut record, mut words) = ([7; FLOW_SIZE], [9; 4]);
+    // SAFETY: each pointer and length is that of a slice, and the record and the words are this function's own.
+    let mut open = |length: usize, room: usize, record: &mut [u8; FLOW_SIZE]| unsafe {
+        let at = words.as_mut_ptr();
+        let opened = raw::watch_open(bytes.as_ptr(), bytes.len(), record.as_mut_ptr(), length, at, room);
+        (opened.refusal, opened.pairs, words)
+    };
+    assert_eq!(open(FLOW_SIZE, 3, &mut record), (15, 0, [9; 4]));
+    assert_eq!(open(FLOW_SIZE - 1, 0, &mut record), (4, 0, [9; 4]));
+    assert_eq!(record, [7; FLOW_SIZE]);
+    assert_eq!(open(FLOW_SIZE, 4, &mut record), (0, 2, [3, 0, 5, 0]));
+    assert_eq!(&record, opened().as_bytes());
+}
+
 #[test]
 fn plain_abab() {
-    let mut flow = Flow::open(&list());
+    let mut flow = opened();
     let mut words = [0; ENOUGH_WORDS];
     let fed = flow.feed(&list(), 0, b"abab", &mut words).unwrap();
     assert_eq!(answer(fed), (4, 2, true));
@@ -114,7 +159,7 @@ fn plain_abab() {
 
 #[test]
 fn plain_aba_leaves_this_record() {
-    let mut flow = Flow::open(&list());
+    let mut flow = opened();
     assert!(flow.feed(&list(), 0, b"aba", &mut [0; ENOUGH_WORDS]).unwrap().all);
     let mut record = [0; FLOW_SIZE];
     record[0] = 3;
@@ -129,7 +174,7 @@ fn plain_aba_leaves_this_record() {
 
 #[test]
 fn a_cut_changes_nothing() {
-    let mut flow = Flow::open(&list());
+    let mut flow = opened();
     let mut words = [0; ENOUGH_WORDS];
     assert_eq!(flow.feed(&list(), 0, b"a", &mut words).unwrap().pairs, 0);
     let before = flow.clone();
@@ -143,17 +188,17 @@ fn a_cut_changes_nothing() {
 fn room() {
     for (words, bytes, pairs) in [(0, 1, 0), (1, 1, 0), (2, 3, 1), (3, 3, 1), (4, 4, 2)] {
         let mut buffer = vec![99; words];
-        let fed = Flow::open(&list()).feed(&list(), 0, b"abab", &mut buffer).unwrap();
+        let fed = opened().feed(&list(), 0, b"abab", &mut buffer).unwrap();
         assert_eq!(answer(fed), (bytes, pairs, bytes == 4));
         assert!(buffer[2 * pairs..].iter().all(|&word| word == 99));
     }
-    let fed = Flow::open(&list()).feed(&list(), 0, b"", &mut []).unwrap();
+    let fed = opened().feed(&list(), 0, b"", &mut []).unwrap();
     assert_eq!(answer(fed), (0, 0, true));
 }
 
 #[test]
 fn the_last_offset() {
-    let mut record = *Flow::open(&list()).as_bytes();
+    let mut record = *opened().as_bytes();
     record[OFFSET_AT..RESERVED_AT].fill(255);
     let mut flow = Flow::from_bytes(record);
     assert_eq!(answer(flow.feed(&list(), MOST_OFFSET, b"", &mut []).unwrap()), (0, 0, true));
@@ -211,7 +256,7 @@ fn sets_of_another_size() {
     for size in [1, 32, SET_SIZE - 1, SET_SIZE + 1, 2 * SET_SIZE] {
         in_sets_of(size).check(2, |checked, table| {
             assert_eq!(checked, Err(Refusal::TableLists));
-            let fed = Flow::open(&list()).split_feed(&table, 0, b"abab", &mut [0; ENOUGH_WORDS]);
+            let fed = opened().split_feed(&table, 0, b"abab", &mut [0; ENOUGH_WORDS]);
             assert_eq!(fed, Err(SplitError::Refused(Refusal::TableLists)));
         });
     }
@@ -225,8 +270,8 @@ fn records_of_another_size() {
         let mut record = vec![0xA5; size];
         let refusal = if size == FLOW_SIZE { 0 } else { 4 };
         // SAFETY: each pointer is good for its length, and the record is lent to nobody else.
-        let opened = unsafe { raw::watch_open(L.as_ptr(), L.len(), record.as_mut_ptr(), size) };
-        assert_eq!((opened, size), (refusal, size));
+        let opened = unsafe { raw::watch_open(L.as_ptr(), L.len(), record.as_mut_ptr(), size, [0; 1].as_mut_ptr(), 0) };
+        assert_eq!((opened.refusal, opened.pairs, size), (refusal, 0, size));
         assert_eq!(record.iter().all(|&byte| byte == 0xA5), refusal == 4);
         record.fill(0);
         // SAFETY: as above; no words are lent.
@@ -242,7 +287,7 @@ fn records_of_another_size() {
 fn the_most_rows() {
     for offset in [0, 1, 7, MOST_OFFSET] {
         for (more, refusal) in [(0, None), (1, Some(Refusal::FlowRecord))] {
-            let mut record = *Flow::open(&list()).as_bytes();
+            let mut record = *opened().as_bytes();
             record[OFFSET_AT..RESERVED_AT].copy_from_slice(&(offset as u32).to_le_bytes());
             record[ROWS_AT..].copy_from_slice(&(STATES as u64 * offset + more).to_le_bytes());
             let fed = Flow::from_bytes(record).feed(&list(), offset, b"", &mut []);
@@ -255,7 +300,7 @@ fn the_most_rows() {
 fn split_abab() {
     T::new().check(2, |checked, _| {
         let table = checked.unwrap();
-        let mut flow = Flow::open(&table.list());
+        let mut flow = opened();
         let mut words = [0; ENOUGH_WORDS];
         let fed = flow.split_feed(&table, 0, b"abab", &mut words).unwrap();
         assert_eq!(answer(fed), (4, 2, true));
@@ -269,7 +314,7 @@ fn split_abab() {
 fn a_halted_split_feed_keeps_what_was_before() {
     // Without {0, 2} the feed can't go on after "ab": 14 at the third byte.
     T::new().without(2).check(2, |_, table| {
-        let mut flow = Flow::open(&list());
+        let mut flow = opened();
         let mut words = [0; ENOUGH_WORDS];
         let halted = flow.split_feed(&table, 0, b"abab", &mut words);
         assert!(matches!(halted, Err(SplitError::Halted { bytes: 2, pairs: 1, .. })));
@@ -277,13 +322,13 @@ fn a_halted_split_feed_keeps_what_was_before() {
         assert_eq!(words[..3], [7, 2, 0]);
         assert_eq!(flow.offset(), 2);
         // As a whole piece: the same, and the pair before it is told.
-        let mut flow = Flow::open(&list());
+        let mut flow = opened();
         let mut told = Vec::new();
         let halted = flow.split_feed_all(&table, 0, b"abab", |pair| told.push(pair.to_string())).unwrap_err();
         assert_eq!((halted.refusal(), halted.bytes(), halted.pairs()), (Refusal::NoSplit, 2, 1));
         assert_eq!((told, flow.offset()), (vec!["7 2".to_string()], 2));
         // A pause before that byte is no refusal, and neither is an empty piece at it.
-        let mut flow = Flow::open(&list());
+        let mut flow = opened();
         assert!(!flow.split_feed(&table, 0, b"abab", &mut []).unwrap().all);
         let fed = flow.split_feed(&table, 1, b"b", &mut words).unwrap();
         assert_eq!(answer(fed), (1, 1, true));
@@ -298,15 +343,20 @@ fn a_halted_split_feed_keeps_what_was_before() {
 fn the_ordinary_matcher_agrees() {
     let automaton = Automaton::read(&L);
     let mut record = vec![0; FLOW_SIZE];
-    assert_eq!(ordinary::open(&automaton, &mut record), 0);
-    assert_eq!(record, Flow::open(&list()).as_bytes());
+    assert_eq!(ordinary::open(&automaton, &mut record, &mut []), (0, 0));
+    assert_eq!(record, opened().as_bytes());
+    let mut words = [9; 5];
+    let accepting = Automaton::read(&at_once());
+    assert_eq!(ordinary::open(&accepting, &mut record, &mut words[..3]), (15, 0));
+    assert_eq!(ordinary::open(&accepting, &mut record, &mut words), (0, 2));
+    assert_eq!(words, [3, 0, 5, 0, 9]);
     let mut words = [0; 5];
     let answer = ordinary::feed(&automaton, &mut record, 0, b"abab", &mut words);
     assert_eq!(answer, ordinary::Answer { refusal: 0, bytes: 4, pairs: 2, all: true });
     assert_eq!((words, record[ROWS_AT]), ([7, 2, 7, 4, 0], 7));
     let t = T::new();
     let table = ordinary::Table::read(&t.classes, &t.parts, &t.rows, &t.splits.concat());
-    assert_eq!(ordinary::open(&automaton, &mut record), 0);
+    assert_eq!(ordinary::open(&automaton, &mut record, &mut []), (0, 0));
     let answer = ordinary::split_feed(&automaton, 2, &table, &mut record, 0, b"abab", &mut [0; 3]);
     assert_eq!(answer, ordinary::Answer { refusal: 0, bytes: 3, pairs: 1, all: false });
     assert_eq!(record[ROWS_AT], 5);
@@ -319,9 +369,9 @@ fn refusals_have_numbers_and_texts() {
         assert_eq!(Refusal::from_number(refusal.number()), Some(refusal));
         assert!(!refusal.to_string().is_empty());
     }
-    assert_eq!(Refusal::ALL.len(), 14);
+    assert_eq!(Refusal::ALL.len(), 15);
     assert_eq!(Refusal::from_number(0), None);
-    assert_eq!(Refusal::from_number(15), None);
+    assert_eq!(Refusal::from_number(16), None);
 }
 
 #[cfg(feature = "std")]
@@ -341,12 +391,13 @@ fn refusals_are_errors() {
 fn nothing_is_read_where_a_length_is_0() {
     use std::ptr::{null, null_mut};
     use watch::raw;
-    let mut record = *Flow::open(&list()).as_bytes();
+    let mut record = *opened().as_bytes();
     // SAFETY: all lengths but the list's and the record's are 0.
     unsafe {
         assert_eq!(raw::watch_check_list(null(), 0), 1);
-        assert_eq!(raw::watch_open(null(), 0, null_mut(), 0), 1);
-        assert_eq!(raw::watch_open(L.as_ptr(), L.len(), null_mut(), 0), 4);
+        assert_eq!(raw::watch_open(null(), 0, null_mut(), 0, null_mut(), 0).refusal, 1);
+        assert_eq!(raw::watch_open(L.as_ptr(), L.len(), null_mut(), 0, null_mut(), 0).refusal, 4);
+        assert_eq!(raw::watch_open(L.as_ptr(), L.len(), record.as_mut_ptr(), FLOW_SIZE, null_mut(), 0).refusal, 0);
         let fed = raw::watch_feed(L.as_ptr(), L.len(), record.as_mut_ptr(), FLOW_SIZE, 0, null(), 0, null_mut(), 0);
         assert_eq!(fed, raw::WatchFed { bytes: 0, pairs: 0, refusal: 0, all: true });
         let fed =
@@ -361,4 +412,5 @@ fn nothing_is_read_where_a_length_is_0() {
 fn the_answer_is_laid_out_as_in_c() {
     use std::mem::{align_of, size_of};
     assert_eq!((size_of::<watch::raw::WatchFed>(), align_of::<watch::raw::WatchFed>()), (24, 8));
+    assert_eq!((size_of::<watch::raw::WatchOpened>(), align_of::<watch::raw::WatchOpened>()), (16, 8));
 }

@@ -41,3 +41,11 @@ fn a_file_that_is_no_list_is_refused() {
 fn a_file_that_is_not_there_is_an_error() {
     assert!(breakfast::breakfast(&file("thrice"), &file("rules.bin"), &mut Vec::new()).is_err());
 }
+
+#[test]
+fn the_pairs_of_offset_0_come_first() {
+    let rules = std::env::temp_dir().join(format!("watch-at-once-{}", std::process::id()));
+    std::fs::write(&rules, b"\x02\0\0\0\0\0\0\0\x03\0\0\0\0\0\x05\0\x03\0\0\0\0\0\x03\0").unwrap();
+    assert_eq!(writes(&file("once"), &rules), ("3 0\n5 0\nend 58\n".to_string(), true));
+    std::fs::remove_file(&rules).unwrap();
+}

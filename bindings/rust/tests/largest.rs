@@ -227,8 +227,8 @@ fn run(records: usize) {
     let decoded = ordinary::Table::read(&good.classes, &good.parts, &good.rows, &good.splits);
     let (mut feeds, mut bytes, mut pairs) = (0, 0, 0);
     for _ in 0..4 {
-        let mut split = Flow::open(&checked);
-        let mut plain = Flow::open(&checked);
+        let mut split = Flow::open_all(&checked, |_| ());
+        let mut plain = Flow::open_all(&checked, |_| ());
         let mut record = split.as_bytes().to_vec();
         for _ in 0..40 {
             let piece: Vec<u8> = (0..dice.from(0, 40)).map(|_| dice.byte()).collect();

@@ -161,16 +161,24 @@ fn flow_for(record: &[u8], start: u64, piece: &[u8]) -> Result<Flow, u32> {
     Ok(flow)
 }
 
-pub fn open(list: &Result<Automaton, u32>, record: &mut Vec<u8>) -> u32 {
+/// Refusal and pairs.
+pub fn open(list: &Result<Automaton, u32>, record: &mut Vec<u8>, words: &mut [u32]) -> (u32, u64) {
     let automaton = match list {
         Ok(automaton) => automaton,
-        Err(refusal) => return *refusal,
+        Err(refusal) => return (*refusal, 0),
     };
     if record.len() != FLOW_SIZE {
-        return 4;
+        return (4, 0);
+    }
+    let due = automaton.accepted(&automaton.starts);
+    if due.len() > words.len() / 2 {
+        return (15, 0);
+    }
+    for (signature, pair) in due.iter().zip(words.chunks_mut(2)) {
+        pair.copy_from_slice(&[u32::from(*signature), 0]);
     }
     *record = Flow { frontier: automaton.starts.clone(), offset: 0, rows: 0 }.write();
-    0
+    (0, due.len() as u64)
 }
 
 // The split table.

@@ -27,7 +27,7 @@ enum Entry {
 
 const ENTRIES: [(Entry, &str, &[u32]); 5] = [
     (Entry::CheckList, "list check", &[0, 1, 2, 3]),
-    (Entry::Open, "opening", &[0, 1, 2, 3, 4]),
+    (Entry::Open, "opening", &[0, 1, 2, 3, 4, 15]),
     (Entry::Feed, "plain feed", &[0, 1, 2, 3, 4, 5, 6]),
     (Entry::CheckTable, "table check", &[0, 1, 2, 3, 7, 8, 9, 10, 11, 12, 13]),
     (Entry::SplitFeed, "split feed", &[0, 1, 2, 3, 4, 5, 6, 7, 8, 14]),
@@ -167,19 +167,47 @@ impl<'d> Case<'d> {
         } else if self.record.len() != FLOW_SIZE {
             self.record = (0..FLOW_SIZE).map(|_| self.dice.byte()).collect();
         }
-        let side = self.side();
+        // As many words as the pairs of offset 0 need, one or two less or more, or any number.
+        let needed = self.automaton.as_ref().map_or(0, |read| 2 * read.accepted(&read.starts).len());
+        let count = match self.dice.below(4) {
+            0 => builders::words(self.dice),
+            _ => (needed + self.dice.below(5)).saturating_sub(2),
+        };
+        let words: Vec<u32> = (0..count).map(|_| self.dice.next() as u32).collect();
+        let (side, words_side) = (self.side(), self.words_side());
         let mut buffer = between(&self.record, side);
-        let length = self.record.len();
-        let expected = ordinary::open(&self.automaton, &mut self.record);
-        let got =
-            unsafe { raw::watch_open(self.list.as_ptr(), self.list.len(), buffer[BESIDE..].as_mut_ptr(), length) };
-        assert_eq!(got, expected, "opening {:?}", self.list);
+        let mut words_buffer = between(&words, words_side);
+        let (length, mut words_left) = (self.record.len(), words.clone());
+        let (refusal, pairs) = ordinary::open(&self.automaton, &mut self.record, &mut words_left);
+        let got = unsafe {
+            raw::watch_open(
+                self.list.as_ptr(),
+                self.list.len(),
+                buffer[BESIDE..].as_mut_ptr(),
+                length,
+                words_buffer[BESIDE..].as_mut_ptr(),
+                count,
+            )
+        };
+        assert_eq!(got, raw::WatchOpened { pairs, refusal }, "opening {:?} with {count} words", self.list);
         assert_eq!(buffer, between(&self.record, side));
-        self.own = expected == 0;
-        if let (true, Ok(list)) = (self.own, List::check(&self.list)) {
-            assert_eq!(Flow::open(&list).as_bytes()[..], self.record);
+        assert_eq!(words_buffer, between(&words_left, words_side));
+        if count >= ENOUGH_WORDS {
+            assert_ne!(refusal, 15, "room for a pair of each signature");
         }
-        tally.add(Entry::Open, expected);
+        if let (0 | 15, Ok(list)) = (refusal, List::check(&self.list)) {
+            let mut words = words;
+            match Flow::open(&list, &mut words) {
+                Ok(opened) => {
+                    assert_eq!((opened.flow.as_bytes()[..].to_vec(), opened.pairs as u64), (self.record.clone(), pairs))
+                }
+                Err(refused) => assert_eq!(refused.number(), refusal),
+            }
+            assert_eq!(words, words_left);
+        }
+        // A record that was opened before and is refused now stays one of this list.
+        self.own = refusal == 0 || self.own && refusal == 15;
+        tally.add(Entry::Open, refusal);
     }
 
     fn check_table(&mut self, tally: &mut Tally) {

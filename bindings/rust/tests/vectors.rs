@@ -96,8 +96,17 @@ impl State {
                 (refusal, format!("c {refusal}"))
             }
             'o' => {
-                let refusal = unsafe { raw::watch_open(l, n, self.record.as_mut_ptr(), self.record.len()) };
-                (refusal, format!("o {refusal} {}", digest(self.record.iter().copied())))
+                let mut words: Box<[u32]> = (0..reader.u32()).map(|i| WORD_FILL + i).collect();
+                let (record, length) = (self.record.as_mut_ptr(), self.record.len());
+                let opened = unsafe { raw::watch_open(l, n, record, length, words.as_mut_ptr(), words.len()) };
+                let line = format!(
+                    "o {} {} {} {}",
+                    opened.refusal,
+                    opened.pairs,
+                    digest(words.iter().flat_map(|word| word.to_le_bytes())),
+                    digest(self.record.iter().copied())
+                );
+                (opened.refusal, line)
             }
             'f' => {
                 let start = reader.u64();

@@ -1,5 +1,5 @@
-//! Feeds of whole pieces: `feed_all` and `split_feed_all` tell what one feed with room for all pairs tells, in the same order, and
-//! leave the same record, however often they pause.
+//! Openings and feeds of whole pieces: `open_all`, `feed_all` and `split_feed_all` tell what one call with room for all pairs tells, in
+//! the same order, and leave the same record, however often they pause.
 
 mod builders;
 mod dice;
@@ -26,13 +26,29 @@ fn loud() -> Vec<u8> {
 fn a_pause_after_every_byte() {
     let bytes = loud();
     let list = List::check(&bytes).unwrap();
-    let mut flow = Flow::open(&list);
     let mut told = Vec::new();
+    let mut flow = Flow::open_all(&list, |pair| told.push(pair));
     let fed = flow.feed_all(&list, 0, b"moo", |pair| told.push(pair)).unwrap();
     assert_eq!((fed.bytes, fed.pairs), (3, 3 * SIGNATURES));
-    let due = (1..=3).flat_map(|offset| (0..SIGNATURES as u32).map(move |signature| Pair { signature, offset }));
+    let due = (0..=3).flat_map(|offset| (0..SIGNATURES as u32).map(move |signature| Pair { signature, offset }));
     assert!(told.into_iter().eq(due));
     assert_eq!((flow.offset(), flow.rows_read()), (3, 3));
+}
+
+#[test]
+fn all_signatures_at_opening() {
+    let bytes = loud();
+    let list = List::check(&bytes).unwrap();
+    let mut words = [u32::MAX; ENOUGH_WORDS + 1];
+    assert_eq!(Flow::open(&list, &mut words[..ENOUGH_WORDS - 1]), Err(Refusal::NoRoom));
+    assert_eq!(words, [u32::MAX; ENOUGH_WORDS + 1]);
+    let opened = Flow::open(&list, &mut words).unwrap();
+    assert_eq!((opened.pairs, words[ENOUGH_WORDS]), (SIGNATURES, u32::MAX));
+    assert!(opened.told(&words).eq((0..SIGNATURES as u32).map(|signature| Pair { signature, offset: 0 })));
+    // One signature less is needed, and told, where the list has one accept record less.
+    let fewer = List::check(&bytes[..bytes.len() - RECORD_SIZE]).unwrap();
+    let opened = Flow::open(&fewer, &mut words[..ENOUGH_WORDS - 1]).unwrap();
+    assert_eq!(opened.pairs, SIGNATURES - 1);
 }
 
 #[test]
@@ -48,7 +64,7 @@ fn a_halt_after_pauses() {
     let splits = [&set[..], &[0, 0, 255, 255, 255, 255, 255, 255]].concat();
     let lists = TableLists { classes: &classes, parts: &set, rows: &rows, splits: &splits };
     let table = Table::unchecked(&list, 1, lists);
-    let mut flow = Flow::open(&list);
+    let mut flow = Flow::open_all(&list, |_| ());
     let mut told = Vec::new();
     let halted = flow.split_feed_all(&table, 0, b"moo!moo", |pair| told.push(pair)).unwrap_err();
     assert_eq!((halted.refusal(), halted.bytes(), halted.pairs()), (Refusal::NoSplit, 4, 3 * SIGNATURES));
@@ -66,7 +82,7 @@ fn a_refusal_tells_and_changes_nothing() {
         assert_eq!(flow, Flow::from_bytes(record));
         refusal
     };
-    let opened = Flow::open(&list).into_bytes();
+    let opened = Flow::open_all(&list, |_| ()).into_bytes();
     assert_eq!(refused(opened, 1, b"m"), Refusal::OtherStart);
     assert_eq!(refused(opened, u64::MAX, b"moo"), Refusal::OtherStart);
     let mut late = opened;
@@ -81,10 +97,10 @@ fn a_refusal_tells_and_changes_nothing() {
 fn an_empty_piece_is_taken_whole() {
     let bytes = loud();
     let list = List::check(&bytes).unwrap();
-    let mut flow = Flow::open(&list);
+    let mut flow = Flow::open_all(&list, |_| ());
     let fed = flow.feed_all(&list, 0, b"", |pair| panic!("{pair} is told")).unwrap();
     assert_eq!((fed.bytes, fed.pairs), (0, 0));
-    assert_eq!(flow, Flow::open(&list));
+    assert_eq!(flow, Flow::open_all(&list, |_| ()));
 }
 
 /// What a feed told and answered: its pairs, and the refusal, bytes and pairs that it answers.
@@ -156,7 +172,10 @@ fn whole_pieces_are_told_as_by_one_feed_with_room() {
             TableLists { classes: &lists.classes, parts: &lists.parts, rows: &lists.rows, splits: &lists.splits };
         let table = Table::unchecked(&list, lists.bound, table);
         for table in [None, Some(&table)] {
-            let mut flow = Flow::open(&list);
+            let (mut words, mut first) = ([0; ENOUGH_WORDS], Vec::new());
+            let opened = Flow::open(&list, &mut words).unwrap();
+            let mut flow = Flow::open_all(&list, |pair| first.push(pair));
+            assert!(opened.flow == flow && opened.told(&words).eq(first));
             for _ in 0..4 {
                 let piece = builders::piece(&mut dice);
                 let start = u64::from(flow.offset()) + u64::from(dice.once_in(20));

@@ -11,11 +11,12 @@ use lib.Seq.{take-all, take-append-seam, length-take-le, getD-take, getD-append-
 use lib.Dec.{eqb, ltb}
 use borrow.Author.Tests.{lt-ltb, ltb-true}
 use Rattle.io.specs.Digits.{digits, glyph}
+use Rattle.lists.specs.List.{listRefusal}
 use Rattle.plain.specs.Plain.{pairsOf}
 use Rattle.app.specs.Text.{places, decimal, line, lines, endWord, refusedWord, lastLine}
 use Rattle.app.specs.App.{texts, handed, joined}
 use Rattle.app.proofs.Handed.{handed-front}
-use Rattle.app.proofs.Output.{linesOf, undisturbed, joined-append, output}
+use Rattle.app.proofs.Output.{linesOf, linesDue, undisturbed, joined-append, output}
 
 -- P holds of each element
 abbrev Each : (ℕ → Type 0) → List ℕ → Type 0
@@ -61,6 +62,13 @@ lines-small ws (suc n) =
     (each-append P (decimal g ++ (32 ∷ []) ++ decimal k) (10 ∷ [])
     (each-append P (decimal g ++ (32 ∷ [])) (decimal k) (each-append P (decimal g) (32 ∷ []) (d g) (each-more P 32 [] (omega arith) (each-none P))) (d k))
     (each-more P 10 [] (omega arith) (each-none P)))
+
+due-small : (L bs : List ℕ) → Each (λ x. x < 97) (linesDue L bs)
+due-small L bs = go (eqb (listRefusal L) 0)
+  where
+    go : (b : Bool) → Each (λ x. x < 97) (cond b (linesOf (pairsOf L bs)) [])
+    go true = lines-small _ _
+    go false = each-none (λ x. x < 97)
 
 -- no line feed, and then one: so is the last line
 record Closed (xs : List ℕ) : Type 0 where
@@ -143,5 +151,5 @@ nothing-lost L B answers m i l g e =
     let w = arrives L B answers m in
     let o = output L B in
     sym w
-    ∙ rw o (front-whole (linesOf (pairsOf L (take (u .bytes) B))) (lastLine (u .refusal) (u .bytes)) (lines-small _ _) (last-closed (u .refusal) (u .bytes))
+    ∙ rw o (front-whole (linesDue L (take (u .bytes) B)) (lastLine (u .refusal) (u .bytes)) (due-small L (take (u .bytes) B)) (last-closed (u .refusal) (u .bytes))
     (length (take m (joined (handed (texts L B) answers)))) i (rw (← w, o) at l) (rw (← w, o) at g) (rw (← w, o) at e))

@@ -1,4 +1,4 @@
--- What one turn gives the program's loop: its pairs fit the words, and a turn that is not the last moves the flow. Assumes nothing.
+-- What one turn gives the program's loop: its pairs fit the words, and a turn that is not the last moves the flow; so of the opening. Assumes nothing.
 use Prim.Native.Nat.{ℕ, _+_, _*_, _≤_, _<_}
 use mathlib.Core.Path.{_≡_, refl, sym, ap, _∙_}
 use mathlib.Core.Bool.{Bool, true, false, cond, true≢false}
@@ -13,10 +13,13 @@ use Rattle.flows.specs.Flow.{flowLayout, feedRules}
 use Rattle.feeds.specs.Fed.{Answers}
 use Rattle.feeds.specs.declared.Fed.{Fed}
 use Rattle.feeds.proofs.Moves.{feed-fits}
-use Rattle.plain.specs.Plain.{plain, plainFeed}
+use Rattle.feeds.specs.Opening.{Opening, Opens}
+use Rattle.feeds.specs.declared.Opened.{Opened}
+use Rattle.plain.specs.Plain.{plain, openFlow, plainFeed}
+use Rattle.plain.proofs.Opening.{opened-fits}
 use Rattle.plain.proofs.Progress.{progress}
 use Rattle.app.specs.Text.{lines, lastLine}
-use Rattle.app.specs.App.{Turn, lastTurn, turnOf, noWords, Says}
+use Rattle.app.specs.App.{Turn, lastTurn, openTurn, turnOf, noWords, Says}
 
 pub pairs-fit : (L R : List ℕ) (at : ℕ) (piece out : List ℕ) (f : Fed) (ws sv : List ℕ) → Answers (plainFeed L R at piece out) f ws sv → 2 * f .pairs ≤ length out
 pairs-fit L R at piece out f ws sv a = omega (arith, a .pairs, feed-fits (plain L) flowLayout R (feedRules L R at piece) piece out)
@@ -74,3 +77,31 @@ module _ (L R : List ℕ) (at : ℕ) (rest : List ℕ) where
     says-lines z e =
         rw (turn-by false true (ne-eqb (length rest) 0 some) (eq-eqb (o .refusal) 0 (sym (a .refusal) ∙ z)))
         (record { last = refl; bytes = a .bytes; counts = c; text = rw (a .words, a .pairs) at e; saved = a .saved })
+
+-- ---- the opening
+
+module _ (L R : List ℕ) where
+  abbrev p : Opening
+  p = openFlow L R noWords
+
+  abbrev pub openBy : Bool → Turn
+  openBy z = cond z (record { last = false; bytes = 0; text = lines (p .words) (p .pairs); saved = p .saved }) (lastTurn (p .refusal) 0 (p .saved))
+
+  pub open-by : (z : Bool) → eqb (p .refusal) 0 ≡ z → openTurn L R ≡ openBy z
+  unfolding openTurn
+  open-by z q = ap openBy q
+
+  module _ (f : Opened) (ws sv : List ℕ) (a : Opens p f ws sv) where
+    pub open-pairs-fit : 2 * f .pairs ≤ length noWords
+    open-pairs-fit = omega (arith, a .pairs, opened-fits L R noWords)
+
+    module _ (n : ℕ) (buffer : List ℕ) (c : Counts n buffer) where
+      pub says-unopened : (f .refusal ≡ 0 → ⊥) → take n buffer ≡ lastLine (f .refusal) 0 → Says (openTurn L R) (record { last = true; bytes = 0; length = n }) buffer sv
+      says-unopened z e =
+          rw (open-by false (ne-eqb (p .refusal) 0 (λ y. z (a .refusal ∙ y))))
+          (record { last = refl; bytes = refl; counts = c; text = rw (a .refusal) at e; saved = a .saved })
+
+      pub says-opened : f .refusal ≡ 0 → take n buffer ≡ lines ws (f .pairs) → Says (openTurn L R) (record { last = false; bytes = 0; length = n }) buffer sv
+      says-opened z e =
+          rw (open-by true (eq-eqb (p .refusal) 0 (sym (a .refusal) ∙ z)))
+          (record { last = refl; bytes = refl; counts = c; text = rw (a .words, a .pairs) at e; saved = a .saved })

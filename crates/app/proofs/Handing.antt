@@ -9,16 +9,12 @@ use native.Mathlib.Decide.{decLt}
 use native.Mathlib.Numerals.{add-one}
 use lib.ListN.{length, take, drop, getD, length-append, length-take, length-drop, drop-of-length-le}
 use lib.Seq.{take-all, take-length, drop-drop}
-use lib.Dec.{eqb}
-use borrow.Author.Tests.{eq-eqb, ne-eqb}
 use Rattle.sets.proofs.Laws.{drop-take}
 use Rattle.feeds.proofs.Runs.{length-take-most}
-use Rattle.plain.specs.Plain.{opened, openRefusal}
-use Rattle.plain.specs.Opens.{Opens}
 use Rattle.app.specs.declared.Said.{Said}
 use Rattle.app.specs.declared.Taken.{Taken}
-use Rattle.app.specs.Text.{lastLine, Puts}
-use Rattle.app.specs.App.{pieceSize, noRecord, Turn, turnOf, restAt, textsFrom, texts, handed, joined, isCut, Says, Held, Takes, Logs}
+use Rattle.app.specs.Text.{Puts}
+use Rattle.app.specs.App.{pieceSize, noRecord, Turn, openTurn, turnOf, restAt, textsFrom, texts, handed, joined, isCut, Says, Held, Takes, Logs}
 use Rattle.app.proofs.Texts.{puts-none, puts-after, puts-whole, puts-front}
 use Rattle.app.proofs.Feeding.{turn-moves}
 
@@ -79,12 +75,12 @@ handed-at t ts [] (suc i) = refl
 handed-at t ts (a ∷ answers) zero = refl
 handed-at t ts (a ∷ answers) (suc i) = handed-at t ts answers i
 
--- ---- the loop of a run from the record R₀ on, with the log log₀ at its start
+-- ---- the loop of a run from the record R₀ on, where one text was handed over and the log log₀ ends at `begun`
 
-module _ (L B answers R₀ log₀ : List ℕ) where
+module _ (L B answers R₀ log₀ : List ℕ) (begun : ℕ) where
   -- all that is handed over
   abbrev pub allHanded : List ℕ
-  allHanded = joined (handed (textsFrom (suc (length B)) L B R₀ 0) answers)
+  allHanded = joined (handed (textsFrom (suc (length B)) L B R₀ 0) (drop 1 answers))
 
   -- at an offset with the record R, and i texts taken: `sofar` is handed over and logged, and ahead are the texts from there on
   pub record Running (R log : List ℕ) (at i end : ℕ) : Type 0 where
@@ -92,16 +88,17 @@ module _ (L B answers R₀ log₀ : List ℕ) where
     pub turns : ℕ
     pub within : at ≤ length B
     pub enough : length B ≤ turns + at
-    pub logged : Puts (length sofar) sofar log₀ 0 end log
+    pub logged : Puts (length sofar) sofar log₀ begun end log
     pub ahead : allHanded ≡ sofar ++ joined (handed (textsFrom (suc turns) L B R at) (drop i answers))
 
   -- before the first turn
-  pub running : Running R₀ log₀ 0 0 0
-  running =
-      record { sofar = []; turns = length B; within = omega arith; enough = omega arith; logged = puts-none log₀ 0 (omega arith); ahead = refl }
+  pub running : begun ≤ length log₀ → Running R₀ log₀ 0 1 begun
+  running l =
+      let q = puts-none log₀ begun l in
+      record { sofar = []; turns = length B; within = omega arith; enough = omega arith; logged = (omega arith, q .1, q .2, q .3); ahead = refl }
 
   -- a turn
-  module _ (fits : length allHanded ≤ length log₀) (R log : List ℕ) (at i end : ℕ) (r : Running R log at i end)
+  module _ (fits : begun + length allHanded ≤ length log₀) (R log : List ℕ) (at i end : ℕ) (r : Running R log at i end)
       (rest : List ℕ) (held : rest ≡ restAt B at) (s : Said) (buffer sv : List ℕ) (says : Says (turnOf L R at rest) s buffer sv) where
     abbrev t : Turn
     t = turnOf L R at (restAt B at)
@@ -132,16 +129,16 @@ module _ (L B answers R₀ log₀ : List ℕ) where
     text-fits = omega (arith, fits, long, length-append (r .sofar) text, r .logged .0, r .logged .3)
 
     module _ (k : Taken) (left : List ℕ) (takes : Takes text answers i log end k left) where
-      more : Puts (length (r .sofar ++ text)) (r .sofar ++ text) log₀ 0 (k .end) left
+      more : Puts (length (r .sofar ++ text)) (r .sofar ++ text) log₀ begun (k .end) left
       more =
           puts-whole _ _ _ _ _ _
-          (puts-after (length (r .sofar)) (length text) (r .sofar) text log₀ 0 end log (k .end) left (omega (arith, text-fits, r .logged .0, r .logged .3)) (r .logged) (takes .puts))
+          (puts-after (length (r .sofar)) (length text) (r .sofar) text log₀ begun end log (k .end) left (omega (arith, text-fits, r .logged .0, r .logged .3)) (r .logged) (takes .puts))
 
-      over : joined (behind (isCut (getD answers i 0)) (t .last)) ≡ [] → Puts (length allHanded) allHanded log₀ 0 (k .end) left
+      over : joined (behind (isCut (getD answers i 0)) (t .last)) ≡ [] → Puts (length allHanded) allHanded log₀ begun (k .end) left
       over e = let w : allHanded ≡ r .sofar ++ text = split ∙ rw e (append-nil (r .sofar ++ text)) in rw w more
 
       -- the last text: that was all
-      pub over-last : s .last ≡ true → Puts (length allHanded) allHanded log₀ 0 (k .end) left
+      pub over-last : s .last ≡ true → Puts (length allHanded) allHanded log₀ begun (k .end) left
       unfolding joined handed
       over-last z = over (rw (sym (said .last) ∙ z) (go (isCut (getD answers i 0))))
         where
@@ -150,7 +147,7 @@ module _ (L B answers R₀ log₀ : List ℕ) where
           go false = refl
 
       -- cut: that was all
-      pub over-cut : k .cut ≡ true → Puts (length allHanded) allHanded log₀ 0 (k .end) left
+      pub over-cut : k .cut ≡ true → Puts (length allHanded) allHanded log₀ begun (k .end) left
       unfolding joined
       over-cut z = over (rw (sym (takes .cut) ∙ z))
 
@@ -169,24 +166,58 @@ module _ (L B answers R₀ log₀ : List ℕ) where
             ahead = split ∙ rw (sym (said .last) ∙ y, sym (takes .cut) ∙ z, e, said .saved, b, add-one i);
           }
 
--- ---- a run whose list is refused: one text
+-- ---- the opening, whose text is the first
 
--- with room for it, the last line alone
-pub refused-logs : (L B answers log : List ℕ) (n : ℕ) (text : List ℕ) (k : Taken) (left : List ℕ) → n ≡ openRefusal L noRecord → (n ≡ 0 → ⊥)
-    → text ≡ lastLine n 0 → (0 + length text ≤ length log → Takes text answers 0 log 0 k left) → Logs (handed (texts L B) answers) log (k .end) left
-unfolding texts joined handed
-refused-logs L B answers log n text k left e z h takes =
-    rw (← e, ne-eqb n 0 z, handed-at (lastLine n 0) [] answers 0, go (isCut (getD answers 0 0)), append-nil (lastLine n 0), ← h) (λ l. takes (omega (arith, l)) .puts)
-  where
-    go : (b : Bool) → cond b [] (handed [] (drop 1 answers)) ≡ []
-    go true = refl
-    go false = refl
+module _ (L B answers log : List ℕ) (s : Said) (buffer Q : List ℕ) (says : Says (openTurn L noRecord) s buffer Q)
+    (k : Taken) (left : List ℕ) (takes : 0 + length (take (s .length) buffer) ≤ length log → Takes (take (s .length) buffer) answers 0 log 0 k left) where
+  abbrev first : List ℕ
+  first = take (s .length) buffer
 
--- and one whose list is taken
-pub opened-logs : (L B answers log Q : List ℕ) (n end : ℕ) (left : List ℕ) → Opens L noRecord n Q → n ≡ 0
-    → Logs (handed (textsFrom (suc (length B)) L B Q 0) answers) log end left → Logs (handed (texts L B) answers) log end left
-unfolding texts
-opened-logs L B answers log Q n end left o z h =
-    let e : eqb (openRefusal L noRecord) 0 ≡ true = eq-eqb (openRefusal L noRecord) 0 (sym (o .refusal) ∙ z) in
-    let q : Q ≡ opened L = o .saved ∙ rw e in
-    rw e (rw q at h)
+  -- the texts behind it that are handed over
+  abbrev later : Bool → Bool → List (List ℕ)
+  later cut last = cond cut [] (handed (cond last [] (textsFrom (suc (length B)) L B Q 0)) (drop 1 answers))
+
+  begun-split : joined (handed (texts L B) answers) ≡ first ++ joined (later (isCut (getD answers 0 0)) (s .last))
+  unfolding texts joined
+  begun-split =
+      ap joined (handed-at (t .text) (cond (t .last) [] (textsFrom (suc (length B)) L B (t .saved) 0)) answers 0)
+      ∙ rw (says .text, says .last, says .saved)
+    where
+      t : Turn
+      t = openTurn L noRecord
+
+  begun-long : length (joined (handed (texts L B) answers)) ≡ length first + length (joined (later (isCut (getD answers 0 0)) (s .last)))
+  begun-long = ap length begun-split ∙ length-append first (joined (later (isCut (getD answers 0 0)) (s .last)))
+
+  begun-takes : 0 + length (joined (handed (texts L B) answers)) ≤ length log → Takes first answers 0 log 0 k left
+  begun-takes l = takes (omega (arith, l, begun-long))
+
+  begun-over : 0 + length (joined (handed (texts L B) answers)) ≤ length log → joined (later (isCut (getD answers 0 0)) (s .last)) ≡ []
+      → Puts (length (joined (handed (texts L B) answers))) (joined (handed (texts L B) answers)) log 0 (k .end) left
+  begun-over l e =
+      let w : joined (handed (texts L B) answers) ≡ first = begun-split ∙ rw e (append-nil first) in
+      rw w (begun-takes l .puts)
+
+  -- the list is refused, or the text is cut: that was all
+  pub begun-last : s .last ≡ true → Logs 0 (handed (texts L B) answers) log (k .end) left
+  unfolding joined handed
+  begun-last z l = begun-over l (rw z (go (isCut (getD answers 0 0))))
+    where
+      go : (b : Bool) → joined (later b true) ≡ []
+      go true = refl
+      go false = refl
+
+  pub begun-cut : k .cut ≡ true → Logs 0 (handed (texts L B) answers) log (k .end) left
+  unfolding joined
+  begun-cut z l = begun-over l (rw (sym (begun-takes l .cut) ∙ z))
+
+  -- else the loop's texts follow
+  pub begun-then : s .last ≡ false → k .cut ≡ false → (end : ℕ) (after : List ℕ)
+      → Logs (k .end) (handed (textsFrom (suc (length B)) L B Q 0) (drop 1 answers)) left end after → Logs 0 (handed (texts L B) answers) log end after
+  begun-then y z end after h l =
+      let t = begun-takes l in
+      let rest = joined (handed (textsFrom (suc (length B)) L B Q 0) (drop 1 answers)) in
+      let w : joined (handed (texts L B) answers) ≡ first ++ rest = begun-split ∙ rw (y, sym (t .cut) ∙ z) in
+      let n : length (joined (handed (texts L B) answers)) ≡ length first + length rest = ap length w ∙ length-append first rest in
+      let q = h (omega (arith, l, n, t .puts .0, t .puts .3)) in
+      rw w (puts-whole _ _ _ _ _ _ (puts-after (length first) (length rest) first rest log 0 (k .end) left end after (omega (arith, l, n)) (t .puts) q))

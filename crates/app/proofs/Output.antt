@@ -4,23 +4,30 @@ use mathlib.Core.Path.{_≡_, refl, sym, ap, _∙_}
 use mathlib.Core.Bool.{Bool, true, false, cond}
 use mathlib.Core.List.{List, [], _∷_, _++_, append-nil, append-assoc}
 use native.Mathlib.Omega.{arith}
+use native.Mathlib.Decide.{ℕ-discrete}
 use lib.ListN.{length, take, drop, getD, length-append, length-take, length-drop, List·getD-append}
 use lib.Seq.{take-take, take-add, drop-drop, getD-append-add}
-use lib.Dec.{eqb}
-use borrow.Author.Tests.{eqb-true, eqb-false}
+use lib.Dec.{eqb, lit<}
+use borrow.Author.Tests.{eqb-true, eqb-false, eq-eqb, ne-eqb}
 use Rattle.sets.specs.Set.{states}
+use Rattle.rules.proofs.Rules.{last, verdict-then, verdict-refused, verdict-lt}
+use Rattle.lists.specs.List.{listRules, listRefusal}
 use Rattle.lists.specs.Automaton.{start}
 use Rattle.lists.proofs.Steps.{start-lt, step-lt}
 use Rattle.feeds.specs.Engine.{Outcome, run, told, consumed, room, ended}
 use Rattle.feeds.proofs.Runs.{take-front, length-take-most, run-append, told-append, told-length}
 use Rattle.feeds.proofs.Moves.{feed-ends, no-refusal}
-use Rattle.flows.specs.Flow.{flowLayout, frontierOf, offsetOf, feedRules}
+use Rattle.feeds.specs.Opening.{Opening}
+use Rattle.feeds.proofs.Opening.{opens, opening-refusal}
+use Rattle.flows.specs.Flow.{flowLayout, frontierOf, offsetOf, wrongSize, feedRules}
 use Rattle.flows.proofs.Records.{frontier-flow, offset-flow}
-use Rattle.plain.specs.Plain.{plain, opened, openRefusal, pairsOf, plainFeed}
+use Rattle.plain.specs.Plain.{plain, openPairs, openRules, opened, openFlow, pairsOf, plainFeed}
+use Rattle.plain.proofs.Plain.{plain-refusal}
+use Rattle.plain.proofs.Opening.{openPairs-long, room-suffices}
 use Rattle.plain.proofs.Progress.{progress}
 use Rattle.app.specs.Text.{line, lines, lastLine}
 use Rattle.app.specs.App.{pieceSize, noWords, noRecord, turnOf, restAt, textsFrom, texts, handed, joined}
-use Rattle.app.proofs.Feeding.{turn-by}
+use Rattle.app.proofs.Feeding.{turn-by, open-by}
 use Rattle.app.proofs.Handed.{handed-all}
 
 -- ---- lines
@@ -142,13 +149,15 @@ module _ (L B : List ℕ) where
     pub within : at + bytes ≤ length B
     -- without a refusal all is consumed
     pub all : refusal ≡ 0 → at + bytes ≡ length B
+    -- a refusal is one of 1 to 6
+    pub known : refusal < 7
 
   -- nothing is fed: the last line alone
-  ends-now : (at refusal : ℕ) → at ≤ length B → (refusal ≡ 0 → at ≡ length B) → Ends at (lastLine refusal at ∷ [])
+  ends-now : (at refusal : ℕ) → at ≤ length B → (refusal ≡ 0 → at ≡ length B) → refusal < 7 → Ends at (lastLine refusal at ∷ [])
   unfolding told joined lines
-  ends-now at refusal l h =
+  ends-now at refusal l h k =
       let z : at + 0 ≡ at = omega arith in
-      record { before = []; refusal = refusal; bytes = 0; last = rw z; told-before = refl; within = omega (arith, l); all = λ e. z ∙ h e }
+      record { before = []; refusal = refusal; bytes = 0; last = rw z; told-before = refl; within = omega (arith, l); all = λ e. z ∙ h e; known = k }
 
   -- one feed, and the texts behind it
   ends-then : (at n : ℕ) (t : List ℕ) (ts : List (List ℕ)) → n ≤ length B - at → at ≤ length B → t ≡ linesOf (toldFrom at n) → Ends (at + n) ts → Ends at (t ∷ ts)
@@ -163,7 +172,12 @@ module _ (L B : List ℕ) where
         told-before = rw (e, r .told-before) (sym (told-more at n (r .bytes) l));
         within = rw a (r .within);
         all = λ z. a ∙ r .all z;
+        known = r .known;
       }
+
+  -- the plain feed refuses by its rules alone, which have the numbers 1 to 6
+  feed-known : (R : List ℕ) (at : ℕ) → plainFeed L R at (restAt B at) noWords .refusal < 7
+  feed-known R at = rw (plain-refusal L R at (restAt B at) noWords) (verdict-lt 7 (feedRules L R at (restAt B at)) (lit< tt) refl)
 
   -- a turn, where the texts behind it end so
   ends-turn : (ts : List ℕ → ℕ → List (List ℕ)) (R : List ℕ) (at : ℕ) (f : frontierOf R ≡ frontierAt at) (k : offsetOf R ≡ at) → at ≤ length B
@@ -173,8 +187,8 @@ module _ (L B : List ℕ) where
     where
       go : (e z : Bool) → eqb (length (restAt B at)) 0 ≡ e → eqb (o R at f k .refusal) 0 ≡ z
           → let t = turnOf L R at (restAt B at) in Ends at (t .text ∷ cond (t .last) [] (ts (t .saved) (at + t .bytes)))
-      go true z p q = rw (turn-by L R at (restAt B at) true z p q) (ends-now at 0 l (λ e. omega (arith, l, rest-none B at (eqb-true _ 0 p))))
-      go false false p q = rw (turn-by L R at (restAt B at) false false p q) (ends-now at _ l (λ e. absurd (eqb-false _ 0 q e)))
+      go true z p q = rw (turn-by L R at (restAt B at) true z p q) (ends-now at 0 l (λ e. omega (arith, l, rest-none B at (eqb-true _ 0 p))) (omega arith))
+      go false false p q = rw (turn-by L R at (restAt B at) false false p q) (ends-now at _ l (λ e. absurd (eqb-false _ 0 q e)) (feed-known R at))
       go false true p q =
           let d = feeds R at f k (eqb-true _ 0 q) in
           let g = progress L R at (restAt B at) noWords (eqb-true _ 0 q) in
@@ -188,16 +202,51 @@ module _ (L B : List ℕ) where
   ends-from zero R at f k l m = ends-turn (λ Q i. []) R at f k l (λ Q i f′ k′ l′ h. absurd (omega (arith, m, l′, h)))
   ends-from (suc n) R at f k l m = ends-turn (λ Q i. textsFrom (suc n) L B Q i) R at f k l (λ Q i f′ k′ l′ h. ends-from n Q i f′ k′ l′ (omega (arith, m, h)))
 
-  ends : Ends 0 (texts L B)
-  unfolding texts run
-  ends = go (eqb (openRefusal L noRecord) 0) refl
-    where
-      go : (b : Bool) → eqb (openRefusal L noRecord) 0 ≡ b
-          → Ends 0 (cond b (textsFrom (suc (length B)) L B (opened L) 0) (lastLine (openRefusal L noRecord) 0 ∷ []))
-      go true e = ends-from (length B) (opened L) 0 (frontier-flow (start L) 0 0 (start-lt L)) (offset-flow (start L) 0 0 (omega arith)) (omega arith) (omega arith)
-      go false e = ends-now 0 (openRefusal L noRecord) (omega arith) (λ z. absurd (eqb-false (openRefusal L noRecord) 0 e z))
+  -- from an opened flow on
+  ends : Ends 0 (textsFrom (suc (length B)) L B (opened L) 0)
+  unfolding run
+  ends = ends-from (length B) (opened L) 0 (frontier-flow (start L) 0 0 (start-lt L)) (offset-flow (start L) 0 0 (omega arith)) (omega arith) (omega arith)
+
+-- ---- the opening
+
+module _ (L : List ℕ) where
+  abbrev p : Opening
+  p = openFlow L noRecord noWords
+
+  -- the record has the size of one, and there is room for every signature: so the list's check alone refuses, and 15 is never met
+  pub opens-listed : p .refusal ≡ listRefusal L
+  opens-listed =
+      room-suffices L noRecord noWords (omega arith)
+      ∙ elim (ℕ-discrete (listRefusal L) 0) [
+        | yes v ↦ verdict-then (listRules L) ((4, wrongSize noRecord) ∷ []) refl v ∙ last 4 refl ∙ sym v
+        | no v ↦ verdict-refused (listRules L) ((4, wrongSize noRecord) ∷ []) v
+      ]
+
+  -- it tells the lines of the pairs of offset 0, and leaves the opened record
+  module _ (z : listRefusal L ≡ 0) where
+    opens-so : p ≡ record { refusal = 0; pairs = length (openPairs L) / 2; words = openPairs L ++ drop (length (openPairs L)) noWords; saved = opened L }
+    opens-so =
+        opens (openRules L noRecord noWords) (openPairs L) (opened L) noRecord noWords
+        (sym (opening-refusal (openRules L noRecord noWords) (openPairs L) (opened L) noRecord noWords) ∙ opens-listed ∙ z)
+
+    opens-lines : lines (p .words) (p .pairs) ≡ linesOf (openPairs L)
+    opens-lines = rw opens-so (lines-front (openPairs L) (drop (length (openPairs L)) noWords) (length (openPairs L) / 2) (omega arith))
+
+    texts-opened : (B : List ℕ) → texts L B ≡ linesOf (openPairs L) ∷ textsFrom (suc (length B)) L B (opened L) 0
+    unfolding texts
+    texts-opened B =
+        rw (open-by L noRecord true (eq-eqb (p .refusal) 0 (opens-listed ∙ z)), opens-lines)
+        (ap (λ (o : Opening). linesOf (openPairs L) ∷ textsFrom (suc (length B)) L B (o .saved) 0) opens-so)
+
+  texts-refused : (listRefusal L ≡ 0 → ⊥) → (B : List ℕ) → texts L B ≡ lastLine (listRefusal L) 0 ∷ []
+  unfolding texts
+  texts-refused v B = rw (open-by L noRecord false (ne-eqb (p .refusal) 0 (λ z. v (sym opens-listed ∙ z))), opens-listed)
 
 -- ---- the whole run
+
+-- the lines of all pairs due in some bytes, from offset 0 on; none where the list is refused
+abbrev pub linesDue : List ℕ → List ℕ → List ℕ
+linesDue L bs = cond (eqb (listRefusal L) 0) (linesOf (pairsOf L bs)) []
 
 -- texts, and behind them the last line; the texts are the lines of the pairs due in the bytes consumed, and without a refusal all of the input is
 pub record Undisturbed (L B : List ℕ) : Type 0 where
@@ -205,24 +254,46 @@ pub record Undisturbed (L B : List ℕ) : Type 0 where
   pub refusal : ℕ
   pub bytes : ℕ
   pub texts-are : texts L B ≡ before ++ (lastLine refusal bytes ∷ [])
-  pub lines-are : joined before ≡ linesOf (pairsOf L (take bytes B))
+  pub lines-are : joined before ≡ linesDue L (take bytes B)
   pub within : bytes ≤ length B
   pub all : refusal ≡ 0 → bytes ≡ length B
+  -- a refusal is one of 1 to 6
+  pub known : refusal < 7
 
 pub undisturbed : (L B : List ℕ) → Undisturbed L B
-unfolding run
-undisturbed L B =
-    let e = ends L B in
-    let z : 0 + e .bytes ≡ e .bytes = omega arith in
-    record {
-      before = e .before;
-      refusal = e .refusal;
-      bytes = e .bytes;
-      texts-are = rw z at (e .last);
-      lines-are = e .told-before;
-      within = omega (arith, e .within);
-      all = λ y. omega (arith, e .all y);
-    }
+unfolding run joined
+undisturbed L B = elim (ℕ-discrete (listRefusal L) 0) [ yes z ↦ passed z | no v ↦ refused v ]
+  where
+    passed : listRefusal L ≡ 0 → Undisturbed L B
+    passed z =
+        let e = ends L B in
+        let q : 0 + e .bytes ≡ e .bytes = omega arith in
+        record {
+          before = linesOf (openPairs L) ∷ e .before;
+          refusal = e .refusal;
+          bytes = e .bytes;
+          texts-are = texts-opened L z B ∙ ap (λ (ts : List (List ℕ)). linesOf (openPairs L) ∷ ts) (rw q at (e .last));
+          lines-are =
+              rw (eq-eqb (listRefusal L) 0 z)
+              (ap (λ (xs : List ℕ). linesOf (openPairs L) ++ xs) (e .told-before)
+              ∙ sym (lines-of-append (openPairs L) (told (plain L) (start L) 0 (take (e .bytes) B)) _ (openPairs-long L)));
+          within = omega (arith, e .within);
+          all = λ y. omega (arith, e .all y);
+          known = e .known;
+        }
+
+    refused : (listRefusal L ≡ 0 → ⊥) → Undisturbed L B
+    refused v =
+        record {
+          before = [];
+          refusal = listRefusal L;
+          bytes = 0;
+          texts-are = texts-refused L v B;
+          lines-are = rw (ne-eqb (listRefusal L) 0 v);
+          within = omega arith;
+          all = λ y. absurd (v y);
+          known = verdict-lt 7 (listRules L) (lit< tt) refl;
+        }
 
 -- all texts one after the other
 pub joined-append : (ss ts : List (List ℕ)) → joined (ss ++ ts) ≡ joined ss ++ joined ts
@@ -230,7 +301,7 @@ unfolding joined
 joined-append [] ts = refl
 joined-append (s ∷ ss) ts = rw (joined-append ss ts) (sym (append-assoc s (joined ss) (joined ts)))
 
-pub output : (L B : List ℕ) → let u = undisturbed L B in joined (texts L B) ≡ linesOf (pairsOf L (take (u .bytes) B)) ++ lastLine (u .refusal) (u .bytes)
+pub output : (L B : List ℕ) → let u = undisturbed L B in joined (texts L B) ≡ linesDue L (take (u .bytes) B) ++ lastLine (u .refusal) (u .bytes)
 unfolding joined
 output L B =
     let u = undisturbed L B in
@@ -239,5 +310,5 @@ output L B =
 
 -- where the last text is handed over, nothing is missing
 pub last-line : (L B answers : List ℕ) → length (texts L B) ≤ length (handed (texts L B) answers)
-    → let u = undisturbed L B in joined (handed (texts L B) answers) ≡ linesOf (pairsOf L (take (u .bytes) B)) ++ lastLine (u .refusal) (u .bytes)
+    → let u = undisturbed L B in joined (handed (texts L B) answers) ≡ linesDue L (take (u .bytes) B) ++ lastLine (u .refusal) (u .bytes)
 last-line L B answers l = ap joined (handed-all (texts L B) answers l) ∙ output L B

@@ -7,7 +7,7 @@ use lib.ListN.{length, take, drop, getD, replicate}
 use lib.Dec.{eqb}
 use Rattle.io.specs.Counts.{Counts}
 use Rattle.flows.specs.Flow.{flowSize}
-use Rattle.plain.specs.Plain.{opened, openRefusal, plainFeed}
+use Rattle.plain.specs.Plain.{openFlow, plainFeed}
 use Rattle.app.specs.Text.{lineSize, lines, lastLine, Puts}
 use Rattle.app.specs.declared.Said.{Said}
 use Rattle.app.specs.declared.Taken.{Taken}
@@ -34,12 +34,18 @@ pub record Turn : Type 0 where
 abbrev pub lastTurn : ℕ → ℕ → List ℕ → Turn
 lastTurn refusal at R = record { last = true; bytes = 0; text = lastLine refusal at; saved = R }
 
--- the words and the record before any feed
+-- the words before an opening or a feed, and the record before the opening
 abbrev pub noWords : List ℕ
 noWords = replicate (2 * mostPairs) 0
 
 abbrev pub noRecord : List ℕ
 noRecord = replicate flowSize 0
+
+-- the opening, on the record R: the lines of the pairs of offset 0, or the last line where it is refused
+unfoldable pub openTurn : List ℕ → List ℕ → Turn
+openTurn L R =
+    let o = openFlow L R noWords in
+    cond (eqb (o .refusal) 0) (record { last = false; bytes = 0; text = lines (o .words) (o .pairs); saved = o .saved }) (lastTurn (o .refusal) 0 (o .saved))
 
 -- on the record R at an offset, with `rest` left of a piece: the last line where nothing is left or the feed is refused, else the lines of its pairs
 unfoldable pub turnOf : List ℕ → List ℕ → ℕ → List ℕ → Turn
@@ -61,11 +67,11 @@ textsFrom (suc n) L B R at =
     let t = turnOf L R at (restAt B at) in
     t .text ∷ cond (t .last) [] (textsFrom n L B (t .saved) (at + t .bytes))
 
--- the texts of a run: a turn but the last consumes a byte
+-- the texts of a run, the opening's first: a turn but the last consumes a byte
 unfoldable pub texts : List ℕ → List ℕ → List (List ℕ)
 texts L B =
-    let n = openRefusal L noRecord in
-    cond (eqb n 0) (textsFrom (suc (length B)) L B (opened L) 0) (lastLine n 0 ∷ [])
+    let t = openTurn L noRecord in
+    t .text ∷ cond (t .last) [] (textsFrom (suc (length B)) L B (t .saved) 0)
 
 -- ---- what is handed over
 
@@ -103,6 +109,6 @@ pub record Takes (text answers : List ℕ) (i : ℕ) (log : List ℕ) (end : ℕ
   pub cut : t .cut ≡ isCut (getD answers i 0)
   pub puts : Puts (length text) text log end (t .end) left
 
--- the texts, where there is room for them all, stand at the start of a log, which ends at `end`
-abbrev pub Logs : List (List ℕ) → List ℕ → ℕ → List ℕ → Type 0
-Logs ts log end left = length (joined ts) ≤ length log → Puts (length (joined ts)) (joined ts) log 0 end left
+-- the texts, where there is room for them all, stand at a place of a log, which ends at `end`
+abbrev pub Logs : ℕ → List (List ℕ) → List ℕ → ℕ → List ℕ → Type 0
+Logs at ts log end left = at + length (joined ts) ≤ length log → Puts (length (joined ts)) (joined ts) log at end left

@@ -9,7 +9,7 @@ ghost use mathlib.Core.List.{[], _∷_, _++_};
 ghost use lib.ListN.{length, take, drop, getD};
 ghost use Rattle.io.specs.Counts.{Counts};
 ghost use Rattle.app.specs.Text.{mostDigits, wordSize, lineSize, decimal, line, lines, lastLine, Puts};
-ghost use Rattle.app.specs.App.{textSize, pieceSize, turnOf, textsFrom, texts, handed, isCut, Says, Held, Takes, Logs};
+ghost use Rattle.app.specs.App.{textSize, pieceSize, openTurn, turnOf, textsFrom, texts, handed, isCut, Says, Held, Takes, Logs};
 
 // Words of the pairs buffer: room for 1,024 pairs, four times what one byte can tell.
 const PAIR_WORDS: usize = 2048;
@@ -108,6 +108,27 @@ fn put_last(text: &mut [u8], refusal: u32, offset: u64) -> usize
         return put_ending(text, b"refused ", refusal as u64);
     }
     put_ending(text, b"end ", offset)
+}
+
+// Opens the flow, and puts the lines of the pairs of offset 0; where it is refused, the last line.
+fn begin(list: &[u8], flow: &mut [u8], text: &mut [u8]) -> Said
+    requires { ⌜ textSize ≤ length (now text) ⌝ }
+    ensures { λ r. ⌜ Says (openTurn (now (list .entry)) (now (flow .entry))) r (now (text .exit)) (now (flow .exit)) ⌝ }
+{
+    let mut out = [0u32; PAIR_WORDS];
+    let opened = plain::open_flow(list, flow, &mut out);
+    if opened.refusal != rules::PASSED {
+        return Said {
+            last: true,
+            bytes: 0,
+            length: put_last(text, opened.refusal, 0),
+        };
+    }
+    Said {
+        last: false,
+        bytes: 0,
+        length: put_pairs(text, &out, opened.pairs),
+    }
 }
 
 // Feeds what is left of a piece once, and puts the lines of its pairs; where nothing is left, or the feed is refused, it puts the last line.
@@ -231,7 +252,7 @@ fn read_rules(list: &mut [u8]) -> usize
     n
 }
 
-// Runs from an opened flow on: each turn's text is handed over, up to the last one or the first that is cut. Answers where the log ends.
+// Runs from an opened flow on, whose text was the first: each turn's text is handed over, up to the last one or the first that is cut. Answers where the log ends.
 fn run(
     outside: bool,
     list: &[u8],
@@ -241,15 +262,17 @@ fn run(
     input: &[u8],
     answers: &[u8],
     log: &mut [u8],
+    begun: usize,
 ) -> usize
-    requires { ⌜ (length (now piece) ≡ pieceSize) × (textSize ≤ length (now text)) ⌝ }
-    ensures { λ r. ⌜ (outside ≡ false → Logs (handed (textsFrom (suc (length (now (input .entry)))) (now (list .entry)) (now (input .entry)) (now (flow .entry)) 0) (now (answers .entry)))
+    requires { ⌜ (length (now piece) ≡ pieceSize) × (textSize ≤ length (now text)) × (begun ≤ length (now log)) ⌝ }
+    ensures { λ r. ⌜ (outside ≡ false
+        → Logs begun (handed (textsFrom (suc (length (now (input .entry)))) (now (list .entry)) (now (input .entry)) (now (flow .entry)) 0) (drop 1 (now (answers .entry))))
         (now (log .entry)) r (now (log .exit))) ⌝ }
 {
     let mut offset: u64 = 0;
     let mut n: usize = 0;
-    let mut i: usize = 0;
-    let mut end: usize = 0;
+    let mut i: usize = 1;
+    let mut end = begun;
     loop {
         n = read_piece(outside, input, offset, piece, n);
         let from = (offset % PIECE as u64) as usize;
@@ -269,16 +292,19 @@ fn run(
 
 // Watches the input by a list, which is refused before any input is read. Answers where the log ends.
 fn watch(outside: bool, list: &[u8], input: &[u8], answers: &[u8], log: &mut [u8]) -> usize
-    ensures { λ r. ⌜ (outside ≡ false → Logs (handed (texts (now (list .entry)) (now (input .entry))) (now (answers .entry))) (now (log .entry)) r (now (log .exit))) ⌝ }
+    ensures { λ r. ⌜ (outside ≡ false → Logs 0 (handed (texts (now (list .entry)) (now (input .entry))) (now (answers .entry))) (now (log .entry)) r (now (log .exit))) ⌝ }
 {
     let mut flow = [0u8; flows::FLOW_SIZE];
     let mut piece = io::buffer();
     let mut text = io::large_buffer();
-    let refusal = plain::open_flow(list, &mut flow);
-    if refusal != rules::PASSED {
-        let n = put_last(&mut text, refusal, 0);
-        let taken = hand(outside, &text[..n], answers, 0, log, 0);
-        return taken.end;
+    let said = begin(list, &mut flow, &mut text);
+    let taken = hand(outside, &text[..said.length], answers, 0, log, 0);
+    let end = taken.end;
+    if said.last {
+        return end;
+    }
+    if taken.cut {
+        return end;
     }
     run(
         outside,
@@ -289,6 +315,7 @@ fn watch(outside: bool, list: &[u8], input: &[u8], answers: &[u8], log: &mut [u8
         input,
         answers,
         log,
+        end,
     )
 }
 

@@ -20,7 +20,8 @@ use Rattle.demands.specs.Calls.{byTable, Call, asked, allAsked}
 use Rattle.demands.specs.Demands.{InBytes, Each, Plainly, Through, bytesOf, Alike}
 use Rattle.demands.proofs.Engines.{call-passes, rows-few, cost-most}
 use Rattle.demands.proofs.Demand2.{in-bytes, each-along, IsSet, sound, plainly-one}
-use Rattle.demands.proofs.Demand3.{opened-frontier, opened-offset, opened-rows, through-engine}
+use Rattle.demands.proofs.Due.{opened-frontier, opened-offset, opened-rows}
+use Rattle.demands.proofs.Demand3.{through-engine}
 
 -- the plain feed, from any record that rule 4 takes
 pub plain-cuts : (L R : List ℕ) (cs ds : List Call) → Bytes R → badFlow R ≡ false → InBytes cs → InBytes ds

@@ -1,5 +1,5 @@
 -- Demand 1: every refusal exactly when its row says, and nothing changes; 14 keeps the bytes before it. Assumes nothing.
-use Prim.Native.Nat.{ℕ, suc, _+_, _≤_, _<_}
+use Prim.Native.Nat.{ℕ, suc, _+_, _*_, _≤_, _<_}
 use mathlib.Core.Path.{_≡_, refl, sym, ap, _∙_}
 use mathlib.Core.Bool.{Bool, true, false, _&&_, cond}
 use mathlib.Core.List.{List, [], _∷_}
@@ -7,13 +7,15 @@ use mathlib.Core.Logic.{_↔_}
 use native.Mathlib.Omega.{arith}
 use native.Mathlib.Nat.{lt-of-not-le}
 use native.Mathlib.Decide.{decLt}
-use lib.ListN.{length, take}
+use lib.ListN.{length, getD, take}
 use lib.Seq.{length-take-le, take-take}
 use lib.Dec.{ltb, lit<}
 use borrow.Author.Tests.{eq-eqb, ne-eqb, ltb-true, lt-ltb, le-ltb}
+use Rattle.sets.specs.Set.{signatures, size}
 use Rattle.rules.specs.Scan.{rising}
 use Rattle.rules.specs.Rules.{Rule, verdict, number, Given}
 use Rattle.lists.specs.List.{badLength, badRecord, noStart, listRules}
+use Rattle.lists.specs.Automaton.{start, accepted}
 use Rattle.rules.proofs.Scanning.{both}
 use Rattle.lists.proofs.Listed.{list-refuses}
 use Rattle.rules.proofs.Rules.{refuses, rises, exactly, numbered, number-lt, verdict-lt, passes-front, passes-changed}
@@ -23,14 +25,17 @@ use Rattle.feeds.proofs.Runs.{consumed-most, consumed-again, consumed-free, len
 use Rattle.feeds.proofs.Going.{unfed}
 use Rattle.feeds.proofs.Moves.{no-refusal}
 use Rattle.flows.proofs.Passing.{feed-passes}
-use Rattle.plain.specs.Plain.{plain, openRules, openRefusal, openSaved}
+use Rattle.feeds.proofs.Opening.{unopened, opening-refusal, opening-rest, opening-length}
+use Rattle.plain.specs.Plain.{plain, openPairs, firstRules, openRules, opened, openFlow}
+use Rattle.plain.proofs.Opening.{openPairs-long, open-fits, opened-fits, room-suffices}
 use Rattle.plain.proofs.Plain.{plain-refusal}
 use Rattle.tables.specs.Table.{Table, sizeRules, tableRules, tableRefusal}
 use Rattle.tables.proofs.Checked.{table-exactly}
 use Rattle.splits.specs.Split.{stuck, split, splitRules, splitFeed}
 use Rattle.splits.proofs.Halting.{stuck-exactly}
 use Rattle.demands.specs.Words.{First, InWords, tableWords, splitWords}
-use Rattle.demands.specs.Demands.{Unchanged, Same, Demand1}
+use Rattle.demands.specs.Demands.{Unchanged, Unopened, Same, Demand1}
+use Rattle.demands.proofs.Due.{begins}
 use Rattle.demands.proofs.Saying.{list-tells, open-tells, feed-tells, table-tells, split-tells}
 
 -- a feed that a rule refuses changes nothing
@@ -39,8 +44,27 @@ pub refused-unchanged : {C : Type 0} (E : Engine C) (K : Rattle.feeds.specs.Eng
 refused-unchanged E K R piece out rules v =
     rw (unfed E K R piece out rules v) (record { bytes = refl; pairs = refl; all = refl; words = refl; saved = refl })
 
-open-refused : (L R : List ℕ) → (openRefusal L R ≡ 0 → ⊥) → openSaved L R ≡ R
-open-refused L R v = rw (ne-eqb (openRefusal L R) 0 v)
+-- ---- opening
+
+module _ (L R out : List ℕ) where
+  open-verdict : openFlow L R out .refusal ≡ verdict (openRules L R out)
+  open-verdict = opening-refusal (openRules L R out) (openPairs L) (opened L) R out
+
+  open-refused : (openFlow L R out .refusal ≡ 0 → ⊥) → Unopened R out (openFlow L R out)
+  open-refused v =
+      rw (unopened (openRules L R out) (openPairs L) (opened L) R out (λ z. v (open-verdict ∙ z))) (record { pairs = refl; words = refl; saved = refl })
+
+  open-stay : (i : ℕ) → 2 * openFlow L R out .pairs ≤ i → getD (openFlow L R out .words) i 0 ≡ getD out i 0
+  open-stay = opening-rest (openRules L R out) (openPairs L) (opened L) R out (size signatures (accepted L (start L))) (openPairs-long L)
+
+  open-many : length (openFlow L R out .words) ≡ length out
+  open-many = opening-length (openRules L R out) (openPairs L) (opened L) R out (size signatures (accepted L (start L))) (openPairs-long L) (open-fits L R out)
+
+  open-fit : 2 * openFlow L R out .pairs ≤ length out
+  open-fit = omega (arith, opened-fits L R out)
+
+  open-room : signatures ≤ room out → openFlow L R out .refusal ≡ 15 → ⊥
+  open-room h e = omega (arith, verdict-lt 15 (firstRules L R) (lit< tt) refl, sym (room-suffices L R out h) ∙ e)
 
 -- ---- the split feed
 
@@ -200,20 +224,24 @@ unfolding rising
 demand-1 =
     record {
       lowest =
-          λ L b T R at piece. (
+          λ L b T R at piece out. (
             rises 0 (listRules L) refl,
-            rises 0 (openRules L R) refl,
+            rises 0 (openRules L R out) refl,
             rises 0 (feedRules L R at piece) refl,
             rises 0 (tableRules L b T) refl,
             rises 0 (splitRules L b T R at piece) refl,
           );
       lists = list-refuses;
       lists-said = list-tells;
-      opens = λ L R. refuses (openRules L R) refl;
-      opens-said = open-tells;
-      opens-passes = λ L R e. rw (eq-eqb (openRefusal L R) 0 e);
-      opens-length = λ L R Q e. rw e;
+      opens = λ L R out. rw (open-verdict L R out) (refuses (openRules L R out) refl);
+      opens-said = λ L R out. rw (open-verdict L R out) (open-tells L R out);
+      opens-length = λ L R Q out ws e f. rw (open-verdict L R out, open-verdict L Q ws, e, f);
       opens-not = open-refused;
+      opens-passes = begins;
+      opens-stay = open-stay;
+      opens-many = open-many;
+      opens-fit = open-fit;
+      opens-room = open-room;
       feeds = λ L R at piece out. rw (plain-refusal L R at piece out) (refuses (feedRules L R at piece) refl);
       feeds-said = λ L R at piece out. rw (plain-refusal L R at piece out) (feed-tells L R at piece);
       feeds-not = λ L R at piece out v. refused-unchanged (plain L) flowLayout R piece out (feedRules L R at piece) (rw (plain-refusal L R at piece out) at v);

@@ -1,23 +1,20 @@
--- Demand 2 over any list of calls from any record, and what holds of each call, plain or split. Assumes nothing.
+-- Demand 2 over any list of calls from any record, and from opening on; and what holds of each call, plain or split. Assumes nothing.
 use Prim.Native.Nat.{ℕ, zero, suc, _+_, _*_, _^_, _≤_, _<_}
 use mathlib.Core.Path.{_≡_, refl, sym, ap, _∙_}
 use mathlib.Core.Bool.{true, false, not, true≢false}
 use mathlib.Core.List.{List, [], _∷_}
-use mathlib.Core.Logic.{_↔_}
 use native.Mathlib.Omega.{arith}
-use native.Mathlib.Nat.{mul-add, zero-add}
+use native.Mathlib.Nat.{mul-add}
 use lib.ListN.{length, take}
 use borrow.Author.Tests.{eq-eqb}
-use Rattle.sets.specs.Set.{states, signatures, holds}
+use Rattle.sets.specs.Set.{states, signatures}
 use Rattle.rules.specs.Rules.{verdict}
-use Rattle.lists.specs.Automaton.{start, accepted}
-use Rattle.lists.proofs.Steps.{accepted-exactly}
-use Rattle.feeds.specs.Pairs.{Pair}
+use Rattle.lists.proofs.Steps.{start-lt}
 use Rattle.feeds.specs.Engine.{Engine, room, run, costs, told, consumed, ended, refused}
 use Rattle.flows.specs.Flow.{flowLayout, frontierOf, offsetOf, rowsOf, badFlow, otherStart}
 use Rattle.feeds.specs.Calls.{Bytes, Asked, answer, Along}
-use Rattle.feeds.proofs.Runs.{run-more, consumed-most, consumed-fits, consumed-longest, costs-most, bytes-take, length-take-most}
-use Rattle.feeds.proofs.Told.{told-exactly, told-ordered}
+use Rattle.feeds.proofs.Runs.{consumed-most, consumed-fits, consumed-longest, costs-most, bytes-take, length-take-most}
+use Rattle.feeds.proofs.Told.{told-ordered}
 use Rattle.feeds.proofs.Follows.{follows-within}
 use Rattle.flows.proofs.Records.{frontier-lt, flow-good}
 use Rattle.feeds.proofs.Moves.{feed-bytes, feed-fits, feed-rest, feed-length, feed-all, no-refusal, feed-moves}
@@ -25,12 +22,13 @@ use Rattle.feeds.proofs.Whole.{Sound, Pieces, Fair, whole, never-halts, one-eng
 use Rattle.flows.proofs.Saved.{flow-sound}
 use Rattle.feeds.proofs.Cuts.{Equal, One}
 use Rattle.feeds.proofs.Cuts as cut
-use Rattle.plain.specs.Plain.{plain}
+use Rattle.plain.specs.Plain.{plain, opened, openFlow}
 use Rattle.plain.proofs.Plain.{plain-cheap, plain-kept}
 use Rattle.demands.specs.Calls.{Via, byList, Call, engineOf, asked, allAsked, outcome}
-use Rattle.demands.specs.Demands.{Unchanged, Longest, OneCall, InBytes, Each, Plainly, bytesOf, Demand2}
+use Rattle.demands.specs.Demands.{Unchanged, Longest, OneCall, InBytes, Each, Plainly, bytesOf, Demand2, Demand2Opened}
 use Rattle.demands.proofs.Engines.{call-passes, rows-few, cost-most}
 use Rattle.demands.proofs.Demand1.{refused-unchanged}
+use Rattle.demands.proofs.Due.{told-due, due-all, opened-frontier, opened-offset, begins}
 
 -- ---- calls as feeds that are asked for
 
@@ -77,33 +75,10 @@ plainly-fair L R c f v =
       short = q .short;
     }
 
--- a signature that the next frontier accepts is one of all signatures
-accepted-below : (L : List ℕ) (F g : ℕ) → holds (accepted L F) g ≡ true → g < signatures
-accepted-below L F g e = accepted-exactly L F g .0 e .0
-
--- the pairs that the automaton tells of some bytes, by the frontiers after them
-told-due : (L : List ℕ) (F k : ℕ) (bs : List ℕ) (g o : ℕ) → Pair (told (plain L) F k bs) g o
-    ↔ ((n : ℕ) × (n < length bs) × (o ≡ k + suc n) × (holds (accepted L (run (plain L) F (take (suc n) bs))) g ≡ true))
-told-due L F k bs g o =
-    let e = told-exactly (plain L) F k bs g o in (
-      λ p. let w = e .0 p in (w .0, w .1, w .2, rw (run-more (plain L) F bs (w .0) (w .1)) (w .4)),
-      λ w. let q = rw (run-more (plain L) F bs (w .0) (w .1)) at (w .3) in e .1 (w .0, w .1, w .2, accepted-below L _ g q, q),
-    )
-
--- the pairs that the automaton tells from the start set on: from offset 1 on
-pub told-start : (L bs : List ℕ) (g k : ℕ) → Pair (told (plain L) (start L) 0 bs) g k
-    ↔ ((n : ℕ) × (n < length bs) × (k ≡ suc n) × (holds (accepted L (run (plain L) (start L) (take (suc n) bs))) g ≡ true))
-told-start L bs g k =
-    let e = told-due L (start L) 0 bs g k in (
-      λ p. let w = e .0 p in (w .0, w .1, w .2 ∙ zero-add (suc (w .0)), w .3),
-      λ w. e .1 (w .0, w .1, w .2 ∙ sym (zero-add (suc (w .0))), w .3),
-    )
-
-pub demand-2 : (L R : List ℕ) (cs : List Call) → Bytes R → InBytes cs → Each (Plainly L) R cs → Demand2 L R cs
-demand-2 L R cs hR hb h =
+demand-2-from : (L R : List ℕ) (cs : List Call) → IsSet (frontierOf R) → InBytes cs → Each (Plainly L) R cs → Demand2 L R cs
+demand-2-from L R cs at hb h =
     let fair = each-along (Plainly L) (Fair flowLayout (plain L) (Equal IsSet) states) (plainly-fair L) R cs h in
     let pieces = in-bytes R cs hb in
-    let at = frontier-lt R hR in
     let w = whole flowLayout (plain L) (Equal IsSet) states sound (allAsked cs) R (frontierOf R) fair pieces (refl, at) in
     let same = each-along (Plainly L) (λ Q a. verdict (a .rules Q) ≡ 0 → (F G : ℕ) → Equal IsSet F G → a .engine .cost F ≡ plain L .cost G)
     (λ Q c f v F G r. ap (λ (E : Engine ℕ). E .cost F) (plainly-one L Q c f v .engine) ∙ ap (plain L .cost) (r .0)) R cs h in
@@ -117,6 +92,20 @@ demand-2 L R cs hR hb h =
       refused =
           along-each (λ Q c. outcome Q c .refusal ≡ verdict (asked c .rules Q)) (λ Q a. answer flowLayout Q a .refusal ≡ verdict (a .rules Q)) (λ Q c e. e) R cs
           (never-halts flowLayout (plain L) (Equal IsSet) states sound (λ F. refl) (allAsked cs) R (frontierOf R) fair pieces (refl, at));
+    }
+
+pub demand-2 : (L R : List ℕ) (cs : List Call) → Bytes R → InBytes cs → Each (Plainly L) R cs → Demand2 L R cs
+demand-2 L R cs hR = demand-2-from L R cs (frontier-lt R hR)
+
+-- from opening on: its pairs, then the feeds'
+pub demand-2-opened : (L R out : List ℕ) → openFlow L R out .refusal ≡ 0 → (cs : List Call) → InBytes cs → Each (Plainly L) (openFlow L R out .saved) cs
+    → Demand2Opened L (openFlow L R out) cs
+demand-2-opened L R out z cs hb h =
+    let q = begins L R out z in
+    let d = demand-2-from L (opened L) cs (rw (opened-frontier L) (start-lt L)) hb (rw (q .1) at h) in
+    record {
+      due = rw (q .0, q .1) (due-all L _ _ (rw (opened-frontier L, opened-offset L) at (d .tells)));
+      feeds = rw (q .1) d;
     }
 
 -- ---- of one call

@@ -13,26 +13,27 @@ use borrow.Author.Tests.{eq-eqb, eqb-true, le-ltb, ne-eqb}
 use Rattle.rules.specs.Rules.{verdict}
 use Rattle.rules.proofs.Rules.{verdict-then, passes-front, skip, stop}
 use Rattle.lists.specs.List.{listRefusal, listRules}
-use Rattle.feeds.specs.Engine.{Outcome, ended}
+use Rattle.feeds.specs.Engine.{Outcome, told, ended}
 use Rattle.feeds.specs.Calls.{Bytes}
 use Rattle.feeds.specs.Fed.{Answers}
 use Rattle.feeds.proofs.Going.{unfed}
 use Rattle.feeds.proofs.Moves.{feed-ends, no-refusal}
 use Rattle.flows.specs.Flow.{flowLayout, offsetOf, badFlow, otherStart, tooLong, flowRules, feedRules}
-use Rattle.plain.specs.Plain.{plain, opened, openRefusal, plainFeed}
-use Rattle.plain.specs.Opens.{Opens}
+use Rattle.feeds.specs.Opening.{Opens}
+use Rattle.plain.specs.Plain.{plain, openPairs, opened, openFlow, plainFeed}
 use Rattle.plain.proofs.Plain.{plain-refusal}
 use Rattle.tables.specs.Table.{Table, tableRefusal}
 use Rattle.splits.specs.Split.{splitFeed}
 use Rattle.demands.specs.Calls.{Via, byList, byTable, Call, asked, outcome}
 use Rattle.demands.specs.Demands.{Unchanged, InBytes, Each, Plainly, Through, bytesOf, wordsOf}
 use Rattle.demands.specs.Made.{Made, Promised, callsOf, toldBy, eatenBy, leftBy}
-use Rattle.demands.specs.Drivers.{Seen, callOf, wordsSeen, bytesSeen, EachSeen, EachOn, Answered, SaysAll, Untouched}
+use Rattle.demands.specs.Drivers.{Seen, callOf, wordsSeen, bytesSeen, EachSeen, EachOn, Answered, SaysAll, Untouched, Sighted, openSeen, AnsweredOpen}
 use Rattle.demands.specs.Drivers.{OpenKept, FeedKept, SplitFeedKept, PlainKept, PlainDriven, SplitKept, SplitDriven}
 use Rattle.demands.proofs.Engines.{call-passes}
 use Rattle.demands.proofs.Demand1.{demand-1}
 use Rattle.demands.proofs.Demand2.{demand-2, one-call}
-use Rattle.demands.proofs.Demand3.{opened-frontier, opened-offset, demand-3}
+use Rattle.demands.proofs.Due.{due-all, opened-frontier, opened-offset, begins}
+use Rattle.demands.proofs.Demand3.{demand-3}
 use Rattle.demands.proofs.Made.{as-defined}
 
 -- ---- feeds seen as calls made, each with the record that it leaves
@@ -100,17 +101,28 @@ all-said L via R (k ∷ ks) h = (rw (h .0 .all, h .0 .refusal, h .0 .bytes) (out
 
 -- ---- an opening that answers 0 leaves the opened record
 
-pub opens-0 : (L R : List ℕ) (n : ℕ) (Q : List ℕ) → Opens L R n Q → n ≡ 0 → Q ≡ opened L
-opens-0 L R n Q o z = o .saved ∙ rw (eq-eqb (openRefusal L R) 0 (sym (o .refusal) ∙ z))
+-- and tells the pairs of offset 0
+pub opens-0 : (L R : List ℕ) (s : Sighted) (Q : List ℕ) → Opens (openFlow L R (s .out)) (s .opened) (s .words) Q → s .opened .refusal ≡ 0
+    → (openSeen s ≡ openPairs L) × (Q ≡ opened L)
+opens-0 L R s Q o z = let q = begins L R (s .out) (sym (o .refusal) ∙ z) in (rw (o .pairs, o .words) (q .0), o .saved ∙ q .1)
+
+-- it answers so, whatever record is left
+answered-open : (L R : List ℕ) (s : Sighted) (Q : List ℕ) → Opens (openFlow L R (s .out)) (s .opened) (s .words) Q → AnsweredOpen L R s
+answered-open L R s Q o = record { refusal = o .refusal; pairs = o .pairs; words = o .words; saved = refl }
 
 -- ---- demand 1
 
-pub open-kept : (L R : List ℕ) (n : ℕ) (Q : List ℕ) → Opens L R n Q → OpenKept L R n Q
-open-kept L R n Q o =
+pub open-kept : (L R : List ℕ) (s : Sighted) (Q : List ℕ) → Opens (openFlow L R (s .out)) (s .opened) (s .words) Q → OpenKept L R s Q
+unfolding told
+open-kept L R s Q o =
     record {
-      refuses = rw (o .refusal) (demand-1 .opens L R);
-      unchanged = λ v. o .saved ∙ demand-1 .opens-not L R (λ z. v (o .refusal ∙ z));
-      opens = opens-0 L R n Q o;
+      refuses = rw (o .refusal) (demand-1 .opens L R (s .out));
+      unchanged =
+          λ v. let u = demand-1 .opens-not L R (s .out) (λ z. v (o .refusal ∙ z)) in
+          (o .pairs ∙ u .pairs, o .words ∙ u .words, o .saved ∙ u .saved);
+      opens = λ z. opens-0 L R s Q o z .1;
+      due = λ z. rw (opens-0 L R s Q o z .0) (rw (append-nil (openPairs L)) at (due-all L [] [] refl));
+      stays = λ i l. rw (o .words) (demand-1 .opens-stay L R (s .out) i (rw (o .pairs) at l));
     }
 
 untouched : (R : List ℕ) (s : Seen) (Q : List ℕ) (o : Outcome) → Answers o (s .fed) (s .words) Q → Unchanged R (s .out) o → Untouched R s Q
@@ -193,25 +205,27 @@ resent-5 L R s Q out hR hb a z l =
     ∙ stop 5 ((6, tooLong Q (s .piece)) ∷ []) other
 
 -- four feeds, from the promises of the six calls
-pub plain-driven : (L R : List ℕ) (l n : ℕ) (S : List ℕ) (s₁ : Seen) (S₁ : List ℕ) (s₂ : Seen) (S₂ : List ℕ) (s₃ : Seen) (S₃ : List ℕ) (s₄ : Seen) (S₄ : List ℕ)
-    → l ≡ listRefusal L → Opens L R n S → s₂ .at ≡ s₁ .at → s₂ .piece ≡ s₁ .piece
+pub plain-driven : (L R : List ℕ) (l : ℕ) (s : Sighted) (S : List ℕ) (s₁ : Seen) (S₁ : List ℕ) (s₂ : Seen) (S₂ : List ℕ) (s₃ : Seen) (S₃ : List ℕ) (s₄ : Seen) (S₄ : List ℕ)
+    → l ≡ listRefusal L → Opens (openFlow L R (s .out)) (s .opened) (s .words) S → s₂ .at ≡ s₁ .at → s₂ .piece ≡ s₁ .piece
     → Answers (plainFeed L S (s₁ .at) (s₁ .piece) (s₁ .out)) (s₁ .fed) (s₁ .words) S₁
     → Answers (plainFeed L S₁ (s₂ .at) (s₂ .piece) (s₂ .out)) (s₂ .fed) (s₂ .words) S₂
     → Answers (plainFeed L S₂ (s₃ .at) (s₃ .piece) (s₃ .out)) (s₃ .fed) (s₃ .words) S₃
     → Answers (plainFeed L S₃ (s₄ .at) (s₄ .piece) (s₄ .out)) (s₄ .fed) (s₄ .words) S₄
     → Bytes S → Bytes (s₁ .piece) → Bytes (s₃ .piece) → Bytes (s₄ .piece)
-    → PlainDriven L R l n s₁ s₂ (s₃ ∷ s₄ ∷ []) S₄
+    → PlainDriven L R l s s₁ s₂ (s₃ ∷ s₄ ∷ []) S₄
 unfolding leftBy
-plain-driven L R l n S s₁ S₁ s₂ S₂ s₃ S₃ s₄ S₄ lists opens same-at same-piece a₁ a₂ a₃ a₄ hS h₁ h₃ h₄ =
+plain-driven L R l s S s₁ S₁ s₂ S₂ s₃ S₃ s₄ S₄ lists opens same-at same-piece a₁ a₂ a₃ a₄ hS h₁ h₃ h₄ =
     let ks : List Kept = (s₁, S₁) ∷ (s₂, S₂) ∷ (s₃, S₃) ∷ (s₄, S₄) ∷ [] in
     let made-so : Promised S (made L byList ks) = (a₁, (a₂, (a₃, (a₄, tt)))) in
     let kept = plain-kept L S ks hS (h₁, (rw same-piece h₁, (h₃, (h₄, tt)))) made-so in
     record {
       lists = lists;
-      opens = opens .refusal;
+      opens = answered-open L R s S opens;
       answered = rw (← opens .saved) (all-answered L byList S ks made-so);
       kept = rw (← opens .saved) kept;
-      tells = λ z. rw (opens-0 L R n S opens z, opened-frontier L, opened-offset L) at (kept .tells);
+      due =
+          λ z. let q = opens-0 L R s S opens z in
+          rw (q .0) (due-all L _ _ (rw (q .1, opened-frontier L, opened-offset L) at (kept .tells)));
       resent = λ z b. a₂ .refusal ∙ rw (same-at, same-piece) (resent-5 L S s₁ S₁ (s₂ .out) hS h₁ a₁ z b);
     }
 
@@ -221,40 +235,44 @@ through-all : (L : List ℕ) (b : ℕ) (T : Table) (R : List ℕ) (ks : List Kep
 through-all L b T R [] = tt
 through-all L b T R (k ∷ ks) = (λ v. (refl, refl), through-all L b T _ ks)
 
-pub split-kept : (L : List ℕ) (b : ℕ) (T : Table) → tableRefusal L b T ≡ 0 → (ks : List Kept) → InBytes (callsOf (made L (byTable b T) ks))
-    → Promised (opened L) (made L (byTable b T) ks) → SplitKept L b T (seen ks) (leftBy (opened L) (made L (byTable b T) ks))
-split-kept L b T ok ks hb hp =
+pub split-kept : (L : List ℕ) (b : ℕ) (T : Table) → tableRefusal L b T ≡ 0 → (R : List ℕ) (s : Sighted) (S : List ℕ)
+    → Opens (openFlow L R (s .out)) (s .opened) (s .words) S → s .opened .refusal ≡ 0 → (ks : List Kept) → InBytes (callsOf (made L (byTable b T) ks))
+    → Promised S (made L (byTable b T) ks) → SplitKept L b T (openSeen s) (seen ks) (leftBy S (made L (byTable b T) ks))
+split-kept L b T ok R s S opens z ks hb hp =
+    let o = openFlow L R (s .out) in
     let ms = made L (byTable b T) ks in
-    let d = demand-3 L b T ok (callsOf ms) hb (through-all L b T (opened L) ks) in
-    let a = as-defined (opened L) ms hp in
-    let w : wordsSeen (seen ks) ≡ wordsOf (opened L) (callsOf ms) = words-seen L (byTable b T) ks ∙ a .words in
-    let e : bytesSeen (seen ks) ≡ bytesOf (opened L) (callsOf ms) = bytes-seen L (byTable b T) ks ∙ a .bytes in
-    record {
+    let d = demand-3 L b T ok R (s .out) (sym (opens .refusal) ∙ z) (callsOf ms) hb (through-all L b T (openFlow L R (s .out) .saved) ks) in
+    let p : Promised (openFlow L R (s .out) .saved) (made L (byTable b T) ks) = rw (opens .saved) at hp in
+    let a = as-defined (o .saved) ms p in
+    let w : wordsSeen (seen ks) ≡ wordsOf (openFlow L R (s .out) .saved) (callsOf (made L (byTable b T) ks)) = words-seen L (byTable b T) ks ∙ a .words in
+    let e : bytesSeen (seen ks) ≡ bytesOf (openFlow L R (s .out) .saved) (callsOf (made L (byTable b T) ks)) = bytes-seen L (byTable b T) ks ∙ a .bytes in
+    rw (opens .saved)
+    (record {
       never-14 =
-          each-seen L (byTable b T) (λ Q c. outcome Q c .refusal ≡ 14 → ⊥) (λ s. s .fed .refusal ≡ 14 → ⊥)
-          (λ R k h n z. n (sym (h .refusal) ∙ z)) (opened L) ks hp (d .never-14);
-      says-all = all-said L (byTable b T) (opened L) ks hp;
-      tells = rw (w, e) (d .tells);
+          each-seen L (byTable b T) (λ Q c. outcome Q c .refusal ≡ 14 → ⊥) (λ k. k .fed .refusal ≡ 14 → ⊥)
+          (λ Q k h n y. n (sym (h .refusal) ∙ y)) (o .saved) ks p (d .never-14);
+      says-all = all-said L (byTable b T) (o .saved) ks p;
+      due = rw (opens .pairs, opens .words, w, e) (d .due);
       frontier = rw (a .left, e) (d .frontier);
       offset = rw (a .left, e) (d .offset);
       rows = rw (a .left, e) (d .rows);
       ceiling = rw (a .left, e) (d .ceiling);
-    }
+    })
 
 -- two feeds, from the promises of the five calls
-pub split-driven : (L : List ℕ) (b : ℕ) (T : Table) (R : List ℕ) (l n m : ℕ) (S : List ℕ) (s₁ : Seen) (S₁ : List ℕ) (s₂ : Seen) (S₂ : List ℕ)
-    → l ≡ listRefusal L → n ≡ tableRefusal L b T → Opens L R m S
+pub split-driven : (L : List ℕ) (b : ℕ) (T : Table) (R : List ℕ) (l n : ℕ) (s : Sighted) (S : List ℕ) (s₁ : Seen) (S₁ : List ℕ) (s₂ : Seen) (S₂ : List ℕ)
+    → l ≡ listRefusal L → n ≡ tableRefusal L b T → Opens (openFlow L R (s .out)) (s .opened) (s .words) S
     → Answers (splitFeed L b T S (s₁ .at) (s₁ .piece) (s₁ .out)) (s₁ .fed) (s₁ .words) S₁
     → Answers (splitFeed L b T S₁ (s₂ .at) (s₂ .piece) (s₂ .out)) (s₂ .fed) (s₂ .words) S₂
     → Bytes (s₁ .piece) → Bytes (s₂ .piece)
-    → SplitDriven L b T R l n m (s₁ ∷ s₂ ∷ []) S₂
+    → SplitDriven L b T R l n s (s₁ ∷ s₂ ∷ []) S₂
 unfolding leftBy
-split-driven L b T R l n m S s₁ S₁ s₂ S₂ lists check opens a₁ a₂ h₁ h₂ =
+split-driven L b T R l n s S s₁ S₁ s₂ S₂ lists check opens a₁ a₂ h₁ h₂ =
     let ks : List Kept = (s₁, S₁) ∷ (s₂, S₂) ∷ [] in
     record {
       lists = lists;
       tables = check;
-      opens = opens .refusal;
+      opens = answered-open L R s S opens;
       answered = rw (← opens .saved) (all-answered L (byTable b T) S ks (a₁, (a₂, tt)));
-      kept = λ z y. split-kept L b T (sym check ∙ z) ks (h₁, (h₂, tt)) (rw (opens-0 L R m S opens y) at a₁, (a₂, tt));
+      kept = λ z y. split-kept L b T (sym check ∙ z) R s S opens y ks (h₁, (h₂, tt)) (a₁, (a₂, tt));
     }

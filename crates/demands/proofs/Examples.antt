@@ -11,10 +11,12 @@ use Rattle.rules.specs.Rules.{verdict}
 use Rattle.lists.specs.List.{goodRecord, badLength, badRecord, noStart}
 use Rattle.lists.specs.Automaton.{start, step, accepted}
 use Rattle.feeds.specs.Engine.{run, costs, due, pairsAt, told, consumed, ended, feed}
+use Rattle.feeds.specs.Opening.{opening}
 use Rattle.flows.specs.Flow.{flowBytes, badFlow}
+use Rattle.plain.specs.Plain.{openPairs}
 use Rattle.tables.specs.Table.{largest, part, row, splitSet, slots, usedSlots, takenSlots, allBelow, joined, badClasses, badCount, badRowsLength, badLengths, goodSlots, inOrder, badSplits, badRows, badUnion, noStartSplit, notClosed, tableRefusal, splitOf}
 use Rattle.splits.specs.Split.{taken, stuck, splitStep}
-use Rattle.demands.specs.Examples.{Row, Agree, feedRows, acceptedRow, boundRow, closedRow, startRow, loudRow, examples}
+use Rattle.demands.specs.Examples.{Row, Agree, feedRows, openedRow, acceptedRow, acceptedRow₀, boundRow, closedRow, startRow, loudRow, examples}
 
 -- rows are compared by computing; what computes as the same is the same
 abbrev same : List ℕ → List ℕ → Bool
@@ -55,13 +57,17 @@ unfolding largest part row splitSet slots usedSlots takenSlots allBelow rising j
 checks = 0
 
 feeds : ℕ
-unfolding run costs due pairsAt told consumed ended feed flowBytes badFlow splitOf taken stuck splitStep
+unfolding opening openPairs run costs due pairsAt told consumed ended feed flowBytes badFlow splitOf taken stuck splitStep
 feeds = 0
 
 -- each row that runs the table check is computed by itself, and the feeds' rows together
 accepted-holds : T (same (acceptedRow .0) (acceptedRow .1))
 unfolding steps checks
 accepted-holds = tt
+
+accepted-holds₀ : T (same (acceptedRow₀ .0) (acceptedRow₀ .1))
+unfolding steps checks
+accepted-holds₀ = tt
 
 bound-holds : T (same (boundRow .0) (boundRow .1))
 unfolding steps checks
@@ -83,16 +89,32 @@ feeds-hold : T (agree feedRows)
 unfolding steps checks feeds
 feeds-hold = tt
 
+opened-holds : T (same (openedRow .0) (openedRow .1))
+unfolding steps feeds
+opened-holds = tt
+
+pub opened-agrees : openedRow .0 ≡ openedRow .1
+opened-agrees = same-sound (openedRow .0) (openedRow .1) opened-holds
+
+pub accepted-agrees₀ : acceptedRow₀ .0 ≡ acceptedRow₀ .1
+accepted-agrees₀ = same-sound (acceptedRow₀ .0) (acceptedRow₀ .1) accepted-holds₀
+
 pub examples-hold : Agree examples
 examples-hold = (
-  same-sound (acceptedRow .0) (acceptedRow .1) accepted-holds,
+  opened-agrees,
   (
-    same-sound (boundRow .0) (boundRow .1) bound-holds,
+    same-sound (acceptedRow .0) (acceptedRow .1) accepted-holds,
     (
-      same-sound (closedRow .0) (closedRow .1) closed-holds,
+      accepted-agrees₀,
       (
-        same-sound (startRow .0) (startRow .1) start-holds,
-        (same-sound (loudRow .0) (loudRow .1) loud-holds, agree-sound feedRows feeds-hold),
+        same-sound (boundRow .0) (boundRow .1) bound-holds,
+        (
+          same-sound (closedRow .0) (closedRow .1) closed-holds,
+          (
+            same-sound (startRow .0) (startRow .1) start-holds,
+            (same-sound (loudRow .0) (loudRow .1) loud-holds, agree-sound feedRows feeds-hold),
+          ),
+        ),
       ),
     ),
   ),

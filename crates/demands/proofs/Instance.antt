@@ -1,40 +1,28 @@
--- Demand 3 is no empty promise: four calls on the example list and table, two of them refused, to which the theorem applies. Assumes nothing.
+-- Demands 2 and 3 are no empty promises: an opening at a start state that accepts, and four calls, two of them refused, to which the theorems apply. Assumes nothing.
 use Prim.Native.Nat.{ℕ, zero, suc, _<_}
 use mathlib.Core.Path.{_≡_, refl, sym, _∙_}
 use mathlib.Core.List.{List, [], _∷_}
 use native.Mathlib.Omega.{arith}
+use lib.ListN.{replicate}
 use lib.Dec.{lit<}
 use Rattle.lists.specs.List.{badLength}
+use Rattle.rules.specs.Rules.{verdict}
 use Rattle.rules.proofs.Rules.{stop}
 use Rattle.feeds.specs.Calls.{Bytes}
 use Rattle.tables.specs.Table.{tableRefusal}
-use Rattle.demands.specs.Calls.{Call, byTable}
-use Rattle.plain.specs.Plain.{opened}
-use Rattle.demands.specs.Demands.{Through, Demand3}
-use Rattle.demands.specs.Examples.{L, T₃, a, b, room}
-use Rattle.demands.proofs.Examples.{examples-hold}
+use Rattle.demands.specs.Calls.{Via, byList, byTable, Call, rulesOf}
+use Rattle.demands.specs.Demands.{InBytes, Demand2Opened, Demand3}
+use Rattle.demands.specs.Examples.{L₀, T₃, a, b, room, full, begin}
+use Rattle.demands.proofs.Examples.{opened-agrees, accepted-agrees₀}
+use Rattle.demands.proofs.Demand2.{demand-2-opened}
 use Rattle.demands.proofs.Demand3.{demand-3}
 
-abbrev fed : List ℕ → ℕ → List ℕ → Call
-fed list at piece = record { list = list; via = byTable 2 T₃; at = at; piece = piece; out = room 1 }
+-- four calls: "aba"; start 0 again, which is refused with 5; an empty list, which is refused with 1; then "b" from 3
+abbrev fed : Via → List ℕ → ℕ → List ℕ → Call
+fed via list at piece = record { list = list; via = via; at = at; piece = piece; out = room 3 }
 
--- "aba"; start 0 again, which is refused with 5; an empty list, which is refused with 1; then "b" from 3
-abbrev calls : List Call
-calls = fed L 0 (a ∷ b ∷ a ∷ []) ∷ fed L 0 (b ∷ []) ∷ fed [] 3 (b ∷ []) ∷ fed L 3 (b ∷ []) ∷ []
-
--- the table is accepted: the first row of the table of examples
-accepts : tableRefusal L 2 T₃ ≡ 0
-accepts = one-number (tableRefusal L 2 T₃) 0 (examples-hold .0)
-  where
-    one-number : (x y : ℕ) → x ∷ [] ≡ y ∷ [] → x ≡ y
-    one-number x y e = cc
-
-by-L : (R : List ℕ) (at : ℕ) (piece : List ℕ) → Through L 2 T₃ R (fed L at piece)
-by-L R at piece v = (refl, refl)
-
-by-none : (R : List ℕ) (at : ℕ) (piece : List ℕ) → Through L 2 T₃ R (fed [] at piece)
-unfolding badLength
-by-none R at piece v = absurd (omega (arith, sym (stop 1 _ refl) ∙ v))
+abbrev calls : Via → List Call
+calls via = fed via L₀ 0 (a ∷ b ∷ a ∷ []) ∷ fed via L₀ 0 (b ∷ []) ∷ fed via [] 3 (b ∷ []) ∷ fed via L₀ 3 (b ∷ []) ∷ []
 
 one : (x : ℕ) → x < 256 → Bytes (x ∷ [])
 one x h zero = h
@@ -46,8 +34,31 @@ three (suc zero) = lit< tt
 three (suc (suc zero)) = lit< tt
 three (suc (suc (suc i))) = lit< tt
 
-pub applies : Demand3 L 2 T₃ (opened L) calls
-applies =
-    demand-3 L 2 T₃ accepts calls
-    (three, (one b (lit< tt), (one b (lit< tt), (one b (lit< tt), tt))))
-    (by-L _ 0 (a ∷ b ∷ a ∷ []), (by-L _ 0 (b ∷ []), (by-none _ 3 (b ∷ []), (by-L _ 3 (b ∷ []), tt))))
+in-bytes : (via : Via) → InBytes (calls via)
+in-bytes via = (three, (one b (lit< tt), (one b (lit< tt), (one b (lit< tt), tt))))
+
+-- the start state accepts, the table is accepted, and the opening passes: rows of the table of examples
+one-number : (x y : ℕ) (xs ys : List ℕ) → x ∷ xs ≡ y ∷ ys → x ≡ y
+one-number x y xs ys e = cc
+
+accepts : tableRefusal L₀ 2 T₃ ≡ 0
+accepts = one-number (tableRefusal L₀ 2 T₃) 0 [] [] accepted-agrees₀
+
+passes : begin full 5 .refusal ≡ 0
+passes = one-number (begin full 5 .refusal) 0 _ _ opened-agrees
+
+-- a call on the empty list is refused
+by-none : (P : Type 0) (via : Via) (R : List ℕ) (at : ℕ) (piece : List ℕ) → verdict (rulesOf via [] R at piece) ≡ 0 → P
+unfolding badLength
+by-none P byList R at piece v = absurd (omega (arith, sym (stop 1 _ refl) ∙ v))
+by-none P (byTable n T) R at piece v = absurd (omega (arith, sym (stop 1 _ refl) ∙ v))
+
+pub plain-applies : Demand2Opened L₀ (begin full 5) (calls byList)
+plain-applies =
+    demand-2-opened L₀ full (replicate 5 9) passes (calls byList) (in-bytes byList)
+    (λ v. (refl, refl), (λ v. (refl, refl), (λ v. by-none _ byList _ 3 (b ∷ []) v, (λ v. (refl, refl), tt))))
+
+pub split-applies : Demand3 L₀ 2 T₃ (begin full 5) (calls (byTable 2 T₃))
+split-applies =
+    demand-3 L₀ 2 T₃ accepts full (replicate 5 9) passes (calls (byTable 2 T₃)) (in-bytes (byTable 2 T₃))
+    (λ v. (refl, refl), (λ v. (refl, refl), (λ v. by-none _ (byTable 2 T₃) _ 3 (b ∷ []) v, (λ v. (refl, refl), tt))))

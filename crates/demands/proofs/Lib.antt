@@ -1,6 +1,7 @@
 pub mod Examples
 pub mod Engines
 pub mod Demand1
+pub mod Due
 pub mod Demand2
 pub mod Demand3
 pub mod Cuts

@@ -9,7 +9,7 @@ use Rattle.feeds.specs.Fed.{Answers}
 use Rattle.feeds.specs.declared.Fed.{Fed}
 use Rattle.flows.specs.Flow.{flowLayout}
 use Rattle.lists.specs.List.{listRefusal}
-use Rattle.plain.specs.Plain.{openRefusal, openSaved, plainFeed}
+use Rattle.plain.specs.Plain.{openFlow, plainFeed}
 use Rattle.splits.specs.Split.{splitFeed}
 use Rattle.tables.specs.Table.{Table, tableRefusal}
 use Rattle.demands.specs.Calls.{byList, byTable, allAsked, outcome}
@@ -47,20 +47,24 @@ as-defined R (m ∷ ms) h =
       said = rw (a .all) (ap (λ (bs : List Bool). outcome R (m .call) .all ∷ bs) (i .said ∙ ap (λ (Q : List ℕ). saidOf Q (callsOf ms)) (a .saved)));
     }
 
--- so from the checks on: their numbers, the opening's, the record that it leaves, and all calls on that
-pub record BegunDefined (L : List ℕ) (b : ℕ) (T : Table) (R : List ℕ) (g : Begun) : Type 0 where
+-- so from the checks on: their numbers, the opening's answer, the words and the record that it leaves, and all calls on that
+pub record BegunDefined (L : List ℕ) (b : ℕ) (T : Table) (R out : List ℕ) (g : Begun) : Type 0 where
   pub lists : g .listed ≡ listRefusal L
   pub tables : g .checked ≡ tableRefusal L b T
-  pub opens : g .opened ≡ openRefusal L R
-  pub record-left : g .record-left ≡ openSaved L R
-  pub feeds : AsDefined (openSaved L R) (g .calls)
+  pub opens : g .opened .refusal ≡ openFlow L R out .refusal
+  pub pairs : g .opened .pairs ≡ openFlow L R out .pairs
+  pub words-left : g .words-left ≡ openFlow L R out .words
+  pub record-left : g .record-left ≡ openFlow L R out .saved
+  pub feeds : AsDefined (openFlow L R out .saved) (g .calls)
 
-pub begun-defined : (L : List ℕ) (b : ℕ) (T : Table) (R : List ℕ) (g : Begun) → BegunPromised L b T R g → BegunDefined L b T R g
-begun-defined L b T R g h =
+pub begun-defined : (L : List ℕ) (b : ℕ) (T : Table) (R out : List ℕ) (g : Begun) → BegunPromised L b T R out g → BegunDefined L b T R out g
+begun-defined L b T R out g h =
     record {
       lists = h .lists;
       tables = h .tables;
       opens = h .opens .refusal;
+      pairs = h .opens .pairs;
+      words-left = h .opens .words;
       record-left = h .opens .saved;
-      feeds = as-defined (openSaved L R) (g .calls) (rw (h .opens .saved) at (h .feeds));
+      feeds = as-defined (openFlow L R out .saved) (g .calls) (rw (h .opens .saved) at (h .feeds));
     }

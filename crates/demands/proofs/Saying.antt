@@ -1,5 +1,5 @@
 -- Every rule of every entry point in words, and so each refusal: exactly when its words hold and those of no earlier row do. Assumes nothing.
-use Prim.Native.Nat.{ℕ, zero, suc, _+_, _*_, _≤_, _<_}
+use Prim.Native.Nat.{ℕ, zero, suc, _+_, _*_, _/_, _≤_, _<_}
 use mathlib.Core.Path.{_≡_, refl, sym, ap, _∙_}
 use mathlib.Core.Bool.{Bool, true, false, cond, true≢false}
 use mathlib.Core.List.{List, [], _∷_, _++_}
@@ -8,21 +8,27 @@ use native.Mathlib.Omega.{arith}
 use native.Mathlib.Decide.{ℕ-discrete}
 use lib.ListN.{length, getD}
 use borrow.Author.Tests.{eqb-true}
+use Rattle.sets.specs.Set.{signatures, members}
+use Rattle.sets.proofs.Members.{members-size}
 use Rattle.rules.specs.Scan.{rising}
 use Rattle.rules.specs.Rules.{Rule, verdict, applies}
-use Rattle.rules.proofs.Scanning.{choose, below-suc, rising-exactly}
+use Rattle.rules.proofs.Scanning.{choose, over-words, below-suc, rising-exactly}
 use Rattle.rules.proofs.Rules.{distinct, passes-exactly}
 use Rattle.lists.specs.List.{records, isStart, goodRecord, badLength, badRecord, noStart, listRules}
 use Rattle.lists.proofs.Listed.{Edge-bytes, Start-bytes, Accept-bytes, bad-length, bad-record, record-exactly, no-start, kind-start}
 use Rattle.flows.specs.Flow.{badFlow, otherStart, tooLong, wrongSize, flowRules, feedRules}
 use Rattle.flows.proofs.Refused.{wrong-size, bad-flow, other-start, too-long}
-use Rattle.plain.specs.Plain.{openRules}
+use Rattle.lists.specs.Automaton.{start, accepted}
+use Rattle.feeds.specs.Engine.{room}
+use Rattle.feeds.specs.Opening.{noRoom}
+use Rattle.plain.specs.Plain.{openPairs, openRules}
+use Rattle.plain.proofs.Opening.{openPairs-long}
 use Rattle.tables.specs.Table.{Table, partCount, splitCount, slots, usedSlots, takenSlots, goodSlots, inOrder, badSplits, badRows, badUnion, noStartSplit, notClosed, sizeRules, tableRules}
 use Rattle.tables.proofs.Accepted.{Slots-good}
 use Rattle.tables.proofs.Joined.{below-exactly}
 use Rattle.tables.proofs.Checked.{bad-bound, bad-classes, bad-rows-length, bad-lengths, bad-splits, bad-rows, bad-union, no-start-split, not-closed, slots-exactly, in-order-first, in-order-exactly}
 use Rattle.splits.specs.Split.{splitRules}
-use Rattle.demands.specs.Words.{Row, None, First, InWords, listWords, sizeRow, openWords, flowWords, feedWords, SlotsGood, Rises, sizeWords, entryWords, tableWords, splitWords}
+use Rattle.demands.specs.Words.{Row, None, First, InWords, listWords, openingRows, openWords, flowWords, feedWords, SlotsGood, Rises, sizeWords, entryWords, tableWords, splitWords}
 
 -- ---- a table of rules and a table of words
 
@@ -115,8 +121,19 @@ module _ (L : List ℕ) where
       no-starts : ((i : ℕ) → i < records L → isStart L i ≡ false) ↔ ((i : ℕ) → i < records L → getD L (8 * i) 0 ≡ 2 → ⊥)
       no-starts = (λ f i h e. true≢false (sym (kind-start L i .1 e) ∙ f i h), λ f i h. fails (getD L (8 * i) 0 ≡ 2) (isStart L i) (kind-start L i) .1 (f i h))
 
-  open-says : (R : List ℕ) → Says (openRules L R) (openWords L R)
-  open-says R = says-append (listRules L) ((4, wrongSize R) ∷ []) (listWords L) (sizeRow R) list-says (refl, wrong-size R, tt)
+  -- 15: the pairs are more than the room exactly where the words are fewer than two for each
+  no-room : (out : List ℕ) → noRoom (openPairs L) out ≡ true ↔ (length out < 2 * length (members signatures (accepted L (start L))))
+  no-room out =
+      let G = accepted L (start L) in
+      let e = over-words (room out) (length (openPairs L) / 2) in (
+        λ t. omega (arith, e .0 t, openPairs-long L, members-size signatures G),
+        λ l. e .1 (omega (arith, l, openPairs-long L, members-size signatures G)),
+      )
+
+  open-says : (R out : List ℕ) → Says (openRules L R out) (openWords L R out)
+  open-says R out =
+      says-append (listRules L) ((4, wrongSize R) ∷ (15, noRoom (openPairs L) out) ∷ []) (listWords L) (openingRows L R out) list-says
+      (refl, wrong-size R, (refl, no-room out, tt))
 
   feed-says : (R : List ℕ) (at : ℕ) (piece : List ℕ) → Says (feedRules L R at piece) (feedWords L R at piece)
   feed-says R at piece = says-append (listRules L) (flowRules R at piece) (listWords L) (flowWords R at piece) list-says (refl, bad-flow R, (refl, other-start R at, (refl, too-long R piece, tt)))
@@ -192,8 +209,8 @@ module _ (b : ℕ) (T : Table) where
 pub list-tells : (L : List ℕ) → InWords (listWords L) (verdict (listRules L))
 list-tells L = tells (listRules L) (listWords L) refl (list-says L)
 
-pub open-tells : (L R : List ℕ) → InWords (openWords L R) (verdict (openRules L R))
-open-tells L R = tells (openRules L R) (openWords L R) refl (open-says L R)
+pub open-tells : (L R out : List ℕ) → InWords (openWords L R out) (verdict (openRules L R out))
+open-tells L R out = tells (openRules L R out) (openWords L R out) refl (open-says L R out)
 
 pub feed-tells : (L R : List ℕ) (at : ℕ) (piece : List ℕ) → InWords (feedWords L R at piece) (verdict (feedRules L R at piece))
 feed-tells L R at piece = tells (feedRules L R at piece) (feedWords L R at piece) refl (feed-says L R at piece)

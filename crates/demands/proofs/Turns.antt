@@ -16,28 +16,34 @@ use Rattle.feeds.proofs.Moves.{feed-fits}
 use Rattle.feeds.proofs.Runs.{bytes-take, length-take-most}
 use Rattle.feeds.proofs.Whole.{by-answer}
 use Rattle.flows.specs.Flow.{flowLayout, rowsOf}
-use Rattle.plain.specs.Plain.{plain, opened}
-use Rattle.plain.specs.Opens.{Opens}
+use Rattle.feeds.specs.declared.Opened.{Opened}
+use Rattle.feeds.specs.Opening.{Opens}
+use Rattle.plain.specs.Plain.{plain, opened, openFlow}
 use Rattle.tables.specs.Table.{Table, tableRefusal}
 use Rattle.demands.specs.Calls.{Via, byList, byTable, Call, asked, outcome}
 use Rattle.demands.specs.Demands.{InBytes, activeParts}
 use Rattle.demands.specs.Made.{Promised, callsOf, leftBy}
-use Rattle.demands.specs.Drivers.{sight, callOf, wordsSeen, bytesSeen, viaBy, Turn, CutsKept, CutsDriven}
-use Rattle.demands.proofs.Demand3.{opened-frontier, opened-offset, opened-rows}
+use Rattle.demands.specs.Drivers.{sight, callOf, wordsSeen, bytesSeen, Sighted, openSeen, viaBy, Turn, CutsKept, CutsDriven}
+use Rattle.demands.proofs.Demand1.{demand-1}
+use Rattle.demands.proofs.Due.{due-all, opened-frontier, opened-offset, opened-rows}
 use Rattle.demands.proofs.Driving.{Kept, seen, made, opens-0, plain-kept, split-kept}
 
--- some feeds by L, made from the record B on, consumed bs, told ws and left Q
-pub record Came (L : List ℕ) (via : Via) (B bs ws Q : List ℕ) : Type 0 where
+-- what opening tells fits the words
+pub open-fits : (L R out : List ℕ) (f : Opened) (vs sv : List ℕ) → Opens (openFlow L R out) f vs sv → 2 * f .pairs ≤ length vs
+open-fits L R out f vs sv o = rw (o .pairs, o .words) (omega (arith, demand-1 .opens-fit L R out, demand-1 .opens-many L R out))
+
+-- some feeds by L, made from the record B on, consumed bs, left Q, and told what stands behind the words `front` in ws
+pub record Came (L : List ℕ) (via : Via) (B front bs ws Q : List ℕ) : Type 0 where
   pub feeds : List Kept
   pub in-bytes : InBytes (callsOf (made L via feeds))
   pub promised : Promised B (made L via feeds)
   pub eaten : bytesSeen (seen feeds) ≡ bs
-  pub told : wordsSeen (seen feeds) ≡ ws
+  pub told : front ++ wordsSeen (seen feeds) ≡ ws
   pub left : leftBy B (made L via feeds) ≡ Q
 
-pub came-none : (L : List ℕ) (via : Via) (B : List ℕ) → Came L via B [] [] B
+pub came-none : (L : List ℕ) (via : Via) (B front : List ℕ) → Came L via B front [] front B
 unfolding leftBy
-came-none L via B = record { feeds = []; in-bytes = tt; promised = tt; eaten = refl; told = refl; left = refl }
+came-none L via B front = record { feeds = []; in-bytes = tt; promised = tt; eaten = refl; told = append-nil front; left = refl }
 
 -- ---- one feed more
 
@@ -69,10 +75,10 @@ module _ (L : List ℕ) (via : Via) (k : Kept) where
       ap (λ (ws : List ℕ). take (2 * j .0 .fed .pairs) (j .0 .words) ++ ws) (told-more ks)
       ∙ sym (append-assoc (take (2 * j .0 .fed .pairs) (j .0 .words)) (wordsSeen (seen ks)) (take (2 * k .0 .fed .pairs) (k .0 .words)))
 
-pub came-more : (L : List ℕ) (via : Via) (B stream : List ℕ) (n : ℕ) (out : List ℕ) (w : ℕ) (R : List ℕ) (f : Fed) (words Q : List ℕ)
-    → Came L via B (take n stream) (take w out) R → Turn L via R stream n out w f words Q
-    → Came L via B (take (n + f .bytes) stream) (take (w + 2 * f .pairs) words) Q
-came-more L via B stream n out w R f words Q c t =
+pub came-more : (L : List ℕ) (via : Via) (B front stream : List ℕ) (n : ℕ) (out : List ℕ) (w : ℕ) (R : List ℕ) (f : Fed) (words Q : List ℕ)
+    → Came L via B front (take n stream) (take w out) R → Turn L via R stream n out w f words Q
+    → Came L via B front (take (n + f .bytes) stream) (take (w + 2 * f .pairs) words) Q
+came-more L via B front stream n out w R f words Q c t =
     let k : Kept = (t .fed, Q) in
     let ks = c .feeds in
     record {
@@ -80,7 +86,10 @@ came-more L via B stream n out w R f words Q c t =
       in-bytes = bytes-more L via k ks (c .in-bytes) (t .in-bytes);
       promised = promised-more L via k B ks (c .promised) (rw (c .left) (t .answers));
       eaten = eaten-more L via k ks ∙ ap (λ (bs : List ℕ). bs ++ take (t .fed .fed .bytes) (t .fed .piece)) (c .eaten) ∙ sym (t .eats);
-      told = told-more L via k ks ∙ ap (λ (ws : List ℕ). ws ++ take (2 * t .fed .fed .pairs) (t .fed .words)) (c .told) ∙ sym (t .tells);
+      told =
+          ap (λ (ws : List ℕ). front ++ ws) (told-more L via k ks)
+          ∙ sym (append-assoc front (wordsSeen (seen ks)) (take (2 * t .fed .fed .pairs) (t .fed .words)))
+          ∙ ap (λ (ws : List ℕ). ws ++ take (2 * t .fed .fed .pairs) (t .fed .words)) (c .told) ∙ sym (t .tells);
       left = left-more L via k B ks;
     }
 
@@ -117,34 +126,34 @@ turned L via R stream n e out w v at f ys Q he hw hv hn hb hl a =
 
 -- ---- the demands of what came
 
-plain-cuts : (L bs ws Q : List ℕ) → Bytes (opened L) → Came L byList (opened L) bs ws Q → CutsKept L (plain L) bs ws Q
-plain-cuts L bs ws Q hB c =
-    let d = plain-kept L (opened L) (c .feeds) hB (c .in-bytes) (c .promised) in
-    rw (← c .eaten, ← c .told, ← c .left)
-    (record {
-      tells = rw (opened-frontier L, opened-offset L) at (d .tells);
-      frontier = rw (opened-frontier L) at (d .frontier);
-      offset = d .offset ∙ rw (opened-offset L) (omega arith);
-      rows = d .rows ∙ rw (opened-frontier L, opened-rows L) (omega arith);
-    })
+module _ (L R : List ℕ) (s : Sighted) (B : List ℕ) (opens : Opens (openFlow L R (s .out)) (s .opened) (s .words) B) (z : s .opened .refusal ≡ 0) (bs ws Q : List ℕ) where
+  plain-cuts : Bytes B → Came L byList B (openSeen s) bs ws Q → CutsKept L (plain L) bs ws Q
+  plain-cuts hB came =
+      let o = opens-0 L R s B opens z in
+      let c : Came L byList (opened L) (openSeen s) bs ws Q = rw (o .1) at came in
+      let d = plain-kept L (opened L) (c .feeds) (rw (o .1) at hB) (c .in-bytes) (c .promised) in
+      rw (← c .eaten, ← c .told, ← c .left)
+      (record {
+        due = rw (o .0) (due-all L _ _ (rw (opened-frontier L, opened-offset L) at (d .tells)));
+        frontier = rw (opened-frontier L) at (d .frontier);
+        offset = d .offset ∙ rw (opened-offset L) (omega arith);
+        rows = d .rows ∙ rw (opened-frontier L, opened-rows L) (omega arith);
+      })
 
-split-cuts : (L : List ℕ) (b : ℕ) (T : Table) (bs ws Q : List ℕ) → tableRefusal L b T ≡ 0 → Came L (byTable b T) (opened L) bs ws Q
-    → CutsKept L (activeParts L T) bs ws Q × (rowsOf Q ≤ b * length bs)
-split-cuts L b T bs ws Q ok c =
-    let d = split-kept L b T ok (c .feeds) (c .in-bytes) (c .promised) in
-    rw (← c .eaten, ← c .told, ← c .left)
-    (record { tells = d .tells; frontier = d .frontier; offset = d .offset; rows = d .rows }, d .ceiling)
+  split-cuts : (b : ℕ) (T : Table) → tableRefusal L b T ≡ 0 → Came L (byTable b T) B (openSeen s) bs ws Q → CutsKept L (activeParts L T) bs ws Q × (rowsOf Q ≤ b * length bs)
+  split-cuts b T ok c =
+      let d = split-kept L b T ok R s B opens z (c .feeds) (c .in-bytes) (c .promised) in
+      rw (← c .eaten, ← c .told, ← c .left)
+      (record { due = d .due; frontier = d .frontier; offset = d .offset; rows = d .rows }, d .ceiling)
 
-pub cuts-driven : (L : List ℕ) (b : ℕ) (T : Table) (R : List ℕ) (flag : Bool) (l n m : ℕ) (B bs ws Q : List ℕ)
-    → l ≡ listRefusal L → n ≡ tableRefusal L b T → Opens L R m B → Bytes B → Came L (viaBy flag b T) B bs ws Q
-    → CutsDriven L b T R flag l n m bs ws Q
-cuts-driven L b T R flag l n m B bs ws Q lists check opens hB c =
+pub cuts-driven : (L : List ℕ) (b : ℕ) (T : Table) (R : List ℕ) (flag : Bool) (l n : ℕ) (s : Sighted) (B bs ws Q : List ℕ)
+    → l ≡ listRefusal L → n ≡ tableRefusal L b T → Opens (openFlow L R (s .out)) (s .opened) (s .words) B → Bytes B
+    → Came L (viaBy flag b T) B (openSeen s) bs ws Q → CutsDriven L b T R (s .out) flag l n (s .opened) bs ws Q
+cuts-driven L b T R flag l n s B bs ws Q lists check opens hB c =
     record {
       lists = lists;
       tables = check;
-      opens = opens .refusal;
-      plainly =
-          λ f z. let o = opens-0 L R m B opens z in plain-cuts L bs ws Q (rw o at hB) (rw (f, o) at c);
-      through =
-          λ f y z. split-cuts L b T bs ws Q (sym check ∙ y) (rw (f, opens-0 L R m B opens z) at c);
+      opens = (opens .refusal, opens .pairs);
+      plainly = λ f z. plain-cuts L R s B opens z bs ws Q hB (rw f at c);
+      through = λ f y z. split-cuts L R s B opens z bs ws Q b T (sym check ∙ y) (rw f at c);
     }

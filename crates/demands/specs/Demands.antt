@@ -13,7 +13,8 @@ use Rattle.feeds.specs.Pairs.{Pair, Before}
 use Rattle.feeds.specs.Engine.{Engine, Outcome, run, costs, told, amount, room}
 use Rattle.flows.specs.Flow.{flowLayout, frontierOf, offsetOf, rowsOf, badFlow, otherStart, feedRules}
 use Rattle.feeds.specs.Calls.{Bytes, recordAfter, allTold, allBytes}
-use Rattle.plain.specs.Plain.{plain, opened, openPairs, pairsOf, openRules, openRefusal, openSaved, plainFeed}
+use Rattle.feeds.specs.Opening.{Opening}
+use Rattle.plain.specs.Plain.{plain, opened, openPairs, pairsOf, openRules, openFlow, plainFeed}
 use Rattle.tables.specs.Table.{Table, tableRules, tableRefusal}
 use Rattle.splits.specs.Split.{taken, stuck, split, splitRules, splitFeed}
 use Rattle.demands.specs.Words.{None, First, InWords, listWords, openWords, feedWords, tableWords, splitWords, Stuck}
@@ -30,6 +31,16 @@ pub record Unchanged (R out : List ℕ) (o : Outcome) : Type 0 where
   pub words : o .words ≡ out
   pub saved : o .saved ≡ R
 
+-- so of an opening: zero pairs, and both buffers as they were
+pub record Unopened (R out : List ℕ) (o : Opening) : Type 0 where
+  pub pairs : o .pairs ≡ 0
+  pub words : o .words ≡ out
+  pub saved : o .saved ≡ R
+
+-- the words of the pairs that an opening tells
+abbrev pub openTold : Opening → List ℕ
+openTold o = take (2 * o .pairs) (o .words)
+
 -- two calls that consume the same, tell the same and leave the same buffers
 pub record Same (o p : Outcome) : Type 0 where
   pub bytes : o .bytes ≡ p .bytes
@@ -39,17 +50,24 @@ pub record Same (o p : Outcome) : Type 0 where
 
 pub record Demand1 : Type 0 where
   -- in the rules of each entry point the numbers rise: of those that apply, the lowest is given
-  pub lowest : (L : List ℕ) (b : ℕ) (T : Table) (R : List ℕ) (at : ℕ) (piece : List ℕ)
-      → Rises (listRules L) × Rises (openRules L R) × Rises (feedRules L R at piece) × Rises (tableRules L b T) × Rises (splitRules L b T R at piece)
+  pub lowest : (L : List ℕ) (b : ℕ) (T : Table) (R : List ℕ) (at : ℕ) (piece out : List ℕ)
+      → Rises (listRules L) × Rises (openRules L R out) × Rises (feedRules L R at piece) × Rises (tableRules L b T) × Rises (splitRules L b T R at piece)
   -- the list check: 1 to 3; and in words: each number exactly when its words hold and those of no row before it do
   pub lists : (L : List ℕ) → Refuses (listRules L) (listRefusal L)
   pub lists-said : (L : List ℕ) → InWords (listWords L) (listRefusal L)
-  -- opening: 1 to 4; a refusal leaves the record, and else it is the start states at offset 0 with no rows read, whatever it held; only its length is looked at
-  pub opens : (L R : List ℕ) → Refuses (openRules L R) (openRefusal L R)
-  pub opens-said : (L R : List ℕ) → InWords (openWords L R) (openRefusal L R)
-  pub opens-passes : (L R : List ℕ) → openRefusal L R ≡ 0 → openSaved L R ≡ opened L
-  pub opens-length : (L R Q : List ℕ) → length R ≡ length Q → openRefusal L R ≡ openRefusal L Q
-  pub opens-not : (L R : List ℕ) → (openRefusal L R ≡ 0 → ⊥) → openSaved L R ≡ R
+  -- opening: 1 to 4, then 15 exactly when the pairs of offset 0 are more than the room; of the record and the words only their lengths are looked at
+  pub opens : (L R out : List ℕ) → Refuses (openRules L R out) (openFlow L R out .refusal)
+  pub opens-said : (L R out : List ℕ) → InWords (openWords L R out) (openFlow L R out .refusal)
+  pub opens-length : (L R Q out ws : List ℕ) → length R ≡ length Q → length out ≡ length ws → openFlow L R out .refusal ≡ openFlow L Q ws .refusal
+  -- a refusal changes nothing; else the pairs of offset 0 are told, and the record is the start states at offset 0 with no rows read, whatever it held
+  pub opens-not : (L R out : List ℕ) → (openFlow L R out .refusal ≡ 0 → ⊥) → Unopened R out (openFlow L R out)
+  pub opens-passes : (L R out : List ℕ) → openFlow L R out .refusal ≡ 0 → (openTold (openFlow L R out) ≡ openPairs L) × (openFlow L R out .saved ≡ opened L)
+  -- whether refused or not: the words from the pairs on stay, an odd last word too; there are as many; the pairs fit half as many
+  pub opens-stay : (L R out : List ℕ) (i : ℕ) → 2 * openFlow L R out .pairs ≤ i → getD (openFlow L R out .words) i 0 ≡ getD out i 0
+  pub opens-many : (L R out : List ℕ) → length (openFlow L R out .words) ≡ length out
+  pub opens-fit : (L R out : List ℕ) → 2 * openFlow L R out .pairs ≤ length out
+  -- room for all signatures always suffices
+  pub opens-room : (L R out : List ℕ) → signatures ≤ room out → openFlow L R out .refusal ≡ 15 → ⊥
   -- the plain feed: 1 to 6
   pub feeds : (L R : List ℕ) (at : ℕ) (piece out : List ℕ) → Refuses (feedRules L R at piece) (plainFeed L R at piece out .refusal)
   pub feeds-said : (L R : List ℕ) (at : ℕ) (piece out : List ℕ) → InWords (feedWords L R at piece) (plainFeed L R at piece out .refusal)
@@ -88,7 +106,7 @@ pub record Demand1 : Type 0 where
 
 -- ==== Demand 2: the plain feed reports exactly the pairs that the automaton's definition gives for the bytes consumed, going on from
 -- ==== the flow's saved frontier, each once, by offset and then signature. It consumes as many bytes as have room for their pairs.
--- ==== A piece that doesn't begin at the flow's offset is refused.
+-- ==== A piece that doesn't begin at the flow's offset is refused. From opening on the pairs of offset 0 count as well.
 
 -- what any list of calls on the record R consumes and tells, and the record after it
 abbrev pub bytesOf : List ℕ → List Call → List ℕ
@@ -135,6 +153,19 @@ pub record Demand2 (L R : List ℕ) (cs : List Call) : Type 0 where
   -- a refusal is one of the rules', never 14
   pub refused : Each (λ Q c. outcome Q c .refusal ≡ verdict (asked c .rules Q)) R cs
 
+-- ws are exactly the pairs of a flow of L, from its opening on, that has consumed bs
+pub record Due (L bs ws : List ℕ) : Type 0 where
+  pub tells : ws ≡ pairsOf L bs
+  -- in the automaton's words: (g, k) is told exactly when the flow has come to offset k, from 0 on, and a state of the frontier there accepts g
+  pub due : (g k : ℕ) → Pair ws g k ↔ ((k ≤ length bs) × (holds (accepted L (run (plain L) (start L) (take k bs))) g ≡ true))
+  -- by offset and then signature, both rising, so that no pair is told twice
+  pub ordered : (i j : ℕ) → i < j → 2 * j + 1 < length ws → Before ws i j
+
+-- the whole flow, by its opening o and the calls that follow: opening's words, then the feeds'
+pub record Demand2Opened (L : List ℕ) (o : Opening) (cs : List Call) : Type 0 where
+  pub due : Due L (bytesOf (o .saved) cs) (openTold o ++ wordsOf (o .saved) cs)
+  pub feeds : Demand2 L (o .saved) cs
+
 -- cut anywhere: calls that consume the same bytes tell the same words and leave the same record, whatever the pieces, the rooms and the refusals between
 pub record Alike (R : List ℕ) (cs ds : List Call) : Type 0 where
   pub words : wordsOf R cs ≡ wordsOf R ds
@@ -171,17 +202,14 @@ Through L b T R c = verdict (asked c .rules R) ≡ 0 → (c .list ≡ L) × (c .
 abbrev pub activeParts : List ℕ → Table → Engine ℕ
 activeParts L T = record { next = plain L .next; alerts = plain L .alerts; cost = λ F. length (taken T F); halts = plain L .halts }
 
--- from the record R that opening leaves
-pub record Demand3 (L : List ℕ) (b : ℕ) (T : Table) (R : List ℕ) (cs : List Call) : Type 0 where
+-- of the opening o and the calls that follow
+pub record Demand3 (L : List ℕ) (b : ℕ) (T : Table) (o : Opening) (cs : List Call) : Type 0 where
   -- no call ends in 14
-  pub never-14 : Each (λ Q c. outcome Q c .refusal ≡ 14 → ⊥) R cs
-  -- the pairs told are those of demand 2's definition, from the start set on
-  pub tells : openPairs L ++ wordsOf R cs ≡ pairsOf L (bytesOf R cs)
-  -- in the automaton's words: (g, k) is told exactly when k is the offset after one of the bytes, from 1 on, and a state of the frontier there accepts g
-  pub due : (g k : ℕ) → Pair (openPairs L ++ wordsOf R cs) g k
-      ↔ ((n : ℕ) × (n < length (bytesOf R cs)) × (k ≡ suc n) × (holds (accepted L (run (plain L) (start L) (take (suc n) (bytesOf R cs)))) g ≡ true))
-  pub frontier : frontierOf (after R cs) ≡ run (plain L) (start L) (bytesOf R cs)
-  pub offset : offsetOf (after R cs) ≡ length (bytesOf R cs)
+  pub never-14 : Each (λ Q c. outcome Q c .refusal ≡ 14 → ⊥) (o .saved) cs
+  -- the pairs told are those of demand 2's definition, from offset 0 on
+  pub due : Due L (bytesOf (o .saved) cs) (openTold o ++ wordsOf (o .saved) cs)
+  pub frontier : frontierOf (after (o .saved) cs) ≡ run (plain L) (start L) (bytesOf (o .saved) cs)
+  pub offset : offsetOf (after (o .saved) cs) ≡ length (bytesOf (o .saved) cs)
   -- the rows read are the active parts before each byte, summed, and at most b for each byte
-  pub rows : rowsOf (after R cs) ≡ costs (activeParts L T) (start L) (bytesOf R cs)
-  pub ceiling : rowsOf (after R cs) ≤ b * length (bytesOf R cs)
+  pub rows : rowsOf (after (o .saved) cs) ≡ costs (activeParts L T) (start L) (bytesOf (o .saved) cs)
+  pub ceiling : rowsOf (after (o .saved) cs) ≤ b * length (bytesOf (o .saved) cs)

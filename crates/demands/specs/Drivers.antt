@@ -4,7 +4,7 @@ use mathlib.Core.Bool.{Bool, true, false, cond}
 use mathlib.Core.List.{List, [], _∷_, _++_}
 use mathlib.Core.Logic.{_↔_}
 use mathlib.Core.Path.{_≡_}
-use lib.ListN.{length, take}
+use lib.ListN.{length, getD, take}
 use Rattle.sets.specs.Set.{holds}
 use Rattle.rules.specs.Rules.{verdict, number, Given, Refuses}
 use Rattle.lists.specs.List.{listRefusal}
@@ -15,11 +15,13 @@ use Rattle.feeds.specs.Calls.{Bytes}
 use Rattle.feeds.specs.Fed.{Answers}
 use Rattle.feeds.specs.declared.Fed.{Fed}
 use Rattle.flows.specs.Flow.{frontierOf, offsetOf, rowsOf, feedRules}
-use Rattle.plain.specs.Plain.{plain, opened, openPairs, pairsOf, openRules, openRefusal, openSaved}
+use Rattle.feeds.specs.declared.Opened.{Opened}
+use Rattle.feeds.specs.Opening.{Opens}
+use Rattle.plain.specs.Plain.{plain, opened, openRules, openFlow}
 use Rattle.tables.specs.Table.{Table, tableRefusal}
 use Rattle.splits.specs.Split.{stuck, split, splitRules, splitFeed}
 use Rattle.demands.specs.Calls.{Via, byList, byTable, Call, outcome}
-use Rattle.demands.specs.Demands.{Longest, activeParts}
+use Rattle.demands.specs.Demands.{Longest, Due, activeParts}
 
 -- ---- feeds as their caller sees them
 
@@ -33,6 +35,23 @@ pub record Seen : Type 0 where
 
 abbrev pub sight : ℕ → List ℕ → List ℕ → Fed → List ℕ → Seen
 sight at piece out fed words = record { at = at; piece = piece; out = out; fed = fed; words = words }
+
+-- an opening: the words at entry, the answer, and the words at exit
+pub record Sighted : Type 0 where
+  pub out : List ℕ
+  pub opened : Opened
+  pub words : List ℕ
+
+abbrev pub openSight : List ℕ → Opened → List ℕ → Sighted
+openSight out opened words = record { out = out; opened = opened; words = words }
+
+-- the words of the pairs that it told
+abbrev pub openSeen : Sighted → List ℕ
+openSeen s = take (2 * s .opened .pairs) (s .words)
+
+-- it answers, and leaves in its words, what its definition says on the record R
+abbrev pub AnsweredOpen : List ℕ → List ℕ → Sighted → Type 0
+AnsweredOpen L R s = let o = openFlow L R (s .out) in Opens o (s .opened) (s .words) (o .saved)
 
 -- the call by the list L, plain or through a table
 abbrev pub callOf : List ℕ → Via → Seen → Call
@@ -78,11 +97,13 @@ pub record Untouched (R : List ℕ) (s : Seen) (Q : List ℕ) : Type 0 where
   pub words : s .words ≡ s .out
   pub saved : Q ≡ R
 
--- opening answers its rules' number; a refusal leaves the record, and no refusal leaves the opened one
-pub record OpenKept (L R : List ℕ) (refusal : ℕ) (Q : List ℕ) : Type 0 where
-  pub refuses : Refuses (openRules L R) refusal
-  pub unchanged : (refusal ≡ 0 → ⊥) → Q ≡ R
-  pub opens : refusal ≡ 0 → Q ≡ opened L
+-- opening answers its rules' number; a refusal leaves both buffers, and no refusal leaves the opened record and tells the pairs of offset 0; the words behind them stay
+pub record OpenKept (L R : List ℕ) (s : Sighted) (Q : List ℕ) : Type 0 where
+  pub refuses : Refuses (openRules L R (s .out)) (s .opened .refusal)
+  pub unchanged : (s .opened .refusal ≡ 0 → ⊥) → (s .opened .pairs ≡ 0) × (s .words ≡ s .out) × (Q ≡ R)
+  pub opens : s .opened .refusal ≡ 0 → Q ≡ opened L
+  pub due : s .opened .refusal ≡ 0 → Due L [] (openSeen s)
+  pub stays : (i : ℕ) → 2 * s .opened .pairs ≤ i → getD (s .words) i 0 ≡ getD (s .out) i 0
 
 -- the plain feed: 1 to 6, each exactly where its rule says; a refusal changes nothing, and no refusal consumes the longest front
 pub record FeedKept (L R : List ℕ) (s : Seen) (Q : List ℕ) : Type 0 where
@@ -126,38 +147,38 @@ pub record PlainKept (L R : List ℕ) (ss : List Seen) (Q : List ℕ) : Type 0 w
   pub offset : offsetOf Q ≡ offsetOf R + length (bytesSeen ss)
   pub rows : rowsOf Q ≡ rowsOf R + costs (plain L) (frontierOf R) (bytesSeen ss)
 
--- the check of L answered `listed`, and opening on the record R answered `answer`; then the plain feeds, the second a resend of the first, which left Q
-pub record PlainDriven (L R : List ℕ) (listed answer : ℕ) (first again : Seen) (rest : List Seen) (Q : List ℕ) : Type 0 where
+-- the check of L answered `listed`, and opening on the record R is seen as s; then the plain feeds, the second a resend of the first, which left Q
+pub record PlainDriven (L R : List ℕ) (listed : ℕ) (s : Sighted) (first again : Seen) (rest : List Seen) (Q : List ℕ) : Type 0 where
   pub lists : listed ≡ listRefusal L
-  pub opens : answer ≡ openRefusal L R
-  pub answered : Answered L byList (openSaved L R) (first ∷ again ∷ rest) Q
-  pub kept : PlainKept L (openSaved L R) (first ∷ again ∷ rest) Q
-  -- opened: all pairs of the flow, from the start set on
-  pub tells : answer ≡ 0 → openPairs L ++ wordsSeen (first ∷ again ∷ rest) ≡ pairsOf L (bytesSeen (first ∷ again ∷ rest))
+  pub opens : AnsweredOpen L R s
+  pub answered : Answered L byList (openFlow L R (s .out) .saved) (first ∷ again ∷ rest) Q
+  pub kept : PlainKept L (openFlow L R (s .out) .saved) (first ∷ again ∷ rest) Q
+  -- opened: all pairs of the flow, from offset 0 on
+  pub due : s .opened .refusal ≡ 0 → Due L (bytesSeen (first ∷ again ∷ rest)) (openSeen s ++ wordsSeen (first ∷ again ∷ rest))
   -- resent: 5, once a byte of the piece was consumed
   pub resent : first .fed .refusal ≡ 0 → zero < first .fed .bytes → again .fed .refusal ≡ 5
 
--- ---- demand 3 of the feeds seen, and of the record Q after them
+-- ---- demand 3 of an opening that told ws and the feeds seen, and of the record Q after them
 
-pub record SplitKept (L : List ℕ) (b : ℕ) (T : Table) (ss : List Seen) (Q : List ℕ) : Type 0 where
+pub record SplitKept (L : List ℕ) (b : ℕ) (T : Table) (ws : List ℕ) (ss : List Seen) (Q : List ℕ) : Type 0 where
   -- no feed ends in 14
   pub never-14 : EachSeen (λ s. s .fed .refusal ≡ 14 → ⊥) ss
   pub says-all : EachSeen SaysAll ss
-  -- the pairs told are those of the definition on the bytes consumed, from the start set on
-  pub tells : openPairs L ++ wordsSeen ss ≡ pairsOf L (bytesSeen ss)
+  -- the pairs told are those of the definition on the bytes consumed, from offset 0 on
+  pub due : Due L (bytesSeen ss) (ws ++ wordsSeen ss)
   pub frontier : frontierOf Q ≡ run (plain L) (start L) (bytesSeen ss)
   pub offset : offsetOf Q ≡ length (bytesSeen ss)
   -- the rows read are the active parts before each byte, summed, and at most b for each byte
   pub rows : rowsOf Q ≡ costs (activeParts L T) (start L) (bytesSeen ss)
   pub ceiling : rowsOf Q ≤ b * length (bytesSeen ss)
 
--- the checks of L and of T at b answered `listed` and `checked`, and opening on the record R answered `answer`; then the feeds through T, which left Q
-pub record SplitDriven (L : List ℕ) (b : ℕ) (T : Table) (R : List ℕ) (listed checked answer : ℕ) (ss : List Seen) (Q : List ℕ) : Type 0 where
+-- the checks of L and of T at b answered `listed` and `checked`, and opening on the record R is seen as s; then the feeds through T, which left Q
+pub record SplitDriven (L : List ℕ) (b : ℕ) (T : Table) (R : List ℕ) (listed checked : ℕ) (s : Sighted) (ss : List Seen) (Q : List ℕ) : Type 0 where
   pub lists : listed ≡ listRefusal L
   pub tables : checked ≡ tableRefusal L b T
-  pub opens : answer ≡ openRefusal L R
-  pub answered : Answered L (byTable b T) (openSaved L R) ss Q
-  pub kept : checked ≡ 0 → answer ≡ 0 → SplitKept L b T ss Q
+  pub opens : AnsweredOpen L R s
+  pub answered : Answered L (byTable b T) (openFlow L R (s .out) .saved) ss Q
+  pub kept : checked ≡ 0 → s .opened .refusal ≡ 0 → SplitKept L b T (openSeen s) ss Q
 
 -- ---- any number of feeds, in a loop
 
@@ -175,17 +196,17 @@ pub record Turn (L : List ℕ) (via : Via) (R stream : List ℕ) (n : ℕ) (out 
   pub short : n + f .bytes ≤ length stream
   pub fits : w + 2 * f .pairs ≤ length words
 
--- the bytes bs consumed and the words ws told by a flow opened on L, and its record Q, where a byte costs the rows of E
+-- the bytes bs consumed and the words ws told by a flow from its opening on L, and its record Q, where a byte costs the rows of E
 pub record CutsKept (L : List ℕ) (E : Engine ℕ) (bs ws Q : List ℕ) : Type 0 where
-  pub tells : openPairs L ++ ws ≡ pairsOf L bs
+  pub due : Due L bs ws
   pub frontier : frontierOf Q ≡ run (plain L) (start L) bs
   pub offset : offsetOf Q ≡ length bs
   pub rows : rowsOf Q ≡ costs E (start L) bs
 
--- the checks and the opening as before; then the feeds, plain or through T
-pub record CutsDriven (L : List ℕ) (b : ℕ) (T : Table) (R : List ℕ) (flag : Bool) (listed checked answer : ℕ) (bs ws Q : List ℕ) : Type 0 where
+-- the checks as before, and opening with all of the words `out` answered `opened`; then the feeds, plain or through T, whose words go behind the opening's
+pub record CutsDriven (L : List ℕ) (b : ℕ) (T : Table) (R out : List ℕ) (flag : Bool) (listed checked : ℕ) (opened : Opened) (bs ws Q : List ℕ) : Type 0 where
   pub lists : listed ≡ listRefusal L
   pub tables : checked ≡ tableRefusal L b T
-  pub opens : answer ≡ openRefusal L R
-  pub plainly : flag ≡ false → answer ≡ 0 → CutsKept L (plain L) bs ws Q
-  pub through : flag ≡ true → checked ≡ 0 → answer ≡ 0 → CutsKept L (activeParts L T) bs ws Q × (rowsOf Q ≤ b * length bs)
+  pub opens : (opened .refusal ≡ openFlow L R out .refusal) × (opened .pairs ≡ openFlow L R out .pairs)
+  pub plainly : flag ≡ false → opened .refusal ≡ 0 → CutsKept L (plain L) bs ws Q
+  pub through : flag ≡ true → checked ≡ 0 → opened .refusal ≡ 0 → CutsKept L (activeParts L T) bs ws Q × (rowsOf Q ≤ b * length bs)

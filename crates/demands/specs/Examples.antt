@@ -8,8 +8,9 @@ use Rattle.sets.specs.Set.{states, signatures, setSize, digits, setBytes}
 use Rattle.lists.specs.List.{mostRecords, listRefusal}
 use Rattle.lists.specs.Automaton.{edge}
 use Rattle.feeds.specs.Engine.{Outcome, mostOffset}
+use Rattle.feeds.specs.Opening.{Opening}
 use Rattle.flows.specs.Flow.{flowSize, flowBytes, rowsOf}
-use Rattle.plain.specs.Plain.{opened, openRefusal, openSaved}
+use Rattle.plain.specs.Plain.{opened, openFlow, pairsOf}
 use Rattle.tables.specs.Table.{Table, table, splitSize, mostClass, mostParts, mostSplits, mostBound, tableRefusal}
 use Rattle.demands.specs.Calls.{Via, byList, byTable, outcome}
 
@@ -60,6 +61,14 @@ abbrev pub from : ℕ → ℕ → List ℕ
 from k zero = []
 from k (suc n) = k ∷ from (k + 1) n
 
+-- state 0 accepts a signature
+abbrev pub startAccepts : ℕ → List ℕ
+startAccepts g = 0x03 ∷ 0x00 ∷ 0x00 ∷ 0x00 ∷ 0x00 ∷ 0x00 ∷ g ∷ 0x00 ∷ []
+
+-- L with accept records of state 0, the start state, in this order: 5, 3, 5
+abbrev pub L₀ : List ℕ
+L₀ = L ++ (startAccepts 5 ++ (startAccepts 3 ++ startAccepts 5))
+
 -- ---- table T
 
 -- the bytes of some sets: {0} is the number 1, {0,1} is 3, {2} is 4, {0,2} is 5
@@ -109,6 +118,16 @@ fed via R at piece n = outcome R (record { list = L; via = via; at = at; piece =
 -- an answer as numbers: refusal, bytes, pairs, all
 abbrev pub answered : Outcome → List ℕ
 answered o = o .refusal ∷ o .bytes ∷ o .pairs ∷ cond (o .all) 1 0 ∷ []
+
+-- a record full of FF; opening a record on L₀ with n words, each 9; an opening's answer as numbers: refusal, pairs
+abbrev pub full : List ℕ
+full = replicate (setSize + 16) 0xFF
+
+abbrev pub begin : List ℕ → ℕ → Opening
+begin R n = openFlow L₀ R (replicate n 9)
+
+abbrev pub openAnswered : Opening → List ℕ
+openAnswered o = o .refusal ∷ o .pairs ∷ []
 
 abbrev pub plainABAB : ℕ → Outcome
 plainABAB n = fed byList (opened L) 0 (a ∷ b ∷ a ∷ b ∷ []) n
@@ -163,10 +182,19 @@ feedRows =
     -- an odd buffer filled with other numbers, "abab": room for one pair, and the words behind it stay, the odd last one too
     ∷ (odd .words, 7 ∷ 2 ∷ 9 ∷ [])
     ∷ (answered odd, 0 ∷ 3 ∷ 1 ∷ 0 ∷ [])
-    -- opening a record full of FF: the record of the start states; one of another size, as that of 256 states, 48 bytes: 4, and it stays
-    ∷ (openRefusal L (replicate (setSize + 16) 0xFF) ∷ openSaved L (replicate (setSize + 16) 0xFF), 0 ∷ opened L)
-    ∷ (openRefusal L (0xFF ∷ []) ∷ openSaved L (0xFF ∷ []), 4 ∷ 0xFF ∷ [])
-    ∷ (openRefusal L (replicate 48 0xFF) ∷ openSaved L (replicate 48 0xFF), 4 ∷ replicate 48 0xFF)
+    -- opening a record full of FF, with no room: no start state accepts, so it opens; one of another size, as that of 256 states, 48 bytes: 4, and it stays
+    ∷ (openAnswered (openFlow L full []) ++ openFlow L full [] .saved, 0 ∷ 0 ∷ opened L)
+    ∷ (openAnswered (openFlow L (0xFF ∷ []) []) ++ openFlow L (0xFF ∷ []) [] .saved, 4 ∷ 0 ∷ 0xFF ∷ [])
+    ∷ (openAnswered (openFlow L (replicate 48 0xFF) []) ++ openFlow L (replicate 48 0xFF) [] .saved, 4 ∷ 0 ∷ replicate 48 0xFF)
+    -- L₀ with four words of 9: the pairs (3, 0) and (5, 0); with three: 15, and nothing changes
+    ∷ (openAnswered (begin full 4) ++ begin full 4 .words, 0 ∷ 2 ∷ 3 ∷ 0 ∷ 5 ∷ 0 ∷ [])
+    ∷ (begin full 4 .saved, opened L)
+    ∷ (openAnswered (begin full 3) ++ begin full 3 .words, 15 ∷ 0 ∷ 9 ∷ 9 ∷ 9 ∷ [])
+    ∷ (begin full 3 .saved, full)
+    -- a record one byte short, and no room: 4
+    ∷ (openAnswered (begin (replicate (setSize + 15) 0xFF) 0), 4 ∷ 0 ∷ [])
+    -- fed "ab" from there: the pairs of offset 1 and 2, of which 7 ends at 2; state 0 stays in the frontier
+    ∷ (pairsOf L₀ (a ∷ b ∷ []), 3 ∷ 0 ∷ 5 ∷ 0 ∷ 3 ∷ 1 ∷ 5 ∷ 1 ∷ 3 ∷ 2 ∷ 5 ∷ 2 ∷ 7 ∷ 2 ∷ [])
     -- state 1,023 passes, state 1,024 gives 2; a record of kind 4 gives 2
     ∷ (listRefusal (L ++ (2 ∷ 0 ∷ 0 ∷ 0 ∷ 0 ∷ 0 ∷ 0xFF ∷ 3 ∷ [])) ∷ listRefusal (L ++ (2 ∷ 0 ∷ 0 ∷ 0 ∷ 0 ∷ 0 ∷ 0 ∷ 4 ∷ [])) ∷ [], 0 ∷ 2 ∷ [])
     ∷ (listRefusal (L ++ (4 ∷ 0 ∷ 0 ∷ 0 ∷ 2 ∷ 0 ∷ 7 ∷ 0 ∷ [])) ∷ [], 2 ∷ [])
@@ -195,9 +223,17 @@ feedRows =
     ∷ (answered (splitABAB 1 (s0 ++ (s01 ++ s02)) 4), 14 ∷ 1 ∷ 0 ∷ 0 ∷ [])
     ∷ []
 
+-- opening on L₀ with five words of 9: the pairs (3, 0) and (5, 0), and the fifth word stays
+abbrev pub openedRow : Row
+openedRow = (openAnswered (begin full 5) ++ begin full 5 .words, 0 ∷ 2 ∷ 3 ∷ 0 ∷ 5 ∷ 0 ∷ 9 ∷ [])
+
 -- the table check: T at 2 is accepted; at bound 1: 9; without {0,2}: 13; without {0}: 12
 abbrev pub acceptedRow : Row
 acceptedRow = (tableRefusal L 2 T₃ ∷ [], 0 ∷ [])
+
+-- and for L₀, whose edges and start states are L's
+abbrev pub acceptedRow₀ : Row
+acceptedRow₀ = (tableRefusal L₀ 2 T₃ ∷ [], 0 ∷ [])
 
 abbrev pub boundRow : Row
 boundRow = (tableRefusal L 1 T₃ ∷ [], 9 ∷ [])
@@ -214,4 +250,4 @@ loudRow = (tableRefusal loud 2 T₃ ∷ [], 10 ∷ [])
 
 -- the one table
 abbrev pub examples : List Row
-examples = acceptedRow ∷ boundRow ∷ closedRow ∷ startRow ∷ loudRow ∷ feedRows
+examples = openedRow ∷ acceptedRow ∷ acceptedRow₀ ∷ boundRow ∷ closedRow ∷ startRow ∷ loudRow ∷ feedRows

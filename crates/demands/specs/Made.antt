@@ -7,7 +7,9 @@ use lib.ListN.{take}
 use Rattle.feeds.specs.declared.Fed.{Fed}
 use Rattle.feeds.specs.Fed.{Answers}
 use Rattle.lists.specs.List.{listRefusal}
-use Rattle.plain.specs.Opens.{Opens}
+use Rattle.feeds.specs.declared.Opened.{Opened}
+use Rattle.feeds.specs.Opening.{Opens}
+use Rattle.plain.specs.Plain.{openFlow}
 use Rattle.tables.specs.Table.{Table, tableRefusal}
 use Rattle.demands.specs.Calls.{Call, outcome}
 
@@ -54,18 +56,19 @@ unfoldable pub saidOf : List ℕ → List Call → List Bool
 saidOf R [] = []
 saidOf R (c ∷ cs) = outcome R c .all ∷ saidOf (outcome R c .saved) cs
 
--- ---- a flow from its checks on: the numbers that they and the opening answered, the record that opening left, and the calls made on it
+-- ---- a flow from its checks on: what they and the opening answered, the words and the record that opening left, and the calls made on it
 
 pub record Begun : Type 0 where
   pub listed : ℕ
   pub checked : ℕ
-  pub opened : ℕ
+  pub opened : Opened
+  pub words-left : List ℕ
   pub record-left : List ℕ
   pub calls : List Made
 
--- each does what its function promises: `check_list`, `check_table`, `open_flow` on the record R, and the feeds
-pub record BegunPromised (L : List ℕ) (b : ℕ) (T : Table) (R : List ℕ) (g : Begun) : Type 0 where
+-- each does what its function promises: `check_list`, `check_table`, `open_flow` on the record R with the words `out`, and the feeds
+pub record BegunPromised (L : List ℕ) (b : ℕ) (T : Table) (R out : List ℕ) (g : Begun) : Type 0 where
   pub lists : g .listed ≡ listRefusal L
   pub tables : g .checked ≡ tableRefusal L b T
-  pub opens : Opens L R (g .opened) (g .record-left)
+  pub opens : Opens (openFlow L R out) (g .opened) (g .words-left) (g .record-left)
   pub feeds : Promised (g .record-left) (g .calls)

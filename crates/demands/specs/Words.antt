@@ -4,9 +4,9 @@ use mathlib.Core.Path.{_≡_}
 use mathlib.Core.List.{List, [], _∷_, _++_}
 use mathlib.Core.Logic.{_⊎_, _↔_}
 use lib.ListN.{length, getD}
-use Rattle.sets.specs.Set.{states, signatures, setSize}
+use Rattle.sets.specs.Set.{states, signatures, setSize, members}
 use Rattle.lists.specs.List.{recordSize, mostRecords, records}
-use Rattle.lists.specs.Automaton.{start, step}
+use Rattle.lists.specs.Automaton.{start, step, accepted}
 use Rattle.lists.proofs.Listed.{Edge-bytes, Start-bytes, Accept-bytes}
 use Rattle.sets.proofs.Order.{Smaller}
 use Rattle.feeds.specs.Engine.{mostOffset}
@@ -43,13 +43,17 @@ listWords L =
     ∷ (3, (i : ℕ) → i < records L → getD L (8 * i) 0 ≡ 2 → ⊥)
     ∷ []
 
--- ---- opening: 1 to 4; the feeds: 1 to 6
+-- ---- opening: 1 to 4 and 15; the feeds: 1 to 6
 
-abbrev pub sizeRow : List ℕ → List Row
-sizeRow R = (4, length R ≡ flowSize → ⊥) ∷ []
+-- 15: fewer words than two for each signature that the start set accepts
+abbrev pub openingRows : List ℕ → List ℕ → List ℕ → List Row
+openingRows L R out =
+    (4, length R ≡ flowSize → ⊥)
+    ∷ (15, length out < 2 * length (members signatures (accepted L (start L))))
+    ∷ []
 
-abbrev pub openWords : List ℕ → List ℕ → List Row
-openWords L R = listWords L ++ sizeRow R
+abbrev pub openWords : List ℕ → List ℕ → List ℕ → List Row
+openWords L R out = listWords L ++ openingRows L R out
 
 abbrev pub flowWords : List ℕ → ℕ → List ℕ → List Row
 flowWords R k piece =

@@ -1,5 +1,6 @@
 // The drivers: code for no user. Each calls the entry points as a caller would, and promises a demand of what they answered and left.
 use feeds::Fed;
+use feeds::Opened;
 ghost use Prim.Native.Nat.{_≤_};
 ghost use mathlib.Core.List.{[], _∷_};
 ghost use lib.ListN.{length, take};
@@ -8,13 +9,13 @@ ghost use Rattle.lists.specs.List.{listRules};
 ghost use Rattle.tables.specs.Table.{table, tableRules};
 ghost use Rattle.feeds.specs.Fed.{Answers};
 ghost use Rattle.demands.specs.Calls.{outcome};
-ghost use Rattle.demands.specs.Drivers.{sight, callOf, OpenKept, FeedKept, SplitFeedKept, PlainDriven, SplitDriven, viaBy, Turn, CutsDriven};
+ghost use Rattle.demands.specs.Drivers.{sight, openSight, callOf, OpenKept, FeedKept, SplitFeedKept, PlainDriven, SplitDriven, viaBy, Turn, CutsDriven};
 
 // What the calls of `drive_each` answered: the two checks, the opening, and both feeds.
 struct DroveEach {
     listed: u32,
     checked: u32,
-    opened: u32,
+    opened: Opened,
     fed: Fed,
     split: Fed,
 }
@@ -30,6 +31,7 @@ fn drive_each(
     start: u64,
     piece: &[u8],
     opening: &mut [u8],
+    first_pairs: &mut [u32],
     flow: &mut [u8],
     pairs: &mut [u32],
     split_flow: &mut [u8],
@@ -38,7 +40,8 @@ fn drive_each(
     ensures lists { λ r. ⌜ Refuses (listRules (now (list .entry))) (r .listed) ⌝ }
     ensures tables { λ r. ⌜ Refuses (tableRules (now (list .entry)) bound
         (table (now (classes .entry)) (now (parts .entry)) (now (rows .entry)) (now (splits .entry)))) (r .checked) ⌝ }
-    ensures opens { λ r. ⌜ OpenKept (now (list .entry)) (now (opening .entry)) (r .opened) (now (opening .exit)) ⌝ }
+    ensures opens { λ r. ⌜ OpenKept (now (list .entry)) (now (opening .entry))
+        (openSight (now («first_pairs» .entry)) (r .opened) (now («first_pairs» .exit))) (now (opening .exit)) ⌝ }
     ensures feeds { λ r. ⌜ FeedKept (now (list .entry)) (now (flow .entry))
         (sight start (now (piece .entry)) (now (pairs .entry)) (r .fed) (now (pairs .exit))) (now (flow .exit)) ⌝ }
     ensures split_feeds { λ r. ⌜ SplitFeedKept (now (list .entry)) bound
@@ -47,7 +50,7 @@ fn drive_each(
 {
     let listed = lists::check_list(list);
     let checked = tables::check_table(list, bound, classes, parts, rows, splits);
-    let opened = plain::open_flow(list, opening);
+    let opened = plain::open_flow(list, opening, first_pairs);
     let fed = plain::feed(list, flow, start, piece, pairs);
     let split = splits::feed(
         list,
@@ -73,7 +76,7 @@ fn drive_each(
 // What the calls of `drive_plain` answered: the check, the opening, and four feeds.
 struct DrovePlain {
     listed: u32,
-    opened: u32,
+    opened: Opened,
     first: Fed,
     again: Fed,
     other: Fed,
@@ -84,6 +87,7 @@ struct DrovePlain {
 fn drive_plain(
     list: &[u8],
     flow: &mut [u8],
+    pairs0: &mut [u32],
     start1: u64,
     piece1: &[u8],
     pairs1: &mut [u32],
@@ -95,7 +99,8 @@ fn drive_plain(
     piece4: &[u8],
     pairs4: &mut [u32],
 ) -> DrovePlain
-    ensures { λ r. ⌜ PlainDriven (now (list .entry)) (now (flow .entry)) (r .listed) (r .opened)
+    ensures { λ r. ⌜ PlainDriven (now (list .entry)) (now (flow .entry)) (r .listed)
+        (openSight (now (pairs0 .entry)) (r .opened) (now (pairs0 .exit)))
         (sight start1 (now (piece1 .entry)) (now (pairs1 .entry)) (r .first) (now (pairs1 .exit)))
         (sight start1 (now (piece1 .entry)) (now (pairs2 .entry)) (r .again) (now (pairs2 .exit)))
         (sight start3 (now (piece3 .entry)) (now (pairs3 .entry)) (r .other) (now (pairs3 .exit))
@@ -103,7 +108,7 @@ fn drive_plain(
         (now (flow .exit)) ⌝ }
 {
     let listed = lists::check_list(list);
-    let opened = plain::open_flow(list, flow);
+    let opened = plain::open_flow(list, flow, pairs0);
     let first = plain::feed(list, flow, start1, piece1, pairs1);
     let again = plain::feed(list, flow, start1, piece1, pairs2);
     let other = plain::feed(list, flow, start3, piece3, pairs3);
@@ -122,7 +127,7 @@ fn drive_plain(
 struct DroveSplit {
     listed: u32,
     checked: u32,
-    opened: u32,
+    opened: Opened,
     first: Fed,
     second: Fed,
 }
@@ -136,6 +141,7 @@ fn drive_split(
     rows: &[u8],
     splits: &[u8],
     flow: &mut [u8],
+    pairs0: &mut [u32],
     start1: u64,
     piece1: &[u8],
     pairs1: &mut [u32],
@@ -144,14 +150,14 @@ fn drive_split(
     pairs2: &mut [u32],
 ) -> DroveSplit
     ensures { λ r. ⌜ SplitDriven (now (list .entry)) bound (table (now (classes .entry)) (now (parts .entry)) (now (rows .entry)) (now (splits .entry)))
-        (now (flow .entry)) (r .listed) (r .checked) (r .opened)
+        (now (flow .entry)) (r .listed) (r .checked) (openSight (now (pairs0 .entry)) (r .opened) (now (pairs0 .exit)))
         (sight start1 (now (piece1 .entry)) (now (pairs1 .entry)) (r .first) (now (pairs1 .exit))
         ∷ sight start2 (now (piece2 .entry)) (now (pairs2 .entry)) (r .second) (now (pairs2 .exit)) ∷ [])
         (now (flow .exit)) ⌝ }
 {
     let listed = lists::check_list(list);
     let checked = tables::check_table(list, bound, classes, parts, rows, splits);
-    let opened = plain::open_flow(list, flow);
+    let opened = plain::open_flow(list, flow, pairs0);
     let first = splits::feed(
         list,
         bound,
@@ -185,11 +191,11 @@ fn drive_split(
     }
 }
 
-// What the calls of `drive_cuts` answered: the two checks and the opening; and the bytes consumed and the words told by all feeds.
+// What the calls of `drive_cuts` answered: the two checks and the opening; and the bytes consumed by all feeds, and the words told by the opening and all feeds.
 struct DroveCuts {
     listed: u32,
     checked: u32,
-    opened: u32,
+    opened: Opened,
     bytes: usize,
     words: usize,
 }
@@ -287,7 +293,8 @@ fn feed_part(
 }
 
 // Demands 2 and 3 over any number of feeds: checks a list and a table, opens a flow, and feeds it a stream, through the table or plain.
-// Each feed states the start that a list of starts says, ends at the byte that a list of cuts says, and has words up to where a list of rooms says.
+// Opening has all of the words, and each feed goes on behind what is told: it states the start that a list of starts says, ends at the byte that a list of
+// cuts says, and has words up to where a list of rooms says.
 // One that is refused consumes nothing, and the next goes on from the same byte.
 fn drive_cuts(
     list: &[u8],
@@ -305,14 +312,14 @@ fn drive_cuts(
     pairs: &mut [u32],
 ) -> DroveCuts
     ensures { λ r. ⌜ CutsDriven (now (list .entry)) bound (table (now (classes .entry)) (now (parts .entry)) (now (rows .entry)) (now (splits .entry)))
-        (now (flow .entry)) through (r .listed) (r .checked) (r .opened)
+        (now (flow .entry)) (now (pairs .entry)) through (r .listed) (r .checked) (r .opened)
         (take (r .bytes) (now (stream .entry))) (take (r .words) (now (pairs .exit))) (now (flow .exit)) ⌝ }
 {
     let listed = lists::check_list(list);
     let checked = tables::check_table(list, bound, classes, parts, rows, splits);
-    let opened = plain::open_flow(list, flow);
+    let opened = plain::open_flow(list, flow, pairs);
     let mut n = 0usize;
-    let mut w = 0usize;
+    let mut w = 2 * opened.pairs;
     for i in 0..cuts.len() {
         let e = within(n, cuts[i], stream.len());
         let v = within(w, number_at(rooms, i), pairs.len());

@@ -2,8 +2,14 @@
 use Prim.Native.Nat.{ℕ}
 use mathlib.Core.List.{List}
 use Rattle.feeds.specs.Engine.{Outcome}
+use Rattle.feeds.specs.Opening.{Opening}
 use Rattle.watch_c.specs.declared.WatchFed.{WatchFed}
+use Rattle.watch_c.specs.declared.WatchOpened.{WatchOpened}
 
 abbrev pub held : WatchFed → List ℕ → List ℕ → Outcome
 held w words saved =
     record { refusal = w .refusal; bytes = w .bytes; pairs = w .pairs; all = w .all; words = words; saved = saved }
+
+-- so after an opening
+abbrev pub heldOpen : WatchOpened → List ℕ → List ℕ → Opening
+heldOpen w words saved = record { refusal = w .refusal; pairs = w .pairs; words = words; saved = saved }

@@ -1,18 +1,19 @@
 // The driver of the C face: code for no user. It calls each exported name, and promises that what they answer and leave is the definitions'.
 use watch_c::WatchFed;
+use watch_c::WatchOpened;
 ghost use mathlib.Core.Path.{_≡_};
 ghost use Rattle.lists.specs.List.{listRefusal};
-ghost use Rattle.plain.specs.Plain.{openRefusal, openSaved, plainFeed};
+ghost use Rattle.plain.specs.Plain.{openFlow, plainFeed};
 ghost use Rattle.tables.specs.Table.{table, tableRefusal};
 ghost use Rattle.splits.specs.Split.{splitFeed};
 ghost use Rattle.watch_c.specs.Face.{version};
-ghost use Rattle.faces.specs.Faced.{held};
+ghost use Rattle.faces.specs.Faced.{held, heldOpen};
 
 // What the calls answered: the two checks, the opening, and both feeds.
 struct Drove {
     listed: u32,
     checked: u32,
-    opened: u32,
+    opened: WatchOpened,
     fed: WatchFed,
     split: WatchFed,
 }
@@ -35,6 +36,7 @@ fn drive_faces(
     start: u64,
     piece: &[u8],
     opening: &mut [u8],
+    first_pairs: &mut [u32],
     flow: &mut [u8],
     pairs: &mut [u32],
     split_flow: &mut [u8],
@@ -43,8 +45,8 @@ fn drive_faces(
     ensures lists { λ r. ⌜ r .listed ≡ listRefusal (now (list .entry)) ⌝ }
     ensures tables { λ r. ⌜ r .checked ≡ tableRefusal (now (list .entry)) bound
         (table (now (classes .entry)) (now (parts .entry)) (now (rows .entry)) (now (splits .entry))) ⌝ }
-    ensures opens { λ r. ⌜ r .opened ≡ openRefusal (now (list .entry)) (now (opening .entry)) ⌝ }
-    ensures leaves { λ r. ⌜ now (opening .exit) ≡ openSaved (now (list .entry)) (now (opening .entry)) ⌝ }
+    ensures opens { λ r. ⌜ heldOpen (r .opened) (now («first_pairs» .exit)) (now (opening .exit))
+        ≡ openFlow (now (list .entry)) (now (opening .entry)) (now («first_pairs» .entry)) ⌝ }
     ensures feeds { λ r. ⌜ held (r .fed) (now (pairs .exit)) (now (flow .exit))
         ≡ plainFeed (now (list .entry)) (now (flow .entry)) start (now (piece .entry)) (now (pairs .entry)) ⌝ }
     ensures split_feeds { λ r. ⌜ held (r .split) (now («split_pairs» .exit)) (now («split_flow» .exit))
@@ -53,7 +55,7 @@ fn drive_faces(
 {
     let listed = watch_c::watch_check_list(list);
     let checked = watch_c::watch_check_table(list, bound, classes, parts, rows, splits);
-    let opened = watch_c::watch_open(list, opening);
+    let opened = watch_c::watch_open(list, opening, first_pairs);
     let fed = watch_c::watch_feed(list, flow, start, piece, pairs);
     let split = watch_c::watch_split_feed(
         list,

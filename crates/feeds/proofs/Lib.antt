@@ -7,4 +7,5 @@ pub mod Whole
 pub mod Cuts
 pub mod Telling
 pub mod Looping
+pub mod Opening
 pub mod Unique

@@ -12,9 +12,19 @@ use borrow.Author.Tests.{eq-eqb, lt-ltb}
 use Rattle.sets.specs.Set.{signatures}
 use Rattle.rules.specs.Rules.{Rule, verdict}
 use Rattle.rules.proofs.Scanning.{equal-words}
-use Rattle.feeds.specs.Engine.{Engine, Layout, Outcome, room, run, told, amount, consumed, ended, feed}
+use Rattle.feeds.specs.Engine.{Engine, Layout, Outcome, room, run, told, consumed, ended, feed}
 use Rattle.feeds.proofs.Runs.{told-length, consumed-most, consumed-fits, moves}
 use Rattle.feeds.proofs.Going.{unfed}
+
+-- the words of m pairs, and the words lent from there on: these stay, an odd last word too; there are as many as were lent
+pub behind-stay : (ws out : List ℕ) (m : ℕ) → length ws ≡ 2 * m → (i : ℕ) → 2 * (length ws / 2) ≤ i → getD (ws ++ drop (length ws) out) i 0 ≡ getD out i 0
+behind-stay ws out m e i h =
+    let d : length ws + (i - length ws) ≡ i = omega arith in
+    ap (λ (j : ℕ). getD (ws ++ drop (length ws) out) j 0) (sym d) ∙ getD-append-add ws (drop (length ws) out) (i - length ws) 0
+    ∙ getD-drop (length ws) out (i - length ws) 0 ∙ ap (λ (j : ℕ). getD out j 0) d
+
+pub behind-many : (ws out : List ℕ) (m : ℕ) → length ws ≡ 2 * m → m ≤ room out → length (ws ++ drop (length ws) out) ≡ length out
+behind-many ws out m e h = simp (length-append, length-drop) (omega arith)
 
 module _ {C : Type 0} (E : Engine C) (K : Layout C) (R : List ℕ) where
   -- an engine that halts at once consumes nothing, and the refusal is 14
@@ -67,32 +77,23 @@ module _ {C : Type 0} (E : Engine C) (K : Layout C) (R : List ℕ) where
     unfolding ended
     feed-rest i l =
         elim (ℕ-discrete (verdict rules) 0) [
-          | yes v ↦ rw (feed-ends v) (rest (told E (K .config R) (K .offset R) front) (told-length E (K .config R) (K .offset R) front) (rw (feed-ends v) at l))
+          | yes v ↦ rw (feed-ends v) (behind-stay (told E (K .config R) (K .offset R) front) out _ (told-length E (K .config R) (K .offset R) front) i (rw (feed-ends v) at l))
           | no n ↦ rw (unfed E K R piece out rules n)
         ]
       where
         front : List ℕ
         front = take (consumed E (K .config R) (room out) piece) piece
-
-        rest : (ws : List ℕ) → length ws ≡ 2 * amount E (K .config R) front → 2 * (length ws / 2) ≤ i → getD (ws ++ drop (length ws) out) i 0 ≡ getD out i 0
-        rest ws e h =
-            let d : length ws + (i - length ws) ≡ i = omega arith in
-            ap (λ (j : ℕ). getD (ws ++ drop (length ws) out) j 0) (sym d) ∙ getD-append-add ws (drop (length ws) out) (i - length ws) 0
-            ∙ getD-drop (length ws) out (i - length ws) 0 ∙ ap (λ (j : ℕ). getD out j 0) d
 
     pub feed-length : length (feed rules E K R piece out .words) ≡ length out
     unfolding ended
     feed-length =
         elim (ℕ-discrete (verdict rules) 0) [
-          | yes v ↦ rw (feed-ends v) (kept (told E (K .config R) (K .offset R) front) (told-length E (K .config R) (K .offset R) front) (consumed-fits E (K .config R) (room out) piece))
+          | yes v ↦ rw (feed-ends v) (behind-many (told E (K .config R) (K .offset R) front) out _ (told-length E (K .config R) (K .offset R) front) (consumed-fits E (K .config R) (room out) piece))
           | no n ↦ rw (unfed E K R piece out rules n)
         ]
       where
         front : List ℕ
         front = take (consumed E (K .config R) (room out) piece) piece
-
-        kept : (ws : List ℕ) → length ws ≡ 2 * amount E (K .config R) front → amount E (K .config R) front ≤ room out → length (ws ++ drop (length ws) out) ≡ length out
-        kept ws e h = simp (length-append, length-drop) (omega arith)
 
     -- all exactly when as many bytes are consumed as the piece has
     pub feed-all : verdict rules ≡ 0 → feed rules E K R piece out .all ≡ true ↔ (feed rules E K R piece out .bytes ≡ length piece)

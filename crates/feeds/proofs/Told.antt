@@ -53,6 +53,17 @@ pairsAt-exactly k gs g o = (there, here)
         let l = q .1 .1 in
         (i, omega (arith, pairsAt-length k gs), pairsAt-signature k gs i l ∙ q .1 .2, pairsAt-offset k gs i l ∙ sym (q .0))
 
+-- in order, where the signatures rise
+pub pairsAt-ordered : (k : ℕ) (gs : List ℕ) → ((i j : ℕ) → i < j → j < length gs → getD gs i 0 < getD gs j 0)
+    → (i j : ℕ) → i < j → 2 * j + 1 < length (pairsAt k gs) → Before (pairsAt k gs) i j
+pairsAt-ordered k gs rise i j l h =
+    let b : j < length gs = omega (arith, pairsAt-length k gs) in
+    let a : i < length gs = omega arith in
+    inr (
+      pairsAt-offset k gs i a ∙ sym (pairsAt-offset k gs j b),
+      rw (pairsAt-signature k gs i a, pairsAt-signature k gs j b) (rise i j l b),
+    )
+
 -- ---- one list of words after another, the first of m pairs
 
 module _ (xs ys : List ℕ) (m : ℕ) (even : length xs ≡ 2 * m) where
@@ -88,7 +99,7 @@ module _ (xs ys : List ℕ) (m : ℕ) (even : length xs ≡ 2 * m) where
       together (inr p) = (m + p .0, omega (arith, length-append xs ys), later-signature (p .0) ∙ p .2, later-offset (p .0) ∙ p .3)
 
   -- where the pairs of each are in order, and each offset of the first is below each of the second, the pairs of both are in order
-  before-append : ((i j : ℕ) → i < j → 2 * j + 1 < length xs → Before xs i j) → ((i j : ℕ) → i < j → 2 * j + 1 < length ys → Before ys i j)
+  pub before-append : ((i j : ℕ) → i < j → 2 * j + 1 < length xs → Before xs i j) → ((i j : ℕ) → i < j → 2 * j + 1 < length ys → Before ys i j)
       → ((i j : ℕ) → 2 * i + 1 < length xs → 2 * j + 1 < length ys → getD xs (2 * i + 1) 0 < getD ys (2 * j + 1) 0)
       → (i j : ℕ) → i < j → 2 * j + 1 < length (xs ++ ys) → Before (xs ++ ys) i j
   before-append f g s i j l h = go (side i m) (side j m)
@@ -147,7 +158,7 @@ module _ {C : Type 0} (E : Engine C) where
       back ih (suc n) l e m h = inr (ih (n, omega arith, omega arith, m, h))
 
   -- each offset told is beyond the one at which the first byte is fed
-  told-beyond : (x : C) (k : ℕ) (cs : List ℕ) (i : ℕ) → 2 * i + 1 < length (told E x k cs) → k < getD (told E x k cs) (2 * i + 1) 0
+  pub told-beyond : (x : C) (k : ℕ) (cs : List ℕ) (i : ℕ) → 2 * i + 1 < length (told E x k cs) → k < getD (told E x k cs) (2 * i + 1) 0
   told-beyond x k cs i h =
       let q = told-exactly x k cs (getD (told E x k cs) (2 * i) 0) (getD (told E x k cs) (2 * i + 1) 0) .0 (i, h, refl, refl) in
       omega (arith, q .2)
@@ -161,19 +172,10 @@ module _ {C : Type 0} (E : Engine C) where
   told-ordered x k [] i j l h = absurd (omega arith)
   told-ordered x k (c ∷ cs) i j l h =
       before-append (pairsAt (k + 1) (due E x c)) (told E (E .next x c) (k + 1) cs) (length (due E x c)) (pairsAt-length (k + 1) (due E x c))
-      first (told-ordered (E .next x c) (k + 1) cs) seam i j l h
+      (pairsAt-ordered (k + 1) (due E x c) (due-rises E x c)) (told-ordered (E .next x c) (k + 1) cs) seam i j l h
     where
       gs : List ℕ
       gs = due E x c
-
-      first : (i j : ℕ) → i < j → 2 * j + 1 < length (pairsAt (k + 1) gs) → Before (pairsAt (k + 1) gs) i j
-      first i j l h =
-          let b : j < length gs = omega (arith, pairsAt-length (k + 1) gs) in
-          let a : i < length gs = omega arith in
-          inr (
-            pairsAt-offset (k + 1) gs i a ∙ sym (pairsAt-offset (k + 1) gs j b),
-            rw (pairsAt-signature (k + 1) gs i a, pairsAt-signature (k + 1) gs j b) (due-rises E x c i j l b),
-          )
 
       seam : (i j : ℕ) → 2 * i + 1 < length (pairsAt (k + 1) gs) → 2 * j + 1 < length (told E (E .next x c) (k + 1) cs)
           → getD (pairsAt (k + 1) gs) (2 * i + 1) 0 < getD (told E (E .next x c) (k + 1) cs) (2 * j + 1) 0

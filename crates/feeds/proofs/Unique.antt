@@ -7,6 +7,8 @@ use Rattle.sets.specs.Set.{signatures, members, placed}
 use Rattle.feeds.specs.declared.Fed.{Fed}
 use Rattle.feeds.specs.Engine.{Outcome, pairsAt}
 use Rattle.feeds.specs.Fed.{Answers, Unfed}
+use Rattle.feeds.specs.Opening.{Opening, Opens}
+use Rattle.feeds.specs.declared.Opened.{Opened}
 
 -- telling leaves one list of words
 pub unique-tell : (r q out : List ℕ) (at k G : ℕ)
@@ -25,6 +27,15 @@ fed-one f g a b c d =
 pub unique-refused : (n : ℕ) (f g : Fed) → Unfed n f → Unfed n g → f ≡ g
 unique-refused n f g a b =
     fed-one f g (a .refusal ∙ sym (b .refusal)) (a .bytes ∙ sym (b .bytes)) (a .pairs ∙ sym (b .pairs)) (a .all ∙ sym (b .all))
+
+-- what answers one opening is one answer, and leaves the same words and the same record
+pub unique-opens : (o : Opening) (f g : Opened) (ws vs sv tv : List ℕ) → Opens o f ws sv → Opens o g vs tv → (f ≡ g) × (ws ≡ vs) × (sv ≡ tv)
+unique-opens o f g ws vs sv tv a b = (
+  ap {B = Opened} (λ (x : ℕ). record { refusal = x; pairs = f .pairs }) (a .refusal ∙ sym (b .refusal))
+      ∙ ap {B = Opened} (λ (x : ℕ). record { refusal = g .refusal; pairs = x }) (a .pairs ∙ sym (b .pairs)),
+  a .words ∙ sym (b .words),
+  a .saved ∙ sym (b .saved),
+)
 
 -- what answers one outcome is one answer, and leaves the same words and the same record
 pub unique-answers : (o : Outcome) (f g : Fed) (ws vs sv tv : List ℕ) → Answers o f ws sv → Answers o g vs tv → (f ≡ g) × (ws ≡ vs) × (sv ≡ tv)

@@ -2,3 +2,4 @@ pub mod Pairs
 pub mod Engine
 pub mod Calls
 pub mod Fed
+pub mod Opening

@@ -1,4 +1,4 @@
-// What every feed has: its answer, and the words of the pairs that it tells.
+// What every opening and every feed has: its answer, and the words of the pairs that it tells.
 use sets::SigSet;
 ghost use mathlib.Core.Path.{_≡_};
 ghost use Prim.Native.Nat.{_+_, _*_, _^_, _≤_, _<_};
@@ -16,6 +16,12 @@ pub struct Fed {
     pub bytes: usize,
     pub pairs: usize,
     pub all: bool,
+}
+
+// What opening a flow answers: a refusal's number or 0, and the pairs told.
+pub struct Opened {
+    pub refusal: u32,
+    pub pairs: usize,
 }
 
 // The answer of a feed that a rule refuses.

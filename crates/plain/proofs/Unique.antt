@@ -1,16 +1,18 @@
 -- Each promise of the public functions determines the outcome: two outcomes that meet it are equal. Assumes nothing.
 use Prim.Native.Nat.{ℕ}
-use mathlib.Core.Path.{_≡_, sym, _∙_}
+use mathlib.Core.Path.{_≡_}
 use mathlib.Core.List.{List}
 use Rattle.feeds.specs.declared.Fed.{Fed}
 use Rattle.feeds.specs.Fed.{Answers}
-use Rattle.feeds.proofs.Unique.{unique-answers}
-use Rattle.plain.specs.Plain.{plainFeed}
-use Rattle.plain.specs.Opens.{Opens}
+use Rattle.feeds.specs.declared.Opened.{Opened}
+use Rattle.feeds.specs.Opening.{Opens}
+use Rattle.feeds.proofs.Unique.{unique-opens, unique-answers}
+use Rattle.plain.specs.Plain.{openFlow, plainFeed}
 
--- opening gives one number and leaves one record
-pub unique-opens : (L R : List ℕ) (n m : ℕ) (sv tv : List ℕ) → Opens L R n sv → Opens L R m tv → (n ≡ m) × (sv ≡ tv)
-unique-opens L R n m sv tv a b = (a .refusal ∙ sym (b .refusal), a .saved ∙ sym (b .saved))
+-- opening gives one answer and leaves the same words and the same record
+pub unique-open : (L R out : List ℕ) (f g : Opened) (ws vs sv tv : List ℕ)
+    → Opens (openFlow L R out) f ws sv → Opens (openFlow L R out) g vs tv → (f ≡ g) × (ws ≡ vs) × (sv ≡ tv)
+unique-open L R out f g ws vs sv tv a b = unique-opens (openFlow L R out) f g ws vs sv tv a b
 
 -- the feed gives one answer and leaves the same words and the same record
 pub unique-feed : (L R : List ℕ) (at : ℕ) (piece out : List ℕ) (f g : Fed) (ws vs sv tv : List ℕ)

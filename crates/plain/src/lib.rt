@@ -1,5 +1,6 @@
 // Opening a flow, and the plain feed: the automaton runs over a piece, byte by byte.
 use feeds::Fed;
+use feeds::Opened;
 use flows::Ran;
 use flows::Told;
 use sets::StateSet;
@@ -12,12 +13,12 @@ ghost use Rattle.feeds.specs.Engine.{mostOffset};
 ghost use Rattle.flows.specs.Flow.{feedRules};
 ghost use Rattle.feeds.specs.Fed.{Answers};
 ghost use Rattle.flows.proofs.Ending.{Leaves};
-ghost use Rattle.plain.specs.Plain.{plain, openRefusal, plainFeed};
-ghost use Rattle.plain.specs.Opens.{Opens};
+ghost use Rattle.feeds.specs.Opening.{Opens};
+ghost use Rattle.plain.specs.Plain.{plain, firstRules, openFlow, plainFeed};
 
-// The check of opening: the number of the first of the rules 1 to 4 that refuses it, 0 where none does.
+// The check of opening before the room: the number of the first of the rules 1 to 4 that refuses it, 0 where none does.
 fn open_refusal(list: &[u8], flow: &[u8]) -> u32
-    ensures { λ r. ⌜ r ≡ openRefusal (now (list .entry)) (now (flow .entry)) ⌝ }
+    ensures { λ r. ⌜ r ≡ verdict (firstRules (now (list .entry)) (now (flow .entry))) ⌝ }
 {
     let listed = lists::check_list(list);
     if listed != rules::PASSED {
@@ -29,16 +30,31 @@ fn open_refusal(list: &[u8], flow: &[u8]) -> u32
     rules::PASSED
 }
 
-// Opens a flow: its record then has the start states, offset 0 and no rows read. A refusal leaves it as it is.
-pub fn open_flow(list: &[u8], flow: &mut [u8]) -> u32
-    ensures { λ r. ⌜ Opens (now (list .entry)) (now (flow .entry)) r (now (flow .exit)) ⌝ }
+// Opens a flow: its record then has the start states, offset 0 and no rows read, and the pairs of offset 0 are told. A refusal changes nothing.
+pub fn open_flow(list: &[u8], flow: &mut [u8], pairs: &mut [u32]) -> Opened
+    ensures { λ r. ⌜ Opens (openFlow (now (list .entry)) (now (flow .entry)) (now (pairs .entry))) r (now (pairs .exit)) (now (flow .exit)) ⌝ }
 {
     let refusal = open_refusal(list, flow);
     if refusal != rules::PASSED {
-        return refusal;
+        return Opened {
+            refusal: refusal,
+            pairs: 0,
+        };
     }
-    flows::save(flow, lists::start_set(list), 0, 0);
-    rules::PASSED
+    let first = lists::start_set(list);
+    let told = flows::tell_accepted(list, first, pairs, 0, 0);
+    let fits = told.fits;
+    if !fits {
+        return Opened {
+            refusal: 15,
+            pairs: 0,
+        };
+    }
+    flows::save(flow, first, 0, 0);
+    Opened {
+        refusal: rules::PASSED,
+        pairs: told.words / 2,
+    }
 }
 
 // The check of a feed: the number of the first of the rules 1 to 6 that refuses it, 0 where none does.

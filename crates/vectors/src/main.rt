@@ -13,7 +13,7 @@ const MODULUS: u64 = 4294967291;
 
 const FACTOR: u64 = 257;
 
-// Words of the pairs buffer, and what stands in the first one before a feed.
+// Words of the pairs buffer, and what stands in the first one before an opening or a feed.
 const PAIR_WORDS: usize = 1200;
 
 const FILLED: u32 = 2774138880;
@@ -243,13 +243,24 @@ fn check_list(list: &[u8]) {
     end();
 }
 
-// Replays an opening.
-fn open(list: &[u8], record: &mut [u8]) {
-    let n = plain::open_flow(list, record);
+// Replays an opening into words.
+fn open_words(list: &[u8], record: &mut [u8], out: &mut [u32]) {
+    fill(out);
+    let opened = plain::open_flow(list, record, out);
     io::write_all(1, b"o");
-    put(n as u64);
+    put(opened.refusal as u64);
+    put(opened.pairs as u64);
+    put(digest_words(out));
     put(digest(record));
     end();
+}
+
+// Replays an opening.
+fn open(list: &[u8], record: &mut [u8]) {
+    let words = read_number(4) as usize;
+    let mut out = word_buffer();
+    let k = within_words(&out, words);
+    open_words(list, record, &mut out[..k]);
 }
 
 // Replays a plain feed into words.

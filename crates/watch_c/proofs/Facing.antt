@@ -1,13 +1,15 @@
--- The face of an answer answers the same outcome, and only one face does. Assumes nothing.
+-- The face of an answer answers the same outcome, and only one face does; so of an opening. Assumes nothing.
 use Prim.Native.Nat.{ℕ}
 use mathlib.Core.Bool.{Bool}
 use mathlib.Core.Path.{_≡_, sym, ap, _∙_}
 use mathlib.Core.List.{List}
 use Rattle.feeds.specs.Engine.{Outcome}
+use Rattle.feeds.specs.Opening.{Opening}
 use Rattle.feeds.specs.declared.Fed.{Fed}
 use Rattle.feeds.specs.Fed.{Answers}
 use Rattle.watch_c.specs.declared.WatchFed.{WatchFed}
-use Rattle.watch_c.specs.Face.{Faces, FaceAnswers}
+use Rattle.watch_c.specs.declared.WatchOpened.{WatchOpened}
+use Rattle.watch_c.specs.Face.{Faces, FaceAnswers, FaceOpens}
 
 pub faced : {o : Outcome} {f : Fed} {w : WatchFed} {ws sv : List ℕ} → Answers o f ws sv → Faces f w → FaceAnswers o w ws sv
 faced a h =
@@ -34,3 +36,12 @@ unique-face o v w vs ws rv rw2 a b =
       a .words ∙ sym (b .words),
       a .saved ∙ sym (b .saved),
     )
+
+-- so of an opening
+pub unique-face-open : (o : Opening) (v w : WatchOpened) (vs ws rv rw2 : List ℕ) → FaceOpens o v vs rv → FaceOpens o w ws rw2 → (v ≡ w) × (vs ≡ ws) × (rv ≡ rw2)
+unique-face-open o v w vs ws rv rw2 a b = (
+  ap {B = WatchOpened} (λ (n : ℕ). record { pairs = n; refusal = v .refusal }) (a .pairs ∙ sym (b .pairs))
+      ∙ ap {B = WatchOpened} (λ (n : ℕ). record { pairs = w .pairs; refusal = n }) (a .refusal ∙ sym (b .refusal)),
+  a .words ∙ sym (b .words),
+  a .saved ∙ sym (b .saved),
+)

@@ -1,14 +1,16 @@
--- The C face's answer against the library's, and against an outcome.
+-- The C face's answers against the library's, and against what a feed or an opening is defined to do.
 use Prim.Native.Nat.{ℕ}
 use mathlib.Core.Path.{_≡_}
 use mathlib.Core.List.{List}
 use Rattle.feeds.specs.Engine.{Outcome}
+use Rattle.feeds.specs.Opening.{Opening}
 use Rattle.feeds.specs.declared.Fed.{Fed}
 use Rattle.watch_c.specs.declared.WatchFed.{WatchFed}
+use Rattle.watch_c.specs.declared.WatchOpened.{WatchOpened}
 
 -- the version of the face, which rises with each change of a name, a size, a limit or a meaning in it
 abbrev pub version : ℕ
-version = 3
+version = 4
 
 -- the same four values
 pub record Faces (f : Fed) (w : WatchFed) : Type 0 where
@@ -23,5 +25,12 @@ pub record FaceAnswers (o : Outcome) (w : WatchFed) (ws sv : List ℕ) : Type 0 
   pub pairs : w .pairs ≡ o .pairs
   pub refusal : w .refusal ≡ o .refusal
   pub all : w .all ≡ o .all
+  pub words : ws ≡ o .words
+  pub saved : sv ≡ o .saved
+
+-- so of an opening
+pub record FaceOpens (o : Opening) (w : WatchOpened) (ws sv : List ℕ) : Type 0 where
+  pub pairs : w .pairs ≡ o .pairs
+  pub refusal : w .refusal ≡ o .refusal
   pub words : ws ≡ o .words
   pub saved : sv ≡ o .saved

@@ -2,14 +2,13 @@
 use feeds::Fed;
 ghost use mathlib.Core.Path.{_≡_};
 ghost use Rattle.lists.specs.List.{listRefusal};
-ghost use Rattle.plain.specs.Plain.{plainFeed};
-ghost use Rattle.plain.specs.Opens.{Opens};
+ghost use Rattle.plain.specs.Plain.{openFlow, plainFeed};
 ghost use Rattle.tables.specs.Table.{table, tableRefusal};
 ghost use Rattle.splits.specs.Split.{splitFeed};
-ghost use Rattle.watch_c.specs.Face.{version, Faces, FaceAnswers};
+ghost use Rattle.watch_c.specs.Face.{version, Faces, FaceAnswers, FaceOpens};
 
 // The version of the face, by which a caller compares its header with the archive.
-pub const VERSION: u32 = 3;
+pub const VERSION: u32 = 4;
 
 // What a feed answers, as C lays it out.
 #[repr(C)]
@@ -18,6 +17,13 @@ pub struct WatchFed {
     pub pairs: u64,
     pub refusal: u32,
     pub all: bool,
+}
+
+// What opening a flow answers, as C lays it out.
+#[repr(C)]
+pub struct WatchOpened {
+    pub pairs: u64,
+    pub refusal: u32,
 }
 
 // The answer of a feed in C's layout.
@@ -48,12 +54,16 @@ pub extern "C" fn watch_check_list(list: &[u8]) -> u32
     lists::check_list(list)
 }
 
-// Opens a flow on a list: 0, or the number of the refusal, which leaves the record as it is.
+// Opens a flow on a list, and tells the pairs of offset 0; a refusal leaves the record and the words as they are.
 #[no_mangle]
-pub extern "C" fn watch_open(list: &[u8], flow: &mut [u8]) -> u32
-    ensures { λ r. ⌜ Opens (now (list .entry)) (now (flow .entry)) r (now (flow .exit)) ⌝ }
+pub extern "C" fn watch_open(list: &[u8], flow: &mut [u8], pairs: &mut [u32]) -> WatchOpened
+    ensures { λ r. ⌜ FaceOpens (openFlow (now (list .entry)) (now (flow .entry)) (now (pairs .entry))) r (now (pairs .exit)) (now (flow .exit)) ⌝ }
 {
-    plain::open_flow(list, flow)
+    let opened = plain::open_flow(list, flow, pairs);
+    WatchOpened {
+        pairs: opened.pairs as u64,
+        refusal: opened.refusal,
+    }
 }
 
 // The plain feed of a piece that begins at `start`.

@@ -13,19 +13,19 @@ use Rattle.app.proofs.run.Statement.{statement}
 use Rattle.app.proofs.run.Tie as tie
 
 abbrev Inv-loop : tie.InvT-loop
-Inv-loop outside list flow₀ piece₀ text₀ input answers log₀ offset₀ n₀ i₀ end₀ flow piece text log offset n i end =
-    (offset ≤ mostOffset) × (i ≤ offset) × (n ≤ pieceSize) × (offset % pieceSize ≤ n) × (end ≤ length log)
+Inv-loop outside list flow₀ piece₀ text₀ input answers log₀ begun offset₀ n₀ i₀ end₀ flow piece text log offset n i end =
+    (offset ≤ mostOffset) × (i ≤ offset + 1) × (n ≤ pieceSize) × (offset % pieceSize ≤ n) × (end ≤ length log)
     × (length flow ≡ length flow₀) × (length piece ≡ length piece₀) × (length text ≡ length text₀) × (length log ≡ length log₀)
     × (outside ≡ false → 0 < offset % pieceSize → Held input offset piece n)
-    × (outside ≡ false → length (allHanded list input answers flow₀ log₀) ≤ length log₀ → Running list input answers flow₀ log₀ flow log offset i end)
+    × (outside ≡ false → begun + length (allHanded list input answers flow₀ log₀ begun) ≤ length log₀ → Running list input answers flow₀ log₀ begun flow log offset i end)
 
 abbrev μ-loop : tie.MeasureT-loop
-μ-loop outside list flow₀ piece₀ text₀ input answers log₀ offset₀ n₀ i₀ end₀ flow piece text log offset n i end =
+μ-loop outside list flow₀ piece₀ text₀ input answers log₀ begun offset₀ n₀ i₀ end₀ flow piece text log offset n i end =
     mostOffset + 1 - offset
 
 loop-holds : tie.Need-loop-holds Inv-loop μ-loop
 loop-holds c =
-    (omega arith, omega arith, omega arith, omega arith, omega arith, search needs, search needs, search needs, search needs, λ f l. absurd (omega (arith, l)), λ f l. running _ _ _ _ _)
+    (omega arith, omega arith, omega arith, omega arith, omega arith, search needs, search needs, search needs, search needs, λ f l. absurd (omega (arith, l)), λ f l. running _ _ _ _ _ _ (omega (arith, l)))
 
 read-piece-requires : tie.Need-read-piece-requires Inv-loop μ-loop
 read-piece-requires c κs = search needs
@@ -75,8 +75,8 @@ returns c =
     λ f fits.
     let r = here .inv .10 f fits in
     let held = reading .read-piece .ensures .1 f (here .inv .9 f) in
-    let room = text-fits _ _ _ _ _ fits _ _ _ _ _ r _ held _ _ _ (turning .turn .ensures) in
-    over-last _ _ _ _ _ fits _ _ _ _ _ r _ held _ _ _ (turning .turn .ensures) _ _ (handing .hand .ensures .1 f room) (c .if1 .taken)
+    let room = text-fits _ _ _ _ _ _ fits _ _ _ _ _ r _ held _ _ _ (turning .turn .ensures) in
+    over-last _ _ _ _ _ _ fits _ _ _ _ _ r _ held _ _ _ (turning .turn .ensures) _ _ (handing .hand .ensures .1 f room) (c .if1 .taken)
 
 same-length-5 : tie.Need-same-length-5 Inv-loop μ-loop
 same-length-5 c = search needs
@@ -99,8 +99,8 @@ returns-2 c =
     λ f fits.
     let r = here .inv .10 f fits in
     let held = reading .read-piece .ensures .1 f (here .inv .9 f) in
-    let room = text-fits _ _ _ _ _ fits _ _ _ _ _ r _ held _ _ _ (turning .turn .ensures) in
-    over-cut _ _ _ _ _ fits _ _ _ _ _ r _ held _ _ _ (turning .turn .ensures) _ _ (handing .hand .ensures .1 f room) (c .if2 .taken)
+    let room = text-fits _ _ _ _ _ _ fits _ _ _ _ _ r _ held _ _ _ (turning .turn .ensures) in
+    over-cut _ _ _ _ _ _ fits _ _ _ _ _ r _ held _ _ _ (turning .turn .ensures) _ _ (handing .hand .ensures .1 f room) (c .if2 .taken)
 
 add-offset : tie.Need-add-offset Inv-loop μ-loop
 add-offset c =
@@ -140,8 +140,8 @@ loop-again c =
       λ f fits.
           let r = here .inv .10 f fits in
           let held = reading .read-piece .ensures .1 f (here .inv .9 f) in
-          let room = text-fits _ _ _ _ _ fits _ _ _ _ _ r _ held _ _ _ t in
-          goes-on _ _ _ _ _ fits _ _ _ _ _ r _ held _ _ _ t _ _ (handing .hand .ensures .1 f room) (c .before .if1 .left) (c .if2 .left),
+          let room = text-fits _ _ _ _ _ _ fits _ _ _ _ _ r _ held _ _ _ t in
+          goes-on _ _ _ _ _ _ fits _ _ _ _ _ r _ held _ _ _ t _ _ (handing .hand .ensures .1 f room) (c .before .if1 .left) (c .if2 .left),
     )
 
 pub run-spec : {M : Type 1} → statement M

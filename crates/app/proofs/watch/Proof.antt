@@ -1,6 +1,6 @@
--- `watch` meets its promise: the texts of a run are handed over, the refusal of the list or those of the loop. Assumes nothing.
+-- `watch` meets its promise: the opening's text is handed over, and, unless it is the last or is cut, those of the loop. Assumes nothing.
 use borrow.Author.Needs.{needs}
-use Rattle.app.proofs.Handing.{refused-logs, opened-logs}
+use Rattle.app.proofs.Handing.{begun-last, begun-cut, begun-then}
 use Rattle.app.proofs.watch.Statement.{statement}
 use Rattle.app.proofs.watch.Tie as tie
 
@@ -10,17 +10,14 @@ buffer-requires c κs = search needs
 large-buffer-requires : tie.Need-large-buffer-requires
 large-buffer-requires c κs = search needs
 
-slice-aggregate-open-flow : tie.Need-slice-aggregate-open-flow
-slice-aggregate-open-flow c = search needs
+slice-aggregate-begin : tie.Need-slice-aggregate-begin
+slice-aggregate-begin c = search needs
 
-open-flow-requires : tie.Need-open-flow-requires
-open-flow-requires c κs = search needs
+slice-aggregate-begin-2 : tie.Need-slice-aggregate-begin-2
+slice-aggregate-begin-2 c = search needs
 
-slice-aggregate-put-last : tie.Need-slice-aggregate-put-last
-slice-aggregate-put-last c = search needs
-
-put-last-requires : tie.Need-put-last-requires
-put-last-requires c κs = search needs
+begin-requires : tie.Need-begin-requires
+begin-requires c κs = search needs
 
 array-share-prefix-text : tie.Need-array-share-prefix-text
 array-share-prefix-text c = search needs
@@ -36,9 +33,20 @@ same-length c = search needs
 
 returns : tie.Need-returns
 returns c =
-    let a = c .before .before .before .before .before .before .before .before .before .before .before .before .before .before .before .before .before .before .args in
-    λ f. refused-logs (a .list .now) (a .input .now) (a .answers .now) (a .log .now) _ _ _ _ (c .before .before .before .before .before .before .before .before .before .before .open-flow .ensures .refusal) (c .before .before .before .before .before .before .before .before .if1 .taken)
-    (c .before .before .before .before .before .before .put-last .ensures .1) (c .before .before .hand .ensures .1 f)
+    let handing = c .before .before .before in
+    let opening = handing .before .before .before .before .before in
+    let a = opening .before .before .before .before .before .before .before .before .before .args in
+    λ f. begun-last (a .list .now) (a .input .now) (a .answers .now) (a .log .now) _ _ _ (opening .begin .ensures) _ _ (handing .hand .ensures .1 f) (c .if1 .taken)
+
+same-length-2 : tie.Need-same-length-2
+same-length-2 c = search needs
+
+returns-2 : tie.Need-returns-2
+returns-2 c =
+    let handing = c .before .before .before .before in
+    let opening = handing .before .before .before .before .before in
+    let a = opening .before .before .before .before .before .before .before .before .before .args in
+    λ f. begun-cut (a .list .now) (a .input .now) (a .answers .now) (a .log .now) _ _ _ (opening .begin .ensures) _ _ (handing .hand .ensures .1 f) (c .if2 .taken)
 
 slice-aggregate-run : tie.Need-slice-aggregate-run
 slice-aggregate-run c = search needs
@@ -52,15 +60,18 @@ slice-aggregate-run-3 c = search needs
 run-requires : tie.Need-run-requires
 run-requires c κs = search needs
 
-same-length-2 : tie.Need-same-length-2
-same-length-2 c = search needs
+same-length-3 : tie.Need-same-length-3
+same-length-3 c = search needs
 
-returns-2 : tie.Need-returns-2
-returns-2 c =
+returns-3 : tie.Need-returns-3
+returns-3 c =
     let running = c .before .before .before .before .before in
-    let opening = running .before .before .before .before .before .before .before in
-    let a = opening .before .before .before .before .before .before .before .before .args in
-    λ f. opened-logs (a .list .now) (a .input .now) (a .answers .now) (a .log .now) _ _ _ _ (opening .open-flow .ensures) (running .before .before .before .before .before .if1 .left) (running .run .ensures f)
+    let whole = running .before .before .before .before .before in
+    let passed = whole .before in
+    let handing = passed .before .before .before in
+    let opening = handing .before .before .before .before .before in
+    let a = opening .before .before .before .before .before .before .before .before .before .args in
+    λ f. begun-then (a .list .now) (a .input .now) (a .answers .now) (a .log .now) _ _ _ (opening .begin .ensures) _ _ (handing .hand .ensures .1 f) (passed .if1 .left) (whole .if2 .left) _ _ (running .run .ensures f)
 
 pub watch-spec : {M : Type 1} → statement M
 watch-spec =
@@ -68,18 +79,19 @@ watch-spec =
     (tie.spec
     buffer-requires
     large-buffer-requires
-    slice-aggregate-open-flow
-    open-flow-requires
-    slice-aggregate-put-last
-    put-last-requires
+    slice-aggregate-begin
+    slice-aggregate-begin-2
+    begin-requires
     array-share-prefix-text
     slice-aggregate-hand
     hand-requires
     same-length
     returns
+    same-length-2
+    returns-2
     slice-aggregate-run
     slice-aggregate-run-2
     slice-aggregate-run-3
     run-requires
-    same-length-2
-    returns-2)
+    same-length-3
+    returns-3)

@@ -36,12 +36,15 @@ same-length-4 c = search needs
 same-length-5 : tie.Need-same-length-5
 same-length-5 c = search needs
 
+same-length-6 : tie.Need-same-length-6
+same-length-6 c = search needs
+
 returns : tie.Need-returns
 returns c =
     let splitting = c .before .before .before .before in
     let feeding = splitting .before .before .before .before .before .before .before in
-    let opening = feeding .before .before .before .before .before in
-    let checking = opening .before .before in
+    let opening = feeding .before .before .before .before .before .before .before in
+    let checking = opening .before .before .before in
     let listing = checking .before in (
       rw (listing .check-list .ensures) (list-refuses _),
       (
@@ -70,4 +73,5 @@ drive-each-spec =
     same-length-3
     same-length-4
     same-length-5
+    same-length-6
     returns)

@@ -4,6 +4,9 @@ use Rattle.demands.proofs.Driving.{split-driven}
 use Rattle.demands.proofs.drive_split.Statement.{statement}
 use Rattle.demands.proofs.drive_split.Tie as tie
 
+same-length-4 : tie.Need-same-length-4
+same-length-4 c = search needs
+
 same-length-3 : tie.Need-same-length-3
 same-length-3 c = search needs
 
@@ -32,8 +35,8 @@ returns : tie.Need-returns
 returns c =
     let second = c .before .before .before .before in
     let first = second .before .before .before .before .before .before .before in
-    let opening = first .before .before .before .before .before in
-    let checking = opening .before .before in
+    let opening = first .before .before .before .before .before .before .before in
+    let checking = opening .before .before .before in
     let listing = checking .before in
     let known2 = listing .before .before in
     let known1 = known2 .before .before in
@@ -53,4 +56,5 @@ drive-split-spec =
     same-length
     same-length-2
     same-length-3
+    same-length-4
     returns)

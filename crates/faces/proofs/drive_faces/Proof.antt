@@ -1,6 +1,6 @@
 -- `drive_faces` meets its promise by the promises of the C face. Assumes nothing.
 use borrow.Author.Needs.{needs}
-use Rattle.faces.proofs.Facing.{held-so}
+use Rattle.faces.proofs.Facing.{held-so, held-open-so}
 use Rattle.faces.proofs.drive_faces.Statement.{statement}
 use Rattle.faces.proofs.drive_faces.Tie as tie
 
@@ -18,6 +18,9 @@ same-length-4 c = search needs
 
 same-length-5 : tie.Need-same-length-5
 same-length-5 c = search needs
+
+same-length-6 : tie.Need-same-length-6
+same-length-6 c = search needs
 
 watch-check-list-requires : tie.Need-watch-check-list-requires
 watch-check-list-requires c κs = search needs
@@ -38,20 +41,17 @@ returns : tie.Need-returns
 returns c =
     let splitting = c .before .before .before .before in
     let feeding = splitting .before .before .before .before .before .before .before in
-    let opening = feeding .before .before .before .before .before in
-    let checking = opening .before .before in
+    let opening = feeding .before .before .before .before .before .before .before in
+    let checking = opening .before .before .before in
     let listing = checking .before in (
       listing .watch-check-list .ensures,
       (
         checking .watch-check-table .ensures,
         (
-          opening .watch-open .ensures .refusal,
+          held-open-so _ _ _ _ (opening .watch-open .ensures),
           (
-            opening .watch-open .ensures .saved,
-            (
-              held-so _ _ _ _ (feeding .watch-feed .ensures),
-              held-so _ _ _ _ (splitting .watch-split-feed .ensures),
-            ),
+            held-so _ _ _ _ (feeding .watch-feed .ensures),
+            held-so _ _ _ _ (splitting .watch-split-feed .ensures),
           ),
         ),
       ),
@@ -71,4 +71,5 @@ drive-faces-spec =
     same-length-3
     same-length-4
     same-length-5
+    same-length-6
     returns)

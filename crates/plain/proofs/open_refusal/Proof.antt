@@ -8,7 +8,7 @@ use Rattle.rules.specs.Rules.{verdict}
 use Rattle.lists.specs.List.{listRules}
 use Rattle.rules.proofs.Rules.{stop, last, verdict-then, verdict-refused}
 use Rattle.flows.specs.Flow.{wrongSize}
-use Rattle.plain.specs.Plain.{openRefusal}
+use Rattle.plain.specs.Plain.{firstRules}
 use Rattle.plain.proofs.open_refusal.Statement.{statement}
 use Rattle.plain.proofs.open_refusal.Tie as tie
 
@@ -22,7 +22,7 @@ returns c =
     e ∙ sym (verdict-refused (listRules (a .list .now)) ((4, wrongSize (a .flow .now)) ∷ []) (λ z. c .if1 .taken (e ∙ z)))
 
 -- past the list's check the size decides
-listed : (c : tie.Else1) → openRefusal (c .before .before .before .before .args .list .now) (c .before .before .before .before .args .flow .now) ≡ verdict ((4, wrongSize (c .before .before .before .before .args .flow .now)) ∷ [])
+listed : (c : tie.Else1) → verdict (firstRules (c .before .before .before .before .args .list .now) (c .before .before .before .before .args .flow .now)) ≡ verdict ((4, wrongSize (c .before .before .before .before .args .flow .now)) ∷ [])
 listed c =
     let a = c .before .before .before .before .args in
     verdict-then (listRules (a .list .now)) ((4, wrongSize (a .flow .now)) ∷ []) refl (sym (c .before .check-list .ensures) ∙ c .if1 .left)
