@@ -151,6 +151,21 @@ impl<'a> List<'a> {
         Ok(List { bytes })
     }
 
+    /// Opens a flow on the list, as [`Flow::open`] does.
+    ///
+    /// ```
+    /// # use watch::{Flow, List};
+    /// # let bytes = *b"\x02\0\0\0\0\0\0\0\x03\0\0\0\0\0\x05\0\x03\0\0\0\0\0\x03\0";
+    /// # let list = List::check(&bytes).unwrap();
+    /// // A list whose start state accepts 5 and 3:
+    /// let mut words = [9; 5];
+    /// assert_eq!(list.open(&mut words).unwrap().pairs, 2);
+    /// assert_eq!(words, [3, 0, 5, 0, 9]);
+    /// ```
+    pub fn open(&self, pairs: &mut [u32]) -> Result<Opened, Refusal> {
+        Flow::open(self, pairs)
+    }
+
     /// The list's bytes.
     pub fn as_bytes(&self) -> &'a [u8] {
         self.bytes
