@@ -35,8 +35,9 @@
  * The flow record is WATCH_FLOW_SIZE bytes: the frontier, a set; from byte WATCH_OFFSET_AT on the offset, 4 bytes; from WATCH_RESERVED_AT
  * on 4 zeros; from WATCH_ROWS_AT on the rows read, 8 bytes. The offset is the number of bytes consumed since the opening, at
  * most WATCH_MOST_OFFSET. Rows read counts the work: the plain feed adds, for each byte consumed, the number of states in the
- * frontier before it; the split feed adds the slots that it took. A record that was saved under another list is not told from a
- * good one; it is run as it stands.
+ * frontier before it; the split feed adds the slots that it took. A record that was saved under another list and holds
+ * states alone that this list names is not told from a good one; it is run as it stands. No record that was opened on the list and fed
+ * by the plain feed or through tables that pass the check holds another.
  *
  * Pairs are 32-bit words in the machine's own order: signature, offset, signature, offset and so on, by offset, then by signature. Each
  * is told once. The pair (g, k) is due when the frontier after k bytes of the flow, k from 0 on, holds a state that accepts g. Those of
@@ -59,8 +60,9 @@
  *      2   a record of the list has another kind, a reserved byte that is not zero, a byte 3 of an edge that is over 1, low > high, a
  *          state that is not below WATCH_STATES, or a signature that is not below WATCH_SIGNATURES
  *      3   the list has no start record
- *      4   the flow record is not WATCH_FLOW_SIZE bytes long; or, when it is fed, its four reserved bytes are not zero or its rows
- *          read are more than WATCH_STATES x offset
+ *      4   the flow record is not WATCH_FLOW_SIZE bytes long; or, when it is fed, its four reserved bytes are not zero, its rows
+ *          read are more than WATCH_STATES x offset, or its frontier has a state that no record of the list names (as an edge's from
+ *          or to, a start's state or an accept's)
  *      5   the piece's stated start is not the flow's offset
  *      6   offset + piece length is over WATCH_MOST_OFFSET
  *      7   the bound is not 1 to WATCH_MOST_BOUND
@@ -129,10 +131,10 @@ extern "C" {
 #endif
 
 /* The version of the face that this header describes. */
-#define WATCH_VERSION 4
+#define WATCH_VERSION 5
 
 /* Bytes of stack that a call takes at most. */
-#define WATCH_MOST_STACK 1152
+#define WATCH_MOST_STACK 1216
 
 /* States are the numbers below this one. */
 #define WATCH_STATES 1024
@@ -299,8 +301,8 @@ static inline const char *watch_refusal_text(uint32_t n)
     case WATCH_REFUSED_NO_START:
         return "the list has no start record";
     case WATCH_REFUSED_FLOW_RECORD:
-        return "the flow record has the wrong length; or, when it is fed, its reserved bytes are not zero or its rows read are more than "
-               WATCH_TEXT(WATCH_STATES) " x offset";
+        return "the flow record has the wrong length; or, when it is fed, its reserved bytes are not zero, its rows read are more than "
+               WATCH_TEXT(WATCH_STATES) " x offset, or its frontier has a state that no record of the list names";
     case WATCH_REFUSED_OTHER_START:
         return "the piece's stated start is not the flow's offset";
     case WATCH_REFUSED_TOO_LONG:

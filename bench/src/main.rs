@@ -281,7 +281,8 @@ fn rows() -> Vec<Row> {
         8,
         Box::new(|| (inputs::barn_list(), fed(1, b"ab".repeat(2048)))),
     );
-    for frontier in [1, 8, STATES] {
+    // A frontier holds named states alone: the barn list names three.
+    for frontier in [1, 3] {
         row(
             format!("plain feed, 5 records, frontier {frontier}, pieces of 1 byte"),
             64,
@@ -289,23 +290,21 @@ fn rows() -> Vec<Row> {
         );
     }
     for records in [16, 256, MOST_RECORDS] {
-        for frontier in [1, 8, 64, STATES] {
-            // A frontier lasts where each of its states can have an edge.
-            let (turn, bytes, pieces) = match frontier < records {
-                true => (2, 512, ""),
-                false => (64, 1, ", pieces of 1 byte"),
-            };
-            row(
-                format!(
-                    "plain feed, {} records, frontier {frontier}{pieces}",
-                    number(records)
-                ),
-                turn,
-                Box::new(move || {
-                    let list = inputs::steady_list(records, frontier);
-                    (list, fed(frontier, inputs::line(bytes)))
-                }),
-            );
+        // A frontier lasts where each of its states can have an edge.
+        for frontier in [1, 8, 64, STATES].into_iter().filter(|n| *n < records) {
+            for (turn, bytes, pieces) in [(2, 512, ""), (16, 1, ", pieces of 1 byte")] {
+                row(
+                    format!(
+                        "plain feed, {} records, frontier {frontier}{pieces}",
+                        number(records)
+                    ),
+                    turn,
+                    Box::new(move || {
+                        let list = inputs::steady_list(records, frontier);
+                        (list, fed(frontier, inputs::line(bytes)))
+                    }),
+                );
+            }
         }
     }
     for frontier in [8, STATES] {
@@ -346,6 +345,17 @@ fn rows() -> Vec<Row> {
                 }),
             );
         }
+    }
+    for (records, fill) in [("5", false), (&*full, true)] {
+        row(
+            format!("split feed, 16 splits, bound 2, {records} records, pieces of 1 byte"),
+            16,
+            Box::new(move || {
+                let list = inputs::wide_list(2);
+                let list = if fill { inputs::filled(list) } else { list };
+                (list, split_fed(2, inputs::wide_table(16, 2), inputs::line(1)))
+            }),
+        );
     }
     row(
         format!("split feed, {most_splits} splits, bound {SLOTS}, {full} records"),

@@ -37,6 +37,12 @@ class Sample:
         assert model.list_refusal(self.data) == 0
 
 
+def naming(records, members):
+    """The records, and an accept record for each of these states that they do not name."""
+    named = model.Automaton(b"".join(records)).named
+    return list(records) + [accept(state, state % SIGNATURES) for state in sorted(set(members) - named)]
+
+
 def search_list(dice):
     """A root that loops on all bytes, and one to three words behind it."""
     letters = dice.some(LETTERS, dice.between(2, 4))
@@ -171,6 +177,13 @@ def word_count(dice):
 
 
 def any_frontier(dice, sample):
+    """States of the list, now and then with some that it does not name."""
+    named = sample.nfa.named
+    members = wild_frontier(dice, sample)
+    return members if dice.chance(25) else members & named
+
+
+def wild_frontier(dice, sample):
     shape = dice.below(12)
     if shape < 5:
         return dice.subset(sample.states, 60)

@@ -6,7 +6,7 @@ import faults
 import model
 import orders
 from builders import (Sample, a_piece, accept, any_flow, any_frontier, any_list, broken_list,
-                      crowded_list, edge, good_table, short_length, start, word_count)
+                      crowded_list, edge, good_table, naming, short_length, start, word_count)
 from faults import BAD_BOUNDS
 from model import (BYTE_VALUES, ENOUGH_WORDS, FLOW_SIZE, MOST_BOUND, MOST_OFFSET, MOST_PARTS,
                    MOST_RECORDS, MOST_SPLITS, OFFSET_AT, RECORD_SIZE, RESERVED_AT, ROWS_AT,
@@ -689,6 +689,8 @@ def wild_tables(tape, dice):
     after an unused one, slots that name no part, more taken than the bound."""
     for turn in range(190):
         sample = any_list(dice)
+        if dice.chance(90):
+            sample = Sample(naming(sample.records, sample.states), sample.letters, sample.states)
         sets = [dice.subset(sample.states, 50) for _ in range(dice.between(2, 5))]
         sets.append(sample.nfa.starts)
         count = dice.between(1, 5)
@@ -782,7 +784,7 @@ def largest_tables(tape, dice):
                          {(p, 0): frozenset() for p in range(20)}, splits)
     plan.sort()
     table = plan.table()
-    tape.load_list(dead.data)
+    tape.load_list(b"".join(naming(dead.records, states)))
     tape.load_table(table)
     assert tape.check_table(MOST_BOUND) == 0
     assert tape.check_table(MOST_BOUND - 1) == 9
@@ -856,14 +858,16 @@ def ask_order(tape, dice, pair, parts, refused):
     plan = builders.Plan([0] * BYTE_VALUES, 1, [unpack_set(part) for part in parts],
                          {(p, 0): frozenset() for p in range(len(parts))},
                          [(unpack_set(data), padded(slots)) for data, slots in splits])
-    tape.load_list(start(STATES - 8))
+    fed = dice.chance(15)
+    frontier = unpack_set(dice.pick(sets)) if fed else frozenset()
+    tape.load_list(b"".join(naming([start(STATES - 8)], frontier)))
     tape.load_table(plan.table())
     bound = dice.between(max(len(slots) for _, slots in splits), MOST_BOUND)
     assert (tape.check_table(bound) == 9) == refused
     if dice.chance(20):
         tape.check_table(dice.between(1, MOST_BOUND))
-    if dice.chance(50):
-        tape.load_record(any_flow(dice, unpack_set(dice.pick(sets))))
+    if fed:
+        tape.load_record(any_flow(dice, frontier))
         tape.split_feed(bound, offset_of(tape.record), dice.below(5),
                         dice.bytes(dice.between(1, 3)))
 
@@ -1211,11 +1215,57 @@ def first_pairs(tape, dice):
             tape.open(needed)
 
 
+def foreign(tape, dice):
+    """Records whose frontier has states that no record of the list names, and such with named states alone, through both feeds: at the
+    flow's offset and beside it, with a piece and without."""
+    tape.load_table(examples.TABLE)
+
+    def ask(data, members, refused):
+        flow = Flow(frozenset(members), dice.pick([0, 1, dice.below(300)]), 0)
+        record = pack_flow(flow)
+        tape.load_list(data)
+        for feed in (tape.feed, lambda *call: tape.split_feed(2, *call)):
+            start = flow.offset + dice.pick([0, 0, 0, 1])
+            tape.load_record(record)
+            answer = feed(start, word_count(dice), dice.pick([b"", b"ab", b"b"]))
+            assert (answer.refusal == 4) == refused
+            assert refused or start == flow.offset or answer.refusal == 5
+        tape.load_record(record)
+        tape.open()
+
+    for members, refused in (({3}, True), ({0, 1, 2}, False), (set(), False), ({0, 3}, True)):
+        for _ in range(6):
+            ask(examples.LIST, members, refused)
+    for members, refused in (({4, 6}, False), ({200}, True), ({5}, True), ({4, 6, 200}, True), ({6}, False)):
+        for _ in range(6):
+            ask(examples.LONE, members, refused)
+
+    # Of each kind of record one that names a state alone, and one that has it as another number: low, high, a signature.
+    for turn in range(60):
+        state = dice.between(3, 199)
+        others = dice.some([s for s in range(3, 200) if s != state], 2)
+        named = [edge(state + 1, state + 2, state, 0), edge(state + 1, state + 2, 0, state), start(state), accept(state, 1)]
+        unnamed = [edge(state, state + 1, others[0], others[1]), accept(others[0], state)]
+        for record in named:
+            ask(b"".join(dice.shuffled([start(0), record])), {state}, False)
+        for record in unnamed:
+            ask(b"".join(dice.shuffled([start(0), record])), {state}, True)
+
+    # Any list: all its states, some of them, and one that it does not name beside them.
+    for turn in range(120):
+        sample = any_list(dice)
+        named = sample.nfa.named
+        ask(sample.data, named, False)
+        ask(sample.data, dice.subset(named, 50), False)
+        strange = dice.pick(sorted(set(range(STATES)) - named) + [STATES - 1])
+        ask(sample.data, dice.subset(named, 50) | {strange}, strange not in named)
+
+
 GROUPS = [worked, lists, longest_lists, list_limits, openings, record_limits, plain_flows,
           crowded_flows, good_tables, crowded_tables, faulty_tables, one_byte_tables,
           harmless_tables, wild_tables, long_pieces, set_sizes, largest_tables,
           split_order, equal_splits, low_and_high, lengths_of_splits, no_split,
-          zero_records, old_content, long_pauses, capitals, first_pairs]
+          zero_records, old_content, long_pauses, capitals, first_pairs, foreign]
 
 
 def make(tape, dice):

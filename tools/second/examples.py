@@ -27,6 +27,9 @@ TABLE = Table(
     _set(0) + _set(1) + _set(2),
     _set(0) + _set(0, 1) + _set(0) + _set() + _set() + _set(2) + _set() * 3,
     b"".join(SPLITS))
+# Start 4, and accept 6 under signature 200.
+LONE = bytes.fromhex("0200000000000400" "030000000600C800")
+
 WITHOUT_02 = TABLE._replace(splits=SPLITS[0] + SPLITS[1])
 WITHOUT_0 = TABLE._replace(splits=SPLITS[1] + SPLITS[2])
 
@@ -124,6 +127,20 @@ def check():
     assert model.table_refusal(capitals, TABLE, 2) == 10
     assert model.plain_feed(capitals, fresh, 0, words, b"AbaB")[:5] == (
         0, 4, 1, True, [7, 2, 13, 14, 15])
+
+    # A frontier with a state that no record names: 4, before 5 and for an empty piece; a signature names nothing.
+    def at(data, states, start=0, piece=b"ab"):
+        record = pack_flow(Flow(frozenset(states), 0, 0))
+        answer = model.plain_feed(data, record, start, [0] * 8, piece)
+        assert answer.refusal != 4 or answer == (4, 0, 0, False, [0] * 8, record)
+        return answer.refusal
+
+    assert at(LIST, {3}) == at(LIST, {0, 3}) == at(LIST, {3}, 1) == at(LIST, {3}, 0, b"") == 4
+    assert at(LIST, {0, 1, 2}) == at(LIST, set()) == at(LIST, {2}, 0, b"") == 0
+    assert at(LIST, {0, 1, 2}, 1) == 5
+    assert at(LONE, {4, 6}) == at(LONE, {6}) == 0
+    assert at(LONE, {200}) == at(LONE, {5}) == at(LONE, {4, 5, 6}) == 4
+    assert model.open_flow(LONE, b"\xff" * FLOW_SIZE, [])[:2] == (0, 0)
 
     # {8} comes before {0} in the order of byte strings.
     assert _set(8) < _set(0)

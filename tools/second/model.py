@@ -124,6 +124,9 @@ class Automaton:
         self.starts = frozenset(number(r[6:8]) for r in records if r[0] == 2)
         self.accepts = frozenset(
             Accept(number(r[4:6]), number(r[6:8])) for r in records if r[0] == 3)
+        self.named = frozenset().union(
+            self.starts, (e.source for e in self.edges), (e.target for e in self.edges),
+            (a.state for a in self.accepts))
         self.steps = {}
 
     def step(self, frontier, byte):
@@ -292,6 +295,8 @@ def feed_refusal(data, record, start, piece):
         return 4
     flow = unpack_flow(record)
     if flow.rows > STATES * flow.offset:
+        return 4
+    if flow.frontier - automaton(data).named:
         return 4
     if start != flow.offset:
         return 5

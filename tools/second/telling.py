@@ -109,7 +109,7 @@ def tell_flow(record):
         return 4, out + ["refused when fed, 4: %s" % "; and ".join(wrong)]
     if not flow.frontier:
         out.append("no state is left: no pair is due in this flow any more")
-    return 0, out + ["the record passes, rule 4"]
+    return 0, out + ["the record passes, rule 4, on each list that names these states"]
 
 
 # The split table

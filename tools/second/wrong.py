@@ -94,6 +94,9 @@ NO_KIND = "    return False\n\n\n@lru_cache(maxsize=64)\n"
 SLOT = "low + 256 * high"
 TAKEN = "split.slots[:split.slots.index(UNUSED)]"
 KEPT = "written + words[len(written):]"
+FOREIGN = "    if flow.frontier - automaton(data).named:\n        return 4\n"
+AFTER_5 = "    if start != flow.offset:\n        return 5\n"
+AFTER_6 = "    if flow.offset + len(piece) > MOST_OFFSET:\n        return 6\n"
 OPENED = "pack_flow(Flow(nfa.starts, 0, 0))"
 AT_ONCE = "[value for signature in nfa.signatures(nfa.starts) for value in (signature, 0)]"
 NO_ROOM = "    if len(first) // 2 > len(words) // 2:\n"
@@ -184,6 +187,29 @@ VERSIONS = [
         ("return (self.low <= byte <= self.high\n                or self.either and",
          "return (self.low <= byte <= self.high\n                and (not self.either or"),
         ("exchanged(byte) <= self.high)", "exchanged(byte) <= self.high))")]),
+
+    # Foreign records
+    ("foreign: no state is", [(FOREIGN, "")]),
+    ("foreign: only states that edges name are known", [
+        ("            self.starts, (e.source", "            (e.source"),
+        (",\n            (a.state for a in self.accepts))", ")")]),
+    ("foreign: start states are not named", [("            self.starts, (e.source", "            (e.source")]),
+    ("foreign: accept states are not named", [(",\n            (a.state for a in self.accepts))", ")")]),
+    ("foreign: targets are not named", [("(e.target for e in self.edges),", "")]),
+    ("foreign: sources are not named", [("(e.source for e in self.edges), ", "")]),
+    ("foreign: a signature names a state", [
+        ("(a.state for a in self.accepts))", "(n for a in self.accepts for n in a))")]),
+    ("foreign: only where every state is", [
+        ("if flow.frontier - automaton(data).named:",
+         "if flow.frontier and not flow.frontier & automaton(data).named:")]),
+    ("foreign: given after 5", [(FOREIGN, ""), (AFTER_5, AFTER_5 + FOREIGN)]),
+    ("foreign: given after 6", [(FOREIGN, ""), (AFTER_6, AFTER_6 + FOREIGN)]),
+    ("foreign: not for an empty piece", [
+        ("if flow.frontier - automaton", "if piece and flow.frontier - automaton")]),
+    ("foreign: at opening too", [
+        ("    if refusal:\n        return Opened(refusal, 0, words, record)",
+         "    if not refusal and unpack_set(record[:SET_SIZE]) - automaton(data).named:\n        refusal = 4\n"
+         "    if refusal:\n        return Opened(refusal, 0, words, record)")]),
 
     # Opening
     ("opening: writes nothing", [(OPENED, "record")]),

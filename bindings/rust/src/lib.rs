@@ -201,8 +201,9 @@ impl fmt::Debug for List<'_> {
 /// A flow: its record of [`FLOW_SIZE`] bytes, which is all that has to be kept between two pieces.
 ///
 /// It begins with the frontier, a set; then come the offset at [`OFFSET_AT`], 4 zeros at [`RESERVED_AT`] and the rows read at
-/// [`ROWS_AT`]. Any [`FLOW_SIZE`] bytes make a `Flow`; a feed refuses those that can't have come from one. A record that was saved under
-/// another list is not told from a good one: it is run as it stands.
+/// [`ROWS_AT`]. Any [`FLOW_SIZE`] bytes make a `Flow`; a feed refuses those that can't have come from one, as those with a state that
+/// no record of the list names. A record that was saved under another list and holds named states alone is not told from a good one: it
+/// is run as it stands.
 ///
 /// ```
 /// use watch::{Flow, List, ENOUGH_WORDS, FLOW_SIZE};
@@ -468,7 +469,8 @@ impl Flow {
     /// The split feed of a whole piece that begins at offset `start` of the flow, as [`feed_all`](Flow::feed_all) is the plain one.
     ///
     /// Where it halts, the pairs before that have been handed to `told`, and the error counts bytes and pairs from the piece's front.
-    /// Every other refusal comes before the first byte.
+    /// Every other refusal comes before the first byte, but where a table that has not passed the check leads to a state that the list does
+    /// not name: if room runs out there the rest is refused with 4, [`SplitError::Foreign`].
     ///
     /// ```
     /// # use watch::{Flow, List, Refusal, SplitError, Table, TableLists, BYTE_VALUES, SET_SIZE};
@@ -638,6 +640,7 @@ fn feed_whole(
             Ok(fed) if fed.all => return Ok(FedAll { bytes, pairs }),
             Ok(_) => (),
             Err(SplitError::Halted { .. }) => return Err(SplitError::Halted { bytes, pairs }),
+            Err(_) if bytes > 0 => return Err(SplitError::Foreign { bytes, pairs }),
             Err(refused) => return Err(refused),
         }
     }

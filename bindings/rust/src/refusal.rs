@@ -22,7 +22,8 @@ pub enum Refusal {
     ListRecord = 2,
     /// 3: no start record.
     NoStart = 3,
-    /// 4: flow record not [`FLOW_SIZE`] bytes; or, when fed, its reserved bytes not zero, or rows read > [`STATES`] × offset.
+    /// 4: flow record not [`FLOW_SIZE`] bytes; or, when fed, its reserved bytes not zero, rows read > [`STATES`] × offset, or a state in
+    /// its frontier that no record of the list names.
     FlowRecord = 4,
     /// 5: the piece's stated start differs from the flow's offset.
     OtherStart = 5,
@@ -108,7 +109,7 @@ impl fmt::Display for Refusal {
             Refusal::FlowRecord => write!(
                 f,
                 "flow record not {FLOW_SIZE} bytes; or, when fed, its reserved bytes not zero, \
-                 or rows read > {STATES} × offset"
+                 rows read > {STATES} × offset, or a state in its frontier that no record of the list names"
             ),
             Refusal::OtherStart => f.write_str("the piece's stated start differs from the flow's offset"),
             Refusal::TooLong => write!(f, "offset + piece length > {MOST_OFFSET}"),
@@ -166,6 +167,15 @@ pub enum SplitError {
         /// Pairs written for them.
         pairs: usize,
     },
+    /// Refusal 4 after a pause: a table that has not passed the check has led to a state that no record of the list names, and
+    /// [`split_feed_all`](crate::Flow::split_feed_all) can't go on from there.
+    #[non_exhaustive]
+    Foreign {
+        /// Bytes consumed up to the pause.
+        bytes: usize,
+        /// Pairs handed on for them.
+        pairs: usize,
+    },
 }
 
 impl SplitError {
@@ -174,22 +184,23 @@ impl SplitError {
         match self {
             SplitError::Refused(refusal) => *refusal,
             SplitError::Halted { .. } => Refusal::NoSplit,
+            SplitError::Foreign { .. } => Refusal::FlowRecord,
         }
     }
 
-    /// Bytes consumed before the refusal: 0 unless the feed halted.
+    /// Bytes consumed before the refusal: 0 where the feed was [`Refused`](SplitError::Refused).
     pub fn bytes(&self) -> usize {
         match self {
             SplitError::Refused(_) => 0,
-            SplitError::Halted { bytes, .. } => *bytes,
+            SplitError::Halted { bytes, .. } | SplitError::Foreign { bytes, .. } => *bytes,
         }
     }
 
-    /// Pairs written before the refusal: 0 unless the feed halted.
+    /// Pairs written before the refusal: 0 where the feed was [`Refused`](SplitError::Refused).
     pub fn pairs(&self) -> usize {
         match self {
             SplitError::Refused(_) => 0,
-            SplitError::Halted { pairs, .. } => *pairs,
+            SplitError::Halted { pairs, .. } | SplitError::Foreign { pairs, .. } => *pairs,
         }
     }
 }
@@ -200,6 +211,9 @@ impl fmt::Display for SplitError {
             SplitError::Refused(refusal) => refusal.fmt(f),
             SplitError::Halted { bytes, pairs } => {
                 write!(f, "{} (after {bytes} bytes and {pairs} pairs)", Refusal::NoSplit)
+            }
+            SplitError::Foreign { bytes, pairs } => {
+                write!(f, "{} (after {bytes} bytes and {pairs} pairs)", Refusal::FlowRecord)
             }
         }
     }

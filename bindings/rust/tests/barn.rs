@@ -297,6 +297,37 @@ fn the_most_rows() {
 }
 
 #[test]
+fn a_foreign_state() {
+    let frontier = |states: &[u16]| {
+        let mut record = [0; FLOW_SIZE];
+        for state in states {
+            record[usize::from(*state) / 8] |= 1 << (state % 8);
+        }
+        Flow::from_bytes(record)
+    };
+    // The barn list names 0, 1 and 2.
+    for (states, start, refusal) in [
+        (&[3][..], 0, Some(Refusal::FlowRecord)),
+        (&[0, 3], 0, Some(Refusal::FlowRecord)),
+        (&[3], 1, Some(Refusal::FlowRecord)),
+        (&[0, 1, 2], 0, None),
+        (&[0, 1, 2], 1, Some(Refusal::OtherStart)),
+        (&[], 0, None),
+    ] {
+        for piece in [&b""[..], b"ab"] {
+            let mut flow = frontier(states);
+            assert_eq!(flow.feed(&list(), start, piece, &mut [0; 8]).err(), refusal, "{states:?} from {start}");
+        }
+    }
+    // A signature names nothing.
+    let lone = [[2, 0, 0, 0, 0, 0, 4, 0], [3, 0, 0, 0, 6, 0, 200, 0]].concat();
+    let lone = List::check(&lone).unwrap();
+    for (states, refusal) in [(&[4, 6][..], None), (&[200], Some(Refusal::FlowRecord)), (&[5], Some(Refusal::FlowRecord))] {
+        assert_eq!(frontier(states).feed(&lone, 0, b"", &mut []).err(), refusal, "{states:?}");
+    }
+}
+
+#[test]
 fn split_abab() {
     T::new().check(2, |checked, _| {
         let table = checked.unwrap();

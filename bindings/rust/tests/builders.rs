@@ -150,12 +150,7 @@ fn random_set(dice: &mut Dice, states: &[u16]) -> Set {
 }
 
 fn states_of(automaton: &Automaton) -> Vec<u16> {
-    let mut states = automaton.starts.clone();
-    for (from, edges) in &automaton.edges {
-        states.insert(*from);
-        states.extend(edges.iter().map(|edge| edge.to));
-    }
-    states.into_iter().collect()
+    automaton.named().into_iter().collect()
 }
 
 /// The bytes at which some edge begins to be taken, or no longer is: between two of them all bytes step alike.
@@ -447,10 +442,15 @@ pub fn damage(dice: &mut Dice, lists: &mut Lists) {
 
 // Records and pieces.
 
-/// A record that no feed refuses with 4, with a frontier of the list's own states and any offset.
+/// A record with a frontier of the list's own states and any offset, which no feed refuses with 4; now and then with a state more, mostly one
+/// that the list does not name.
 pub fn saved_record(dice: &mut Dice, automaton: Option<&Automaton>) -> Vec<u8> {
     let states = automaton.map_or(vec![0, 1, STATES as u16 - 1], states_of);
-    let mut record = bytes_of(&random_set(dice, &states)).to_vec();
+    let mut frontier = random_set(dice, &states);
+    if dice.once_in(4) {
+        frontier.insert(dice.below(STATES) as u16);
+    }
+    let mut record = bytes_of(&frontier).to_vec();
     let offset = match dice.below(4) {
         0 => dice.below(100) as u64,
         1 => MOST_OFFSET - dice.below(4) as u64,

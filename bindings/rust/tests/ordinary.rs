@@ -115,6 +115,12 @@ impl Automaton {
         next
     }
 
+    /// The states that some record names.
+    pub fn named(&self) -> Set {
+        let edges = self.edges.iter().flat_map(|(from, edges)| edges.iter().map(|edge| edge.to).chain([*from]));
+        edges.chain(self.starts.iter().copied()).chain(self.accepts.keys().copied()).collect()
+    }
+
     /// The signatures that the states of a frontier accept, each once, rising.
     pub fn accepted(&self, frontier: &Set) -> BTreeSet<u16> {
         frontier.iter().filter_map(|state| self.accepts.get(state)).flatten().copied().collect()
@@ -139,8 +145,8 @@ impl Flow {
     }
 }
 
-/// Reads a record and holds a piece to it: refusals 4 to 6.
-fn flow_for(record: &[u8], start: u64, piece: &[u8]) -> Result<Flow, u32> {
+/// Reads a record and holds it and a piece to the list: refusals 4 to 6.
+fn flow_for(automaton: &Automaton, record: &[u8], start: u64, piece: &[u8]) -> Result<Flow, u32> {
     if record.len() != FLOW_SIZE || record[RESERVED_AT..ROWS_AT] != [0; 4] {
         return Err(4);
     }
@@ -149,7 +155,7 @@ fn flow_for(record: &[u8], start: u64, piece: &[u8]) -> Result<Flow, u32> {
         offset: number(&record[OFFSET_AT..RESERVED_AT]),
         rows: number(&record[ROWS_AT..]),
     };
-    if flow.rows > STATES as u64 * flow.offset {
+    if flow.rows > STATES as u64 * flow.offset || !flow.frontier.is_subset(&automaton.named()) {
         return Err(4);
     }
     if start != flow.offset {
@@ -377,7 +383,7 @@ pub fn feed(
         Ok(automaton) => automaton,
         Err(refusal) => return refused(*refusal),
     };
-    let flow = match flow_for(record, start, piece) {
+    let flow = match flow_for(automaton, record, start, piece) {
         Ok(flow) => flow,
         Err(refusal) => return refused(refusal),
     };
@@ -399,7 +405,7 @@ pub fn split_feed(
         Ok(automaton) => automaton,
         Err(refusal) => return refused(*refusal),
     };
-    let flow = match flow_for(record, start, piece) {
+    let flow = match flow_for(automaton, record, start, piece) {
         Ok(flow) => flow,
         Err(refusal) => return refused(refusal),
     };

@@ -341,6 +341,9 @@ impl<'d> Case<'d> {
         if self.own && self.accepted {
             assert_ne!(got.refusal, 14, "an accepted table never halts a flow of its own");
         }
+        if self.own {
+            assert_ne!(got.refusal, 4, "a flow of the list holds no foreign state");
+        }
         if count >= ENOUGH_WORDS && !piece.is_empty() && got.refusal == 0 {
             assert!(got.bytes > 0, "room for a pair of each signature, and no byte consumed");
         }

@@ -153,7 +153,7 @@ fn talkative_list(dice: &mut Dice) -> Vec<u8> {
 #[test]
 fn whole_pieces_are_told_as_by_one_feed_with_room() {
     let mut dice = Dice(5);
-    let (mut pauses, mut refusals, mut late_halts) = (0, 0, 0);
+    let (mut pauses, mut refusals, mut late_halts, mut foreign) = (0, 0, 0, 0);
     for _ in 0..300 {
         let bytes = talkative_list(&mut dice);
         let list = match List::try_from(&bytes[..]) {
@@ -181,7 +181,14 @@ fn whole_pieces_are_told_as_by_one_feed_with_room() {
                 let start = u64::from(flow.offset()) + u64::from(dice.once_in(20));
                 let mut other = flow.clone();
                 let told = by_callback(&mut flow, &list, table, start, &piece);
-                assert_eq!(told, at_once(&mut other, &list, table, start, &piece));
+                let whole = at_once(&mut other, &list, table, start, &piece);
+                if told.1 == 4 && told.2 > 0 {
+                    // A wild table has led to a foreign state, and after the pause there the rest is refused.
+                    assert!(whole.0.starts_with(&told.0) && told.0.len() == told.3 && told.2 < piece.len());
+                    foreign += 1;
+                    break;
+                }
+                assert_eq!(told, whole);
                 assert_eq!(flow, other);
                 pauses += usize::from(told.3 > SIGNATURES);
                 refusals += usize::from(told.1 != 0);
@@ -189,6 +196,6 @@ fn whole_pieces_are_told_as_by_one_feed_with_room() {
             }
         }
     }
-    println!("whole: {pauses} feeds with pauses, {refusals} refusals, {late_halts} of them 14 after a pause");
-    assert!(pauses > 100 && refusals > 100 && late_halts > 0);
+    println!("whole: {pauses} feeds with pauses, {refusals} refusals, {late_halts} of them 14 after a pause; {foreign} of 4 after one");
+    assert!(pauses > 100 && refusals > 100 && late_halts > 0 && foreign > 0);
 }

@@ -1,7 +1,7 @@
 -- Demand 1: every refusal exactly when its row says, and nothing changes; 14 keeps the bytes before it. Assumes nothing.
 use Prim.Native.Nat.{ℕ, suc, _+_, _*_, _≤_, _<_}
 use mathlib.Core.Path.{_≡_, refl, sym, ap, _∙_}
-use mathlib.Core.Bool.{Bool, true, false, _&&_, cond}
+use mathlib.Core.Bool.{Bool, true, false, _&&_, _||_, not, cond}
 use mathlib.Core.List.{List, [], _∷_}
 use mathlib.Core.Logic.{_↔_}
 use native.Mathlib.Omega.{arith}
@@ -11,11 +11,11 @@ use lib.ListN.{length, getD, take}
 use lib.Seq.{length-take-le, take-take}
 use lib.Dec.{ltb, lit<}
 use borrow.Author.Tests.{eq-eqb, ne-eqb, ltb-true, lt-ltb, le-ltb}
-use Rattle.sets.specs.Set.{signatures, size}
+use Rattle.sets.specs.Set.{signatures, size, within}
 use Rattle.rules.specs.Scan.{rising}
 use Rattle.rules.specs.Rules.{Rule, verdict, number, Given}
 use Rattle.lists.specs.List.{badLength, badRecord, noStart, listRules}
-use Rattle.lists.specs.Automaton.{start, accepted}
+use Rattle.lists.specs.Automaton.{start, accepted, named}
 use Rattle.rules.proofs.Scanning.{both}
 use Rattle.lists.proofs.Listed.{list-refuses}
 use Rattle.rules.proofs.Rules.{refuses, rises, exactly, numbered, number-lt, verdict-lt, passes-front, passes-changed}
@@ -197,7 +197,7 @@ module _ (L : List ℕ) (b : ℕ) (T : Table) (R : List ℕ) (at : ℕ) (piece o
 -- a piece cut to a front of it passes where it passes
 cut-passes : (L : List ℕ) (b : ℕ) (T : Table) (R : List ℕ) (at : ℕ) (piece : List ℕ) (n : ℕ) → verdict (splitRules L b T R at piece) ≡ 0 → verdict (splitRules L b T R at (take n piece)) ≡ 0
 cut-passes L b T R at piece n v =
-    passes-changed ((1, badLength L) ∷ (2, badRecord L) ∷ (3, noStart L) ∷ (4, badFlow R) ∷ (5, otherStart R at) ∷ []) 5 (tooLong R piece) (tooLong R (take n piece)) (sizeRules b T) v
+    passes-changed ((1, badLength L) ∷ (2, badRecord L) ∷ (3, noStart L) ∷ (4, badFlow R || not (within (frontierOf R) (named L))) ∷ (5, otherStart R at) ∷ []) 5 (tooLong R piece) (tooLong R (take n piece)) (sizeRules b T) v
     (le-ltb mostOffset (offsetOf R + length (take n piece))
     (omega (arith, length-take-most n piece, feed-passes L R at piece (passes-front (feedRules L R at piece) (sizeRules b T) v) .2)))
 

@@ -5,28 +5,32 @@ use mathlib.Core.Bool.{true, false, not, true≢false}
 use mathlib.Core.List.{List, [], _∷_}
 use native.Mathlib.Omega.{arith}
 use native.Mathlib.Nat.{mul-add}
+use native.Mathlib.Decide.{ℕ-discrete}
 use lib.ListN.{length, take}
 use borrow.Author.Tests.{eq-eqb}
-use Rattle.sets.specs.Set.{states, signatures}
+use Rattle.sets.specs.Set.{states, signatures, within}
 use Rattle.rules.specs.Rules.{verdict}
+use Rattle.lists.specs.Automaton.{named}
+use Rattle.lists.proofs.Named.{named-lt}
 use Rattle.lists.proofs.Steps.{start-lt}
 use Rattle.feeds.specs.Engine.{Engine, room, run, costs, told, consumed, ended, refused}
 use Rattle.flows.specs.Flow.{flowLayout, frontierOf, offsetOf, rowsOf, badFlow, otherStart}
 use Rattle.feeds.specs.Calls.{Bytes, Asked, answer, Along}
-use Rattle.feeds.proofs.Runs.{consumed-most, consumed-fits, consumed-longest, costs-most, bytes-take, length-take-most}
+use Rattle.feeds.proofs.Runs.{consumed-most, consumed-fits, consumed-longest, consumed-kept, costs-most, bytes-take, length-take-most}
 use Rattle.feeds.proofs.Told.{told-ordered}
 use Rattle.feeds.proofs.Follows.{follows-within}
-use Rattle.flows.proofs.Records.{frontier-lt, flow-good}
-use Rattle.feeds.proofs.Moves.{feed-bytes, feed-fits, feed-rest, feed-length, feed-all, no-refusal, feed-moves}
+use Rattle.feeds.proofs.Going.{unfed}
+use Rattle.flows.proofs.Records.{frontier-lt, frontier-flow, flow-good}
+use Rattle.feeds.proofs.Moves.{feed-ends, feed-bytes, feed-fits, feed-rest, feed-length, feed-all, no-refusal, feed-moves}
 use Rattle.feeds.proofs.Whole.{Sound, Pieces, Fair, whole, never-halts, one-engine, by-answer}
 use Rattle.flows.proofs.Saved.{flow-sound}
 use Rattle.feeds.proofs.Cuts.{Equal, One}
 use Rattle.feeds.proofs.Cuts as cut
 use Rattle.plain.specs.Plain.{plain, opened, openFlow}
 use Rattle.plain.proofs.Plain.{plain-cheap, plain-kept}
-use Rattle.demands.specs.Calls.{Via, byList, Call, engineOf, asked, allAsked, outcome}
-use Rattle.demands.specs.Demands.{Unchanged, Longest, OneCall, InBytes, Each, Plainly, bytesOf, Demand2, Demand2Opened}
-use Rattle.demands.proofs.Engines.{call-passes, rows-few, cost-most}
+use Rattle.demands.specs.Calls.{Via, byList, Checked, Call, engineOf, asked, allAsked, outcome}
+use Rattle.demands.specs.Demands.{Unchanged, Longest, Fit, OneCall, InBytes, Each, Plainly, bytesOf, Demand2, Demand2Opened}
+use Rattle.demands.proofs.Engines.{call-passes, rows-few, cost-most, next-named}
 use Rattle.demands.proofs.Demand1.{refused-unchanged}
 use Rattle.demands.proofs.Due.{told-due, due-all, opened-frontier, opened-offset, begins}
 
@@ -147,6 +151,24 @@ call-good R c h g = by-answer flowLayout R (asked c) (λ o. badFlow (o .saved) �
         (omega (arith, length-take-most n (c .piece), call-passes R c v .2))
         (rw mul-add (omega (arith, few, rows-few R g)))
 
+-- 4 takes the record again under the call's list
+call-fit : (R : List ℕ) (c : Call) → Bytes (c .piece) → Checked (c .list) (c .via) → Fit (c .list) R → Fit (c .list) (outcome R c .saved)
+unfolding ended
+call-fit R c h k f = (
+  call-good R c h (f .0),
+  elim (ℕ-discrete (verdict (asked c .rules R)) 0) [
+    | yes v ↦ rw (feed-ends (asked c .engine) flowLayout R (asked c .rules R) (c .piece) (c .out) v, frontier-flow _ _ _ (small v)) (named-after v)
+    | no n ↦ rw (unfed (asked c .engine) flowLayout R (c .piece) (c .out) (asked c .rules R) n) (f .1)
+  ],
+)
+  where
+    named-after : verdict (asked c .rules R) ≡ 0 → within (run (asked c .engine) (frontierOf R) (take (consumed (asked c .engine) (frontierOf R) (room (c .out)) (c .piece)) (c .piece))) (named (c .list)) ≡ true
+    named-after v =
+        consumed-kept (asked c .engine) (λ F. within F (named (c .list)) ≡ true) (λ F d l free p. next-named (c .via) (c .list) k F d l free) (frontierOf R) (room (c .out)) (c .piece) (f .1) h
+
+    small : verdict (asked c .rules R) ≡ 0 → run (asked c .engine) (frontierOf R) (take (consumed (asked c .engine) (frontierOf R) (room (c .out)) (c .piece)) (c .piece)) < 2 ^ states
+    small v = named-lt (c .list) _ (named-after v)
+
 call-moves : (R : List ℕ) (c : Call) → outcome R c .refusal ≡ 0 → zero < length (c .piece) → signatures ≤ room (c .out) → zero < outcome R c .bytes
 call-moves R c z l r = feed-moves (asked c .engine) flowLayout R (asked c .rules R) (c .piece) (c .out) z l r
 
@@ -160,6 +182,7 @@ one-call =
       pairs-fit = λ R c. omega (arith, feed-fits (asked c .engine) flowLayout R (asked c .rules R) (c .piece) (c .out));
       room-whole = λ out. (omega arith, omega arith);
       elsewhere = call-elsewhere;
-      never-4 = call-good;
+      never-4 = call-fit;
+      kept-whole = call-good;
       moves = call-moves;
     }

@@ -1,7 +1,7 @@
 -- From the promises of the functions that a driver calls to the demand that it promises. Assumes nothing.
 use Prim.Native.Nat.{ℕ, zero, _*_, _<_}
 use mathlib.Core.Path.{_≡_, refl, sym, ap, _∙_}
-use mathlib.Core.Bool.{Bool, true, false, _&&_, not, cond, true≢false}
+use mathlib.Core.Bool.{Bool, true, false, _&&_, _||_, not, cond, true≢false}
 use mathlib.Core.List.{List, [], _∷_, _++_, append-nil}
 use mathlib.Core.Logic.{_↔_}
 use native.Mathlib.Omega.{arith}
@@ -12,20 +12,22 @@ use lib.Dec.{ltb, eqb}
 use borrow.Author.Tests.{eq-eqb, eqb-true, le-ltb, ne-eqb}
 use Rattle.rules.specs.Rules.{verdict}
 use Rattle.rules.proofs.Rules.{verdict-then, passes-front, skip, stop}
+use Rattle.sets.specs.Set.{within}
 use Rattle.lists.specs.List.{listRefusal, listRules}
+use Rattle.lists.specs.Automaton.{named}
 use Rattle.feeds.specs.Engine.{Outcome, told, ended}
 use Rattle.feeds.specs.Calls.{Bytes}
 use Rattle.feeds.specs.Fed.{Answers}
 use Rattle.feeds.proofs.Going.{unfed}
 use Rattle.feeds.proofs.Moves.{feed-ends, no-refusal}
-use Rattle.flows.specs.Flow.{flowLayout, offsetOf, badFlow, otherStart, tooLong, flowRules, feedRules}
+use Rattle.flows.specs.Flow.{flowLayout, frontierOf, offsetOf, badFlow, otherStart, tooLong, flowRules, feedRules}
 use Rattle.feeds.specs.Opening.{Opens}
 use Rattle.plain.specs.Plain.{plain, openPairs, opened, openFlow, plainFeed}
 use Rattle.plain.proofs.Plain.{plain-refusal}
 use Rattle.tables.specs.Table.{Table, tableRefusal}
 use Rattle.splits.specs.Split.{splitFeed}
 use Rattle.demands.specs.Calls.{Via, byList, byTable, Call, asked, outcome}
-use Rattle.demands.specs.Demands.{Unchanged, InBytes, Each, Plainly, Through, bytesOf, wordsOf}
+use Rattle.demands.specs.Demands.{Unchanged, Fit, InBytes, Each, Plainly, Through, bytesOf, wordsOf}
 use Rattle.demands.specs.Made.{Made, Promised, callsOf, toldBy, eatenBy, leftBy}
 use Rattle.demands.specs.Drivers.{Seen, callOf, wordsSeen, bytesSeen, EachSeen, EachOn, Answered, SaysAll, Untouched, Sighted, openSeen, AnsweredOpen}
 use Rattle.demands.specs.Drivers.{OpenKept, FeedKept, SplitFeedKept, PlainKept, PlainDriven, SplitKept, SplitDriven}
@@ -194,13 +196,14 @@ unfolding leftBy
 resent-5 L R s Q out hR hb a z l =
     let v = no-refusal (plain L) flowLayout R (feedRules L R (s .at) (s .piece)) (s .piece) (s .out) (sym (a .refusal) ∙ z) in
     let p = call-passes R (callOf L byList s) v in
-    let good : badFlow Q ≡ false = rw (a .saved) (one-call .never-4 R (callOf L byList s) hb (p .0)) in
+    let fit : Fit L Q = rw (a .saved) (one-call .never-4 R (callOf L byList s) hb tt (p .0, p .3)) in
+    let good : (badFlow Q || not (within (frontierOf Q) (named L))) ≡ false = rw (fit .0, fit .1) in
     let front = length-take-le (s .fed .bytes) (s .piece) (feed-kept L R s Q a .longest z .front) in
     let on = plain-kept L R ((s, Q) ∷ []) hR (hb, tt) (a, tt) .offset in
     let other : otherStart Q (s .at) ≡ true =
     ap not (ne-eqb (s .at) (offsetOf Q) (λ e. omega (arith, l, p .1, e, front, rw (append-nil (take (s .fed .bytes) (s .piece))) at on))) in
     plain-refusal L Q (s .at) (s .piece) out
-    ∙ verdict-then (listRules L) (flowRules Q (s .at) (s .piece)) refl (passes-front (listRules L) (flowRules R (s .at) (s .piece)) v)
+    ∙ verdict-then (listRules L) (flowRules (within (frontierOf Q) (named L)) Q (s .at) (s .piece)) refl (passes-front (listRules L) (flowRules (within (frontierOf R) (named L)) R (s .at) (s .piece)) v)
     ∙ skip 4 ((5, otherStart Q (s .at)) ∷ (6, tooLong Q (s .piece)) ∷ []) good
     ∙ stop 5 ((6, tooLong Q (s .piece)) ∷ []) other
 

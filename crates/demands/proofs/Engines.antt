@@ -1,17 +1,19 @@
 -- The two list engines on a flow: what rules 4 and 6 give a call that passes, what a byte costs, and that an accepted table follows the list. Assumes nothing.
 use Prim.Native.Nat.{ℕ, _+_, _*_, _^_, _≤_, _<_}
-use mathlib.Core.Path.{_≡_, ap, _∙_}
-use mathlib.Core.Bool.{true, false}
+use mathlib.Core.Path.{_≡_, refl, sym, ap, _∙_}
+use mathlib.Core.Bool.{true, false, _||_, not, true≢false}
 use mathlib.Core.List.{List}
 use native.Mathlib.Omega.{arith}
 use lib.ListN.{length}
-use Rattle.sets.specs.Set.{states}
+use lib.Dec.{lit<}
+use Rattle.sets.specs.Set.{states, within}
 use Rattle.rules.specs.Rules.{verdict}
-use Rattle.lists.specs.Automaton.{step, accepted}
-use Rattle.rules.proofs.Rules.{passes-front}
+use Rattle.lists.specs.Automaton.{step, accepted, named}
+use Rattle.rules.proofs.Rules.{passes-front, exactly}
 use Rattle.lists.proofs.Steps.{step-lt}
+use Rattle.lists.proofs.Named.{step-named}
 use Rattle.feeds.specs.Engine.{mostOffset}
-use Rattle.flows.specs.Flow.{offsetOf, rowsOf, badFlow, feedRules}
+use Rattle.flows.specs.Flow.{frontierOf, offsetOf, rowsOf, badFlow, feedRules}
 use Rattle.feeds.specs.Calls.{Follows}
 use Rattle.flows.proofs.Records.{good-flow}
 use Rattle.flows.proofs.Passing.{feed-passes}
@@ -22,7 +24,9 @@ use Rattle.tables.proofs.Accepted.{accepted as accepted-table}
 use Rattle.splits.specs.Split.{split}
 use Rattle.splits.proofs.Exact.{few, free, same, stays}
 use Rattle.splits.proofs.Stepping.{split-cheap}
-use Rattle.demands.specs.Calls.{Via, byList, byTable, Call, engineOf, rulesOf, asked}
+use Rattle.splits.proofs.Halting.{free-split}
+use Rattle.demands.specs.Calls.{Via, byList, byTable, Checked, Call, engineOf, rulesOf, asked}
+use Rattle.demands.specs.Demands.{Fit}
 
 -- ---- a call that no rule refuses
 
@@ -33,11 +37,24 @@ passes-feed (byTable b T) L R at piece e = passes-front (feedRules L R at piece)
 
 -- so its record is good, its piece begins at the flow's offset, and ends at one
 pub call-passes : (R : List ℕ) (c : Call) → verdict (asked c .rules R) ≡ 0
-    → (badFlow R ≡ false) × (c .at ≡ offsetOf R) × (offsetOf R + length (c .piece) ≤ mostOffset)
+    → (badFlow R ≡ false) × (c .at ≡ offsetOf R) × (offsetOf R + length (c .piece) ≤ mostOffset) × (within (frontierOf R) (named (c .list)) ≡ true)
 call-passes R c e = feed-passes (c .list) R (c .at) (c .piece) (passes-feed (c .via) (c .list) R (c .at) (c .piece) e)
 
 pub rows-few : (R : List ℕ) → badFlow R ≡ false → rowsOf R ≤ states * offsetOf R
 rows-few R e = good-flow R e .2
+
+-- one whose record 4 takes is not refused with 4
+pub no-4 : (v : Via) (L R : List ℕ) (at : ℕ) (piece : List ℕ) → Fit L R → verdict (rulesOf v L R at piece) ≡ 4 → ⊥
+no-4 v L R at piece f e = true≢false (sym (applies v e) ∙ rw (f .0, f .1))
+  where
+    applies : (v : Via) → verdict (rulesOf v L R at piece) ≡ 4 → (badFlow R || not (within (frontierOf R) (named L))) ≡ true
+    applies byList q = exactly (rulesOf byList L R at piece) refl 3 (lit< tt) .0 q .0
+    applies (byTable b T) q = exactly (rulesOf (byTable b T) L R at piece) refl 3 (lit< tt) .0 q .0
+
+-- by what is checked for L, a byte before which nothing halts leads to states that L names
+pub next-named : (v : Via) (L : List ℕ) → Checked L v → (F c : ℕ) → c < 256 → engineOf v L .halts F ≡ false → within (engineOf v L .next F c) (named L) ≡ true
+next-named byList L k F c l h = step-named L F c
+next-named (byTable b T) L k F c l h = rw (same L b T (accepted-table L b T k) F (free-split b T F h) c l) (step-named L F c)
 
 -- ---- what a byte costs
 

@@ -5,11 +5,11 @@ use mathlib.Core.Bool.{Bool, true, false, _&&_}
 use mathlib.Core.List.{List, [], _∷_}
 use lib.Count.{onesIn}
 use lib.Dec.{T, eqb, eqb→eq}
-use Rattle.sets.specs.Set.{num, digits, holds, join, insert, size, members, setAt, before}
+use Rattle.sets.specs.Set.{num, digits, holds, join, within, insert, size, members, setAt, before}
 use Rattle.rules.specs.Scan.{some, every, first, gather, rising}
 use Rattle.rules.specs.Rules.{verdict}
 use Rattle.lists.specs.List.{goodRecord, badLength, badRecord, noStart}
-use Rattle.lists.specs.Automaton.{start, step, accepted}
+use Rattle.lists.specs.Automaton.{start, step, accepted, namedBy}
 use Rattle.feeds.specs.Engine.{run, costs, due, pairsAt, told, consumed, ended, feed}
 use Rattle.feeds.specs.Opening.{opening}
 use Rattle.flows.specs.Flow.{flowBytes, badFlow}
@@ -49,7 +49,7 @@ agree-sound (r ∷ rs) t =
 
 -- what the rows compute with: a line that names one of these opens all that its own line names
 steps : ℕ
-unfolding num digits holds join insert size onesIn members setAt before some every first gather verdict goodRecord badLength badRecord noStart start step accepted
+unfolding num digits holds join within insert size onesIn members setAt before some every first gather verdict goodRecord badLength badRecord noStart start step accepted namedBy
 steps = 0
 
 checks : ℕ

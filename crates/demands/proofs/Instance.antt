@@ -11,11 +11,12 @@ use Rattle.rules.proofs.Rules.{stop}
 use Rattle.feeds.specs.Calls.{Bytes}
 use Rattle.tables.specs.Table.{tableRefusal}
 use Rattle.demands.specs.Calls.{Via, byList, byTable, Call, rulesOf}
-use Rattle.demands.specs.Demands.{InBytes, Demand2Opened, Demand3}
+use Rattle.demands.specs.Demands.{InBytes, Demand2Opened, Demand3, NeverForeign}
 use Rattle.demands.specs.Examples.{L₀, T₃, a, b, room, full, begin}
 use Rattle.demands.proofs.Examples.{opened-agrees, accepted-agrees₀}
 use Rattle.demands.proofs.Demand2.{demand-2-opened}
 use Rattle.demands.proofs.Demand3.{demand-3}
+use Rattle.demands.proofs.Swapping.{never-foreign}
 
 -- four calls: "aba"; start 0 again, which is refused with 5; an empty list, which is refused with 1; then "b" from 3
 abbrev fed : Via → List ℕ → ℕ → List ℕ → Call
@@ -62,3 +63,12 @@ pub split-applies : Demand3 L₀ 2 T₃ (begin full 5) (calls (byTable 2 T₃))
 split-applies =
     demand-3 L₀ 2 T₃ accepts full (replicate 5 9) passes (calls (byTable 2 T₃)) (in-bytes (byTable 2 T₃))
     (λ v. (refl, refl), (λ v. (refl, refl), (λ v. by-none _ (byTable 2 T₃) _ 3 (b ∷ []) v, (λ v. (refl, refl), tt))))
+
+-- the first call plain, the last through the table, and between them the two that are refused
+abbrev mixed : List Call
+mixed = fed byList L₀ 0 (a ∷ b ∷ a ∷ []) ∷ fed byList L₀ 0 (b ∷ []) ∷ fed (byTable 2 T₃) [] 3 (b ∷ []) ∷ fed (byTable 2 T₃) L₀ 3 (b ∷ []) ∷ []
+
+pub foreign-applies : NeverForeign L₀ (begin full 5) mixed
+foreign-applies =
+    never-foreign L₀ full (replicate 5 9) passes mixed (three, (one b (lit< tt), (one b (lit< tt), (one b (lit< tt), tt))))
+    (λ v. (refl, tt), (λ v. (refl, tt), (λ v. by-none _ (byTable 2 T₃) _ 3 (b ∷ []) v, (λ v. (refl, accepts), tt))))

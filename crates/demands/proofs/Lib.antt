@@ -4,6 +4,7 @@ pub mod Demand1
 pub mod Due
 pub mod Demand2
 pub mod Demand3
+pub mod Swapping
 pub mod Cuts
 pub mod Instance
 pub mod Saying

@@ -1,24 +1,25 @@
 -- Every rule of every entry point in words, and so each refusal: exactly when its words hold and those of no earlier row do. Assumes nothing.
 use Prim.Native.Nat.{ℕ, zero, suc, _+_, _*_, _/_, _≤_, _<_}
 use mathlib.Core.Path.{_≡_, refl, sym, ap, _∙_}
-use mathlib.Core.Bool.{Bool, true, false, cond, true≢false}
+use mathlib.Core.Bool.{Bool, true, false, cond, not, true≢false}
 use mathlib.Core.List.{List, [], _∷_, _++_}
 use mathlib.Core.Logic.{_⊎_, inl, inr, _↔_}
 use native.Mathlib.Omega.{arith}
 use native.Mathlib.Decide.{ℕ-discrete}
 use lib.ListN.{length, getD}
 use borrow.Author.Tests.{eqb-true}
-use Rattle.sets.specs.Set.{signatures, members}
+use Rattle.sets.specs.Set.{signatures, members, within}
 use Rattle.sets.proofs.Members.{members-size}
 use Rattle.rules.specs.Scan.{rising}
 use Rattle.rules.specs.Rules.{Rule, verdict, applies}
-use Rattle.rules.proofs.Scanning.{choose, over-words, below-suc, rising-exactly}
+use Rattle.rules.proofs.Scanning.{choose, either-words, over-words, below-suc, rising-exactly}
 use Rattle.rules.proofs.Rules.{distinct, passes-exactly}
 use Rattle.lists.specs.List.{records, isStart, goodRecord, badLength, badRecord, noStart, listRules}
 use Rattle.lists.proofs.Listed.{Edge-bytes, Start-bytes, Accept-bytes, bad-length, bad-record, record-exactly, no-start, kind-start}
-use Rattle.flows.specs.Flow.{badFlow, otherStart, tooLong, wrongSize, flowRules, feedRules}
+use Rattle.flows.specs.Flow.{frontierOf, badFlow, otherStart, tooLong, wrongSize, flowRules, feedRules}
 use Rattle.flows.proofs.Refused.{wrong-size, bad-flow, other-start, too-long}
-use Rattle.lists.specs.Automaton.{start, accepted}
+use Rattle.lists.specs.Automaton.{start, accepted, named}
+use Rattle.lists.proofs.Named.{named-bytes, outside-exactly}
 use Rattle.feeds.specs.Engine.{room}
 use Rattle.feeds.specs.Opening.{noRoom}
 use Rattle.plain.specs.Plain.{openPairs, openRules}
@@ -28,7 +29,7 @@ use Rattle.tables.proofs.Accepted.{Slots-good}
 use Rattle.tables.proofs.Joined.{below-exactly}
 use Rattle.tables.proofs.Checked.{bad-bound, bad-classes, bad-rows-length, bad-lengths, bad-splits, bad-rows, bad-union, no-start-split, not-closed, slots-exactly, in-order-first, in-order-exactly}
 use Rattle.splits.specs.Split.{splitRules}
-use Rattle.demands.specs.Words.{Row, None, First, InWords, listWords, openingRows, openWords, flowWords, feedWords, SlotsGood, Rises, sizeWords, entryWords, tableWords, splitWords}
+use Rattle.demands.specs.Words.{Row, None, First, InWords, listWords, openingRows, openWords, Foreign, flowWords, feedWords, SlotsGood, Rises, sizeWords, entryWords, tableWords, splitWords}
 
 -- ---- a table of rules and a table of words
 
@@ -135,8 +136,18 @@ module _ (L : List ℕ) where
       says-append (listRules L) ((4, wrongSize R) ∷ (15, noRoom (openPairs L) out) ∷ []) (listWords L) (openingRows L R out) list-says
       (refl, wrong-size R, (refl, no-room out, tt))
 
+  -- 4: some state of the frontier is one that no record names
+  foreign : (R : List ℕ) → not (within (frontierOf R) (named L)) ≡ true ↔ Foreign L R
+  foreign R =
+      let e = outside-exactly (frontierOf R) (named L) in (
+        λ t. let w = e .0 t in (w .0, w .1, λ n. w .2 (named-bytes L (w .0) .1 n)),
+        λ w. e .1 (w .0, w .1, λ h. w .2 (named-bytes L (w .0) .0 h)),
+      )
+
   feed-says : (R : List ℕ) (at : ℕ) (piece : List ℕ) → Says (feedRules L R at piece) (feedWords L R at piece)
-  feed-says R at piece = says-append (listRules L) (flowRules R at piece) (listWords L) (flowWords R at piece) list-says (refl, bad-flow R, (refl, other-start R at, (refl, too-long R piece, tt)))
+  feed-says R at piece =
+      says-append (listRules L) (flowRules (within (frontierOf R) (named L)) R at piece) (listWords L) (flowWords L R at piece) list-says
+      (refl, either-words _ (Foreign L R) (badFlow R) (not (within (frontierOf R) (named L))) (bad-flow R) (foreign R), (refl, other-start R at, (refl, too-long R piece, tt)))
 
 -- the slots of a split in words
 slots-words : (n b : ℕ) (ss : List ℕ) → Slots-good n b ss ↔ SlotsGood n b ss

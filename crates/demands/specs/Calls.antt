@@ -1,18 +1,24 @@
 -- Calls on a flow as a caller makes them: each has its own list, engine, stated start, piece and words.
 use Prim.Native.Nat.{ℕ}
 use mathlib.Core.List.{List, [], _∷_}
+use mathlib.Core.Path.{_≡_}
 use Rattle.rules.specs.Rules.{Rule}
 use Rattle.feeds.specs.Engine.{Engine, Outcome}
 use Rattle.flows.specs.Flow.{flowLayout, feedRules}
 use Rattle.feeds.specs.Calls.{Asked, answer}
 use Rattle.plain.specs.Plain.{plain}
-use Rattle.tables.specs.Table.{Table}
+use Rattle.tables.specs.Table.{Table, tableRefusal}
 use Rattle.splits.specs.Split.{split, splitRules}
 
 -- the plain feed, or the split feed with a bound and a table
 pub data Via : Type 0 where
   byList : Via
   byTable : ℕ → Table → Via
+
+-- what it goes by is checked for the list L: nothing is asked of the plain feed; of a table that the check accepts it at its bound
+abbrev pub Checked : List ℕ → Via → Type 0
+Checked L byList = Unit {0}
+Checked L (byTable b T) = tableRefusal L b T ≡ 0
 
 pub record Call : Type 0 where
   pub list : List ℕ

@@ -5,10 +5,10 @@ use mathlib.Core.List.{List, [], _∷_, _++_}
 use mathlib.Core.Logic.{_⊎_, _↔_}
 use mathlib.Core.Path.{_≡_}
 use lib.ListN.{length, getD, take}
-use Rattle.sets.specs.Set.{signatures, holds}
+use Rattle.sets.specs.Set.{signatures, holds, within}
 use Rattle.rules.specs.Rules.{verdict, number, Given, Rises, Refuses}
 use Rattle.lists.specs.List.{listRules, listRefusal}
-use Rattle.lists.specs.Automaton.{start, accepted}
+use Rattle.lists.specs.Automaton.{start, accepted, named}
 use Rattle.feeds.specs.Pairs.{Pair, Before}
 use Rattle.feeds.specs.Engine.{Engine, Outcome, run, costs, told, amount, room}
 use Rattle.flows.specs.Flow.{flowLayout, frontierOf, offsetOf, rowsOf, badFlow, otherStart, feedRules}
@@ -18,7 +18,7 @@ use Rattle.plain.specs.Plain.{plain, opened, openPairs, pairsOf, openRules, ope
 use Rattle.tables.specs.Table.{Table, tableRules, tableRefusal}
 use Rattle.splits.specs.Split.{taken, stuck, split, splitRules, splitFeed}
 use Rattle.demands.specs.Words.{None, First, InWords, listWords, openWords, feedWords, tableWords, splitWords, Stuck}
-use Rattle.demands.specs.Calls.{byList, byTable, Call, asked, allAsked, outcome}
+use Rattle.demands.specs.Calls.{byList, byTable, Checked, Call, asked, allAsked, outcome}
 
 -- ==== Demand 1: each refusal has a number, is given exactly when the rules say, and changes nothing in the buffers;
 -- ==== only 14, met by the split feed at some byte, keeps the bytes before it.
@@ -171,6 +171,10 @@ pub record Alike (R : List ℕ) (cs ds : List Call) : Type 0 where
   pub words : wordsOf R cs ≡ wordsOf R ds
   pub record-after : after R cs ≡ after R ds
 
+-- rule 4 takes the record R under the list L
+abbrev pub Fit : List ℕ → List ℕ → Type 0
+Fit L R = (badFlow R ≡ false) × (within (frontierOf R) (named L) ≡ true)
+
 -- of one call, plain or split
 pub record OneCall : Type 0 where
   -- a call that no rule refuses consumes the longest front
@@ -185,8 +189,10 @@ pub record OneCall : Type 0 where
   pub room-whole : (out : List ℕ) → (2 * room out ≤ length out) × (length out < 2 * room out + 2)
   -- a piece that does not begin at the flow's offset is refused and changes nothing
   pub elsewhere : (R : List ℕ) (c : Call) → otherStart R (c .at) ≡ true → (outcome R c .refusal ≡ 0 → ⊥) × Unchanged R (c .out) (outcome R c)
-  -- a feed leaves no record that a later feed refuses with 4
-  pub never-4 : (R : List ℕ) (c : Call) → Bytes (c .piece) → badFlow R ≡ false → badFlow (outcome R c .saved) ≡ false
+  -- a feed leaves no record that a later feed on its list refuses with 4, if what it goes by is checked: then it names no foreign state
+  pub never-4 : (R : List ℕ) (c : Call) → Bytes (c .piece) → Checked (c .list) (c .via) → Fit (c .list) R → Fit (c .list) (outcome R c .saved)
+  -- and whatever it goes by, the record keeps the size, the reserved bytes and the rows that 4 asks
+  pub kept-whole : (R : List ℕ) (c : Call) → Bytes (c .piece) → badFlow R ≡ false → badFlow (outcome R c .saved) ≡ false
   -- with room for all signatures a non-empty piece that gives no refusal moves by a byte or more
   pub moves : (R : List ℕ) (c : Call) → outcome R c .refusal ≡ 0 → zero < length (c .piece) → signatures ≤ room (c .out) → zero < outcome R c .bytes
 
@@ -213,3 +219,14 @@ pub record Demand3 (L : List ℕ) (b : ℕ) (T : Table) (o : Opening) (cs : List
   -- the rows read are the active parts before each byte, summed, and at most b for each byte
   pub rows : rowsOf (after (o .saved) cs) ≡ costs (activeParts L T) (start L) (bytesOf (o .saved) cs)
   pub ceiling : rowsOf (after (o .saved) cs) ≤ b * length (bytesOf (o .saved) cs)
+
+-- ==== Foreign records: 4 refuses a record whose frontier holds a state that no record of the list names. No flow that is opened on a list
+-- ==== and fed by the plain feed or through tables that the check accepts, each at its own bound, is refused so on that list.
+
+-- a call that no rule refuses is on L, by the plain feed or through a table that the check accepts at the call's bound; one that is refused may hold anything
+abbrev pub Swaps : List ℕ → List ℕ → Call → Type 0
+Swaps L R c = verdict (asked c .rules R) ≡ 0 → (c .list ≡ L) × Checked L (c .via)
+
+-- of the opening o and the calls that follow: none on L that goes by what is checked is refused with 4
+abbrev pub NeverForeign : List ℕ → Opening → List Call → Type 0
+NeverForeign L o cs = Each (λ Q c. c .list ≡ L → Checked L (c .via) → outcome Q c .refusal ≡ 4 → ⊥) (o .saved) cs

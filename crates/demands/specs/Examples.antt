@@ -1,5 +1,5 @@
 -- The barn examples marked P: the list L, the table T, and one table of rows, each what a definition gives beside what the example says.
-use Prim.Native.Nat.{ℕ, zero, suc, _*_, _+_}
+use Prim.Native.Nat.{ℕ, zero, suc, _*_, _+_, _^_}
 use mathlib.Core.Bool.{cond}
 use mathlib.Core.List.{List, [], _∷_, _++_}
 use mathlib.Core.Path.{_≡_}
@@ -135,6 +135,16 @@ plainABAB n = fed byList (opened L) 0 (a ∷ b ∷ a ∷ b ∷ []) n
 abbrev pub splitABAB : ℕ → List ℕ → ℕ → Outcome
 splitABAB bound splits n = fed (byTable bound (tableOf splits)) (opened L) 0 (a ∷ b ∷ a ∷ b ∷ []) n
 
+-- a list with a start at 4, and an accept of 6 under signature 200
+abbrev pub lone : List ℕ
+lone = 0x02 ∷ 0x00 ∷ 0x00 ∷ 0x00 ∷ 0x00 ∷ 0x00 ∷ 0x04 ∷ 0x00 ∷ 0x03 ∷ 0x00 ∷ 0x00 ∷ 0x00 ∷ 0x06 ∷ 0x00 ∷ 0xC8 ∷ 0x00 ∷ []
+
+-- the refusal of a piece from a start, plain and with T at 2, on a list, for a frontier at offset 0
+abbrev pub refusedAt : List ℕ → ℕ → ℕ → List ℕ → List ℕ
+refusedAt M F at piece =
+    outcome (flowBytes F 0 0) (record { list = M; via = byList; at = at; piece = piece; out = room 2 }) .refusal
+    ∷ outcome (flowBytes F 0 0) (record { list = M; via = byTable 2 T₃; at = at; piece = piece; out = room 2 }) .refusal ∷ []
+
 -- "abab" plain with three words, each 9
 abbrev pub odd : Outcome
 odd = outcome (opened L) (record { list = L; via = byList; at = 0; piece = a ∷ b ∷ a ∷ b ∷ []; out = 9 ∷ 9 ∷ 9 ∷ [] })
@@ -219,6 +229,12 @@ feedRows =
     ∷ (answered (splitABAB 2 (s0 ++ s01) 0), 0 ∷ 1 ∷ 0 ∷ 0 ∷ [])
     -- T with the row {0} in place of {0,1}, fed "ab": the feed goes by the rows, so that nothing is told; the check gives 10 for such a table
     ∷ (fed (byTable 2 (tableBy (1 ∷ 1 ∷ 1 ∷ 0 ∷ 0 ∷ 4 ∷ 0 ∷ 0 ∷ 0 ∷ []) (s0 ++ (s01 ++ s02)))) (opened L) 0 (a ∷ b ∷ []) 2 .saved, flowBytes 1 2 2)
+    -- a state that no record names, {3} on L: 4, and {0,1,2} and the empty set are taken; 4 too beside a wrong start, and for an empty piece
+    ∷ (refusedAt L 8 0 (a ∷ []) ++ refusedAt L 7 0 [] ++ refusedAt L 0 0 [], 4 ∷ 4 ∷ 0 ∷ 0 ∷ 0 ∷ 0 ∷ [])
+    ∷ (refusedAt L 8 1 (a ∷ []) ++ refusedAt L 7 1 (a ∷ []) ++ refusedAt L 8 0 [], 4 ∷ 4 ∷ 5 ∷ 5 ∷ 4 ∷ 4 ∷ [])
+    -- start 4 and accept 6 under signature 200 name {4,6}: {200} and {5} are refused, and opening takes a record that holds them
+    ∷ (refusedAt lone 80 0 [] ++ refusedAt lone (2 ^ 200) 0 [] ++ refusedAt lone 32 0 [], 0 ∷ 0 ∷ 4 ∷ 4 ∷ 4 ∷ 4 ∷ [])
+    ∷ (openAnswered (openFlow lone (flowBytes (2 ^ 200) 0 0) []), 0 ∷ 0 ∷ [])
     -- T at bound 1, fed "abab": 14 at the second byte
     ∷ (answered (splitABAB 1 (s0 ++ (s01 ++ s02)) 4), 14 ∷ 1 ∷ 0 ∷ 0 ∷ [])
     ∷ []

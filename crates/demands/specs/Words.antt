@@ -1,16 +1,18 @@
 -- The table of refusals in words: for each entry point its numbers in their order, and what each is given for, said of bytes, places and sets.
 use Prim.Native.Nat.{ℕ, suc, _+_, _*_, _%_, _≤_, _<_}
 use mathlib.Core.Path.{_≡_}
+use mathlib.Core.Bool.{true}
 use mathlib.Core.List.{List, [], _∷_, _++_}
 use mathlib.Core.Logic.{_⊎_, _↔_}
 use lib.ListN.{length, getD}
-use Rattle.sets.specs.Set.{states, signatures, setSize, members}
+use Rattle.sets.specs.Set.{states, signatures, setSize, holds, members}
 use Rattle.lists.specs.List.{recordSize, mostRecords, records}
 use Rattle.lists.specs.Automaton.{start, step, accepted}
 use Rattle.lists.proofs.Listed.{Edge-bytes, Start-bytes, Accept-bytes}
+use Rattle.lists.proofs.Named.{Names-bytes}
 use Rattle.sets.proofs.Order.{Smaller}
 use Rattle.feeds.specs.Engine.{mostOffset}
-use Rattle.flows.specs.Flow.{flowSize, offsetOf, reservedOf, rowsOf}
+use Rattle.flows.specs.Flow.{flowSize, frontierOf, offsetOf, reservedOf, rowsOf}
 use Rattle.tables.specs.Table.{Table, byteValues, mostClass, mostParts, mostSplits, mostBound, splitSize, classCount, partCount, splitCount}
 use Rattle.tables.specs.Table.{part, row, splitSet, slots, usedSlots, takenSlots, joined}
 use Rattle.splits.specs.Split.{taken}
@@ -55,15 +57,19 @@ openingRows L R out =
 abbrev pub openWords : List ℕ → List ℕ → List ℕ → List Row
 openWords L R out = listWords L ++ openingRows L R out
 
-abbrev pub flowWords : List ℕ → ℕ → List ℕ → List Row
-flowWords R k piece =
-    (4, ((length R ≡ flowSize → ⊥) ⊎ (reservedOf R ≡ 0 → ⊥)) ⊎ (states * offsetOf R < rowsOf R))
+-- some state of the frontier is one that no record of L names
+abbrev pub Foreign : List ℕ → List ℕ → Type 0
+Foreign L R = (s : ℕ) × (holds (frontierOf R) s ≡ true) × ((s < states) × ((i : ℕ) × (i < records L) × Names-bytes L i s) → ⊥)
+
+abbrev pub flowWords : List ℕ → List ℕ → ℕ → List ℕ → List Row
+flowWords L R k piece =
+    (4, (((length R ≡ flowSize → ⊥) ⊎ (reservedOf R ≡ 0 → ⊥)) ⊎ (states * offsetOf R < rowsOf R)) ⊎ Foreign L R)
     ∷ (5, k ≡ offsetOf R → ⊥)
     ∷ (6, mostOffset < offsetOf R + length piece)
     ∷ []
 
 abbrev pub feedWords : List ℕ → List ℕ → ℕ → List ℕ → List Row
-feedWords L R k piece = listWords L ++ flowWords R k piece
+feedWords L R k piece = listWords L ++ flowWords L R k piece
 
 -- ---- the table: 7 to 13
 

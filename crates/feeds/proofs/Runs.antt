@@ -180,6 +180,21 @@ module _ {C : Type 0} (E : Engine C) where
       back true l = absurd (omega arith)
       back false l = omega arith
 
+  -- what each move keeps before which the engine does not halt holds after the bytes consumed
+  pub consumed-kept : (P : C → Type 0) → ((x : C) (c : ℕ) → c < 256 → E .halts x ≡ false → P x → P (E .next x c))
+      → (x : C) (room : ℕ) (xs : List ℕ) → P x → Bytes xs → P (run E x (take (consumed E x room xs) xs))
+  unfolding consumed run
+  consumed-kept P k x room [] p h = p
+  consumed-kept P k x room (c ∷ xs) p h =
+      go (E .halts x) refl (ltb room (length (due E x c)))
+      (λ e. consumed-kept P k (E .next x c) (room - length (due E x c)) xs (k x c (h 0) e p) (λ i. h (suc i)))
+    where
+      go : (t : Bool) → E .halts x ≡ t → (b : Bool) → (E .halts x ≡ false → P (run E (E .next x c) (take (consumed E (E .next x c) (room - length (due E x c)) xs) xs)))
+          → P (run E x (take (cond (t || b) 0 (suc (consumed E (E .next x c) (room - length (due E x c)) xs))) (c ∷ xs)))
+      go true e b ih = p
+      go false e true ih = p
+      go false e false ih = ih e
+
   -- of what is consumed all is consumed
   pub consumed-again : (x : C) (room : ℕ) (xs : List ℕ) → consumed E x room (take (consumed E x room xs) xs) ≡ consumed E x room xs
   unfolding consumed

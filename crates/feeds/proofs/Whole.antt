@@ -142,6 +142,14 @@ module _ {C D : Type 0} (K : Layout C) (G : Engine D) (Rel : C → D → Type 0)
           within = λ w. ih .within (d .within w);
         }
 
+    -- each call meets a record whose configuration is related to one of G, and that is within and written again where the first is
+    pub met : (calls : List (Asked C)) (R : List ℕ) (y : D) → Along K Fair R calls → Along K Pieces R calls → Rel (K .config R) y → Written K R → Within K most R
+        → Along K (λ Q a. ((z : D) × Rel (K .config Q) z) × Written K Q × Within K most Q) R calls
+    met [] R y f h r w q = tt
+    met (a ∷ rest) R y f h r w q =
+        let d = call-done y R a r (h .0) (f .0) in
+        (((y, r), w, q), met rest (answer K R a .saved) (run G y (eaten K R a)) (f .1) (h .1) (d .related) (d .again w) (d .within q))
+
     -- where G never halts, each call's refusal is that of its rules
     pub never-halts : ((y : D) → G .halts y ≡ false)
         → (calls : List (Asked C)) (R : List ℕ) (y : D) → Along K Fair R calls → Along K Pieces R calls → Rel (K .config R) y

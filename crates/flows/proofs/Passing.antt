@@ -1,27 +1,43 @@
 -- What a feed of a list's flow knows that no rule refuses. Assumes nothing.
 use Prim.Native.Nat.{ℕ, _+_, _≤_}
 use mathlib.Core.Path.{_≡_, refl, sym, _∙_}
-use mathlib.Core.Bool.{false}
-use mathlib.Core.List.{List, [], _∷_}
+use mathlib.Core.Bool.{Bool, true, false, _||_, not}
+use mathlib.Core.List.{List, [], _∷_, _++_}
+use native.Mathlib.Decide.{ℕ-discrete}
 use lib.ListN.{length}
 use lib.Dec.{eqb}
-use borrow.Author.Tests.{eqb-true, ltb-false, not-false}
+use borrow.Author.Tests.{eqb-true, ne-eqb, ltb-false, not-false}
 use Rattle.rules.specs.Rules.{verdict}
-use Rattle.rules.proofs.Rules.{passes, passes-front, verdict-then}
+use Rattle.rules.proofs.Rules.{stop, passes, passes-front, verdict-then, verdict-refused}
+use Rattle.rules.proofs.Scanning.{neither}
+use Rattle.sets.specs.Set.{within}
 use Rattle.lists.specs.List.{listRules}
+use Rattle.lists.specs.Automaton.{named}
 use Rattle.feeds.specs.Engine.{mostOffset}
-use Rattle.flows.specs.Flow.{offsetOf, badFlow, otherStart, tooLong, flowRules, feedRules}
+use Rattle.flows.specs.Flow.{flowSize, frontierOf, offsetOf, badFlow, otherStart, tooLong, flowRules, feedRules}
 
 -- what a feed knows that no rule of its flow refuses
-pub flow-passes : (R : List ℕ) (at : ℕ) (piece : List ℕ) → verdict (flowRules R at piece) ≡ 0
-    → (badFlow R ≡ false) × (at ≡ offsetOf R) × (offsetOf R + length piece ≤ mostOffset)
-flow-passes R at piece v =
-    let a = passes 3 (badFlow R) ((5, otherStart R at) ∷ (6, tooLong R piece) ∷ []) v in
+pub flow-passes : (known : Bool) (R : List ℕ) (at : ℕ) (piece : List ℕ) → verdict (flowRules known R at piece) ≡ 0
+    → (badFlow R ≡ false) × (at ≡ offsetOf R) × (offsetOf R + length piece ≤ mostOffset) × (known ≡ true)
+flow-passes known R at piece v =
+    let a = passes 3 (badFlow R || not known) ((5, otherStart R at) ∷ (6, tooLong R piece) ∷ []) v in
     let b = passes 4 (otherStart R at) ((6, tooLong R piece) ∷ []) (a .1) in
     let c = passes 5 (tooLong R piece) [] (b .1) in
-    (a .0, eqb-true at (offsetOf R) (not-false (eqb at (offsetOf R)) (b .0)), ltb-false mostOffset (offsetOf R + length piece) (c .0))
+    let g = neither (badFlow R) (not known) (a .0) in
+    (g .0, eqb-true at (offsetOf R) (not-false (eqb at (offsetOf R)) (b .0)), ltb-false mostOffset (offsetOf R + length piece) (c .0), not-false known (g .1))
 
 pub feed-passes : (L R : List ℕ) (at : ℕ) (piece : List ℕ) → verdict (feedRules L R at piece) ≡ 0
-    → (badFlow R ≡ false) × (at ≡ offsetOf R) × (offsetOf R + length piece ≤ mostOffset)
+    → (badFlow R ≡ false) × (at ≡ offsetOf R) × (offsetOf R + length piece ≤ mostOffset) × (within (frontierOf R) (named L) ≡ true)
 feed-passes L R at piece v =
-    flow-passes R at piece (sym (verdict-then (listRules L) (flowRules R at piece) refl (passes-front (listRules L) (flowRules R at piece) v)) ∙ v)
+    let k = within (frontierOf R) (named L) in
+    flow-passes k R at piece (sym (verdict-then (listRules L) (flowRules k R at piece) refl (passes-front (listRules L) (flowRules k R at piece) v)) ∙ v)
+
+-- a feed on what has not the size of a record is refused by the list, or else with 4
+pub sizeless : (L R : List ℕ) (at : ℕ) (piece : List ℕ) → (length R ≡ flowSize → ⊥) → verdict (listRules L ++ ((4, true) ∷ [])) ≡ verdict (feedRules L R at piece)
+unfolding badFlow
+sizeless L R at piece n =
+    let fed = flowRules (within (frontierOf R) (named L)) R at piece in
+    elim (ℕ-discrete (verdict (listRules L)) 0) [
+      | yes v ↦ verdict-then (listRules L) ((4, true) ∷ []) refl v ∙ stop 4 [] refl ∙ sym (verdict-then (listRules L) fed refl v ∙ stop 4 _ (rw (ne-eqb (length R) flowSize n)))
+      | no w ↦ verdict-refused (listRules L) ((4, true) ∷ []) w ∙ sym (verdict-refused (listRules L) fed w)
+    ]

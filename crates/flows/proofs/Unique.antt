@@ -14,10 +14,14 @@ use Rattle.feeds.specs.declared.Fed.{Fed}
 use Rattle.feeds.proofs.Unique.{fed-one}
 use Rattle.flows.specs.declared.Ran.{Ran}
 use Rattle.flows.specs.Ran.{Finishes}
-use Rattle.flows.specs.Flow.{flowSize, offsetOf, rowsOf, flowBytes, flowRules}
+use Rattle.flows.specs.Flow.{flowSize, offsetOf, rowsOf, flowBytes, flowRules, feedRules}
 
-pub unique-flow-refusal : (r q : ℕ) (R : List ℕ) (at : ℕ) (piece : List ℕ) → r ≡ verdict (flowRules R at piece) → q ≡ verdict (flowRules R at piece) → r ≡ q
-unique-flow-refusal r q R at piece e f = e ∙ sym f
+module _ (r q : ℕ) (R : List ℕ) (at : ℕ) (piece : List ℕ) where
+  pub unique-flow-refusal : (known : Bool) → r ≡ verdict (flowRules known R at piece) → q ≡ verdict (flowRules known R at piece) → r ≡ q
+  unique-flow-refusal known e f = e ∙ sym f
+
+  pub unique-feed-refusal : (L : List ℕ) → r ≡ verdict (feedRules L R at piece) → q ≡ verdict (feedRules L R at piece) → r ≡ q
+  unique-feed-refusal L e f = e ∙ sym f
 
 pub unique-tell-accepted : (G : ℕ) (out : List ℕ) (w k : ℕ) (t s : Told) (left end : List ℕ) → TellsAll G out w k t left → TellsAll G out w k s end → (t ≡ s) × (left ≡ end)
 unique-tell-accepted G out w k t s left end a b =

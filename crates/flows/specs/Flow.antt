@@ -4,9 +4,10 @@ use mathlib.Core.Bool.{Bool, _||_, not}
 use mathlib.Core.List.{List, [], _∷_, _++_}
 use lib.ListN.{length, take, drop}
 use lib.Dec.{ltb, eqb}
-use Rattle.sets.specs.Set.{states, setSize, num, digits, setBytes, setAt}
+use Rattle.sets.specs.Set.{states, setSize, num, digits, setBytes, setAt, within}
 use Rattle.rules.specs.Rules.{Rule}
 use Rattle.lists.specs.List.{listRules}
+use Rattle.lists.specs.Automaton.{named}
 use Rattle.feeds.specs.Engine.{Layout, mostOffset}
 
 -- bytes of a record
@@ -53,10 +54,10 @@ otherStart R at = not (eqb at (offsetOf R))
 abbrev pub tooLong : List ℕ → List ℕ → Bool
 tooLong R piece = ltb mostOffset (offsetOf R + length piece)
 
--- 4 to 6, in this order
-abbrev pub flowRules : List ℕ → ℕ → List ℕ → List Rule
-flowRules R at piece = (4, badFlow R) ∷ (5, otherStart R at) ∷ (6, tooLong R piece) ∷ []
+-- 4 to 6, in this order; 4 is given as well where it is not `known` that every state of the frontier is one that is named
+abbrev pub flowRules : Bool → List ℕ → ℕ → List ℕ → List Rule
+flowRules known R at piece = (4, badFlow R || not known) ∷ (5, otherStart R at) ∷ (6, tooLong R piece) ∷ []
 
--- every feed over a list: 1 to 6
+-- every feed over a list: 1 to 6; 4 also where the frontier holds a state that no record of the list names
 abbrev pub feedRules : List ℕ → List ℕ → ℕ → List ℕ → List Rule
-feedRules L R at piece = listRules L ++ flowRules R at piece
+feedRules L R at piece = listRules L ++ flowRules (within (frontierOf R) (named L)) R at piece

@@ -2,13 +2,15 @@
 use feeds::Fed;
 use sets::StateSet;
 ghost use mathlib.Core.Path.{_≡_};
-ghost use mathlib.Core.Bool.{cond};
+ghost use mathlib.Core.Bool.{true, cond};
+ghost use mathlib.Core.List.{[], _∷_, _++_};
 ghost use Prim.Native.Nat.{_+_, _^_, _<_, _≤_};
 ghost use lib.ListN.{length};
 ghost use lib.Dec.{eqb};
 ghost use Rattle.sets.specs.Set.{setOf};
 ghost use Rattle.rules.specs.Rules.{verdict};
-ghost use Rattle.flows.specs.Flow.{flowSize, offsetOf, reservedOf, rowsOf, flowBytes, badFlow, flowRules};
+ghost use Rattle.flows.specs.Flow.{flowSize, offsetOf, reservedOf, rowsOf, flowBytes, badFlow, flowRules, feedRules};
+ghost use Rattle.lists.specs.List.{listRules};
 ghost use Rattle.lists.specs.Automaton.{accepted};
 ghost use Rattle.flows.specs.Ran.{Finishes};
 ghost use Rattle.flows.specs.Told.{TellsAll};
@@ -72,11 +74,12 @@ fn bad_flow(flow: &[u8]) -> bool
     (reserved_of(flow) != 0) | (MOST_ROWS * offset_of(flow) < rows_of(flow))
 }
 
-// The flow check: the number of the first of the rules 4 to 6 that refuses the piece, 0 where none does.
-pub fn flow_refusal(flow: &[u8], start: u64, piece: &[u8]) -> u32
-    ensures { λ r. ⌜ r ≡ verdict (flowRules (now (flow .entry)) start (now (piece .entry))) ⌝ }
+// The flow check: the number of the first of the rules 4 to 6 that refuses the piece, 0 where none does. `known` says whether every state of the
+// frontier is one that is named.
+pub fn flow_refusal(known: bool, flow: &[u8], start: u64, piece: &[u8]) -> u32
+    ensures { λ r. ⌜ r ≡ verdict (flowRules known (now (flow .entry)) start (now (piece .entry))) ⌝ }
 {
-    if bad_flow(flow) {
+    if bad_flow(flow) | !known {
         return 4;
     }
     let offset = offset_of(flow);
@@ -87,6 +90,31 @@ pub fn flow_refusal(flow: &[u8], start: u64, piece: &[u8]) -> u32
         return 6;
     }
     rules::PASSED
+}
+
+// The check of a feed over a list whose record has not the size of one: the number of the first of the rules 1 to 4 that refuses it.
+fn sizeless_refusal(list: &[u8]) -> u32
+    ensures { λ r. ⌜ r ≡ verdict (listRules (now (list .entry)) ++ ((4, true) ∷ [])) ⌝ }
+{
+    let listed = lists::check_list(list);
+    if listed != rules::PASSED {
+        return listed;
+    }
+    4
+}
+
+// The check of a feed over a list: the number of the first of the rules 1 to 6 that refuses it, 0 where none does.
+pub fn feed_refusal(list: &[u8], flow: &[u8], start: u64, piece: &[u8]) -> u32
+    ensures { λ r. ⌜ r ≡ verdict (feedRules (now (list .entry)) (now (flow .entry)) start (now (piece .entry))) ⌝ }
+{
+    if flow.len() != FLOW_SIZE {
+        return sizeless_refusal(list);
+    }
+    let survey = lists::survey_list(list, flow);
+    if survey.refusal != rules::PASSED {
+        return survey.refusal;
+    }
+    flow_refusal(survey.known, flow, start, piece)
 }
 
 // Writes a record in place; what has not the size of one stays as it is.

@@ -2,4 +2,5 @@ pub mod Listed
 pub mod Letters
 pub mod Steps
 pub mod Quick
+pub mod Named
 pub mod Unique

@@ -1,6 +1,7 @@
 -- The promise of each public function allows one outcome: any two are equal. Assumes nothing.
 use Prim.Native.Nat.{ℕ}
-use mathlib.Core.Path.{_≡_, sym, _∙_}
+use mathlib.Core.Path.{_≡_, sym, ap, _∙_}
+use mathlib.Core.Bool.{Bool}
 use mathlib.Core.List.{List}
 use lib.ListN.{getD}
 use Rattle.sets.specs.declared.StateSet.{StateSet}
@@ -9,12 +10,19 @@ use Rattle.sets.specs.Set.{setWords, sigWords, setOf, sigsOf}
 use Rattle.sets.proofs.Sets.{Words, set-one, sigs-one}
 use Rattle.lists.specs.List.{listRefusal}
 use Rattle.lists.specs.Automaton.{start, step, accepted, accepting}
+use Rattle.lists.specs.Survey.{Surveys}
+use Rattle.lists.specs.declared.Survey.{Survey}
 
 pub unique-byte-at : (b : List ℕ) (at x y : ℕ) → x ≡ getD b at 0 → y ≡ getD b at 0 → x ≡ y
 unique-byte-at b at x y p q = p ∙ sym q
 
 pub unique-check-list : (L : List ℕ) (x y : ℕ) → x ≡ listRefusal L → y ≡ listRefusal L → x ≡ y
 unique-check-list L x y p q = p ∙ sym q
+
+pub unique-survey-list : (L : List ℕ) (F : ℕ) (s t : Survey) → Surveys L F s → Surveys L F t → s ≡ t
+unique-survey-list L F s t p q =
+    ap {B = Survey} (λ (n : ℕ). record { refusal = n; known = s .known }) (p .refusal ∙ sym (q .refusal))
+    ∙ ap {B = Survey} (λ (b : Bool). record { refusal = t .refusal; known = b }) (p .known ∙ sym (q .known))
 
 -- sets that own as many words as their kind has, each of 64 bits
 module _ (x y : StateSet) (vx : Words setWords (x .words)) (vy : Words setWords (y .words)) where

@@ -1,9 +1,9 @@
--- The automaton that a list writes down: start set, frontier step, and the signatures that a frontier accepts. Sets are numbers.
+-- The automaton that a list writes down: start set, frontier step, the signatures that a frontier accepts, and the states that are named. Sets are numbers.
 use Prim.Native.Nat.{ℕ, _+_, _-_}
 use mathlib.Core.Bool.{Bool, _&&_, _||_, cond}
 use mathlib.Core.List.{List}
 use lib.Dec.{leb}
-use Rattle.sets.specs.Set.{states, signatures, holds}
+use Rattle.sets.specs.Set.{states, signatures, holds, join, insert}
 use Rattle.rules.specs.Scan.{gather}
 use Rattle.lists.specs.List.{records, isEdge, isStart, isAccept, low, high, eitherCase, from, target}
 
@@ -45,3 +45,24 @@ accepted L F = gather signatures (leaves L F (isAccept L)) (target L) (records L
 -- the states that some accept record names
 unfoldable pub accepting : List ℕ → ℕ
 accepting L = gather states (isAccept L) (from L) (records L)
+
+-- record i names the state `from`, as an edge and an accept do, or the state `target`, as an edge and a start do; an accept's signature is no state
+abbrev pub namesFrom : List ℕ → ℕ → Bool
+namesFrom L i = isEdge L i || isAccept L i
+
+abbrev pub namesTarget : List ℕ → ℕ → Bool
+namesTarget L i = isEdge L i || isStart L i
+
+-- n with the states that record i names; a set of numbers below m takes in no other
+abbrev pub withNamed : ℕ → List ℕ → ℕ → ℕ → ℕ
+withNamed m L i n =
+    let k = cond (namesFrom L i) (insert m n (from L i)) n in
+    cond (namesTarget L i) (insert m k (target L i)) k
+
+-- the states that the first n records name
+unfoldable pub namedBy : List ℕ → ℕ → ℕ
+namedBy L n = join (gather states (namesFrom L) (from L) n) (gather states (namesTarget L) (target L) n)
+
+-- the states that some record names: an edge those that it leaves and leads to, a start and an accept theirs; a signature names nothing
+abbrev pub named : List ℕ → ℕ
+named L = namedBy L (records L)

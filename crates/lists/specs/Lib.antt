@@ -1,2 +1,3 @@
 pub mod List
 pub mod Automaton
+pub mod Survey

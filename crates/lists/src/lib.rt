@@ -3,14 +3,18 @@ use sets::SigSet;
 use sets::StateSet;
 ghost use mathlib.Core.Path.{_≡_};
 ghost use mathlib.Core.Bool.{true, _&&_, _||_, cond};
-ghost use Prim.Native.Nat.{ℕ, _+_, _-_, _*_, _%_, _<_};
+ghost use Prim.Native.Nat.{ℕ, _+_, _-_, _*_, _%_, _<_, _≤_};
 ghost use lib.ListN.{length, getD};
 ghost use lib.Dec.{leb};
-ghost use Rattle.sets.specs.Set.{num, setOf, sigsOf, holds, insert};
-ghost use Rattle.rules.specs.Scan.{some};
+ghost use Rattle.sets.specs.Set.{setWords, setSize, num, setOf, sigsOf, holds, insert, setAt};
+ghost use Rattle.rules.specs.Scan.{some, every};
 ghost use Rattle.lists.specs.List.{recordSize, records, word, byteOf, wordOf, isEdge, isStart, isAccept, low, high, eitherCase, from};
 ghost use Rattle.lists.specs.List.{target, zeros, goodEdge, goodStart, goodAccept, goodRecord, badLength, badRecord, noStart, listRefusal};
-ghost use Rattle.lists.specs.Automaton.{exchanged, between, edge, leaves, start, step, accepted, accepting};
+ghost use Rattle.lists.specs.Automaton.{exchanged, between, edge, leaves, start, step, accepted, accepting, withNamed, namedBy};
+ghost use Rattle.lists.specs.Survey.{Surveys};
+
+// The states that a list names are sought in blocks of so many records.
+const BLOCK: usize = 64;
 
 // Bytes in a record.
 pub const RECORD_SIZE: usize = 8;
@@ -32,6 +36,12 @@ const EITHER_CASE: u8 = 1;
 const FROM: usize = 4;
 
 const TARGET: usize = 6;
+
+// The list check's answer and, where it passes, whether the list names every state of a set.
+pub struct Survey {
+    pub refusal: u32,
+    pub known: bool,
+}
 
 // The byte at a place; past the end that is 0.
 pub fn byte_at(b: &[u8], at: usize) -> u8
@@ -167,17 +177,24 @@ fn bad_length(list: &[u8]) -> bool
     (list.len() == 0) | (RECORD_SIZE * MOST_RECORDS < list.len()) | (list.len() % RECORD_SIZE != 0)
 }
 
+// Says whether the records from `from` to `end` are all good.
+fn good_from(list: &[u8], from: usize, end: usize) -> bool
+    requires { ⌜ (from ≤ end) × (end ≤ records (now list)) ⌝ }
+    ensures { λ r. ⌜ (every from (goodRecord (now (list .entry))) && r) ≡ every end (goodRecord (now (list .entry))) ⌝ }
+{
+    for i in from..end {
+        if !good_record(list, i) {
+            return false;
+        }
+    }
+    true
+}
+
 // Says whether rule 2 refuses the list.
 fn bad_record(list: &[u8]) -> bool
     ensures { λ r. ⌜ r ≡ badRecord (now (list .entry)) ⌝ }
 {
-    let n = records(list);
-    for i in 0..n {
-        if !good_record(list, i) {
-            return true;
-        }
-    }
-    false
+    !good_from(list, 0, records(list))
 }
 
 // Says whether rule 3 refuses the list.
@@ -385,4 +402,102 @@ pub fn accepting(list: &[u8]) -> StateSet
         put_word(list, i, FROM, is_accept(list, i), &mut w);
     }
     StateSet::of_words(w)
+}
+
+// Says whether record i is good, and puts the states that it names into the words of a set where it is. It goes by the kind as `good_record` does,
+// so that the kind and the numbers are tested once.
+fn put_good(list: &[u8], i: usize, w: &mut [u64]) -> bool
+    requires { ⌜ i < records (now list) ⌝ }
+    ensures { λ r. ⌜ (r ≡ goodRecord (now (list .entry)) i)
+        × (num 64 (now (w .exit)) ≡ cond r (withNamed (64 * length (now (w .entry))) (now (list .entry)) i (num 64 (now (w .entry)))) (num 64 (now (w .entry)))) ⌝ }
+{
+    if is_edge(list, i) {
+        if !good_edge(list, i) {
+            return false;
+        }
+        sets::put_bit(w, from(list, i));
+        sets::put_bit(w, target(list, i));
+        return true;
+    }
+    if is_start(list, i) {
+        if !good_start(list, i) {
+            return false;
+        }
+        sets::put_bit(w, target(list, i));
+        return true;
+    }
+    if !good_accept(list, i) {
+        return false;
+    }
+    sets::put_bit(w, from(list, i));
+    true
+}
+
+// Goes through the records from `from` to `end`, and puts the states that they name into the words of a set; says whether they are all good. The words
+// hold what the records before name.
+fn put_from(list: &[u8], from: usize, end: usize, w: &mut [u64]) -> bool
+    requires { ⌜ (from ≤ end) × (end ≤ records (now list)) × (length (now w) ≡ setWords) × (num 64 (now w) ≡ namedBy (now list) from) ⌝ }
+    ensures { λ r. ⌜ ((every from (goodRecord (now (list .entry))) && r) ≡ every end (goodRecord (now (list .entry))))
+        × (r ≡ true → num 64 (now (w .exit)) ≡ namedBy (now (list .entry)) end) ⌝ }
+{
+    for i in from..end {
+        if !put_good(list, i, w) {
+            return false;
+        }
+    }
+    true
+}
+
+// Where the block that begins at i ends, of n records.
+fn block_end(i: usize, n: usize) -> usize
+    requires { ⌜ i < n ⌝ }
+    ensures { λ r. ⌜ (i < r) × (r ≤ n) ⌝ }
+{
+    if n - i < BLOCK { n } else { i + BLOCK }
+}
+
+// The list check, and whether the list names every state of the set that a list of bytes begins with, in one walk: by blocks, until all of them
+// are found.
+pub fn survey_list(list: &[u8], flow: &[u8]) -> Survey
+    requires { ⌜ setSize ≤ length (now flow) ⌝ }
+    ensures { λ r. ⌜ Surveys (now (list .entry)) (setAt (now (flow .entry)) 0) r ⌝ }
+{
+    if bad_length(list) {
+        return Survey {
+            refusal: 1,
+            known: false,
+        };
+    }
+    let n = records(list);
+    let none = StateSet::EMPTY;
+    let mut w = none.words;
+    let mut known = false;
+    let mut i = 0usize;
+    while !known & (i < n) {
+        let end = block_end(i, n);
+        if !put_from(list, i, end, &mut w) {
+            return Survey {
+                refusal: 2,
+                known: false,
+            };
+        }
+        known = StateSet::of_words(w).covers_whole(flow, 0);
+        i = end;
+    }
+    if !good_from(list, i, n) {
+        return Survey {
+            refusal: 2,
+            known: false,
+        };
+    }
+    if no_start(list) {
+        return Survey {
+            refusal: 3,
+            known: false,
+        };
+    }
+    Survey {
+        refusal: rules::PASSED,
+        known: known,
+    }
 }

@@ -10,7 +10,6 @@ ghost use lib.ListN.{length};
 ghost use Rattle.sets.specs.Set.{setOf};
 ghost use Rattle.rules.specs.Rules.{verdict};
 ghost use Rattle.feeds.specs.Engine.{mostOffset};
-ghost use Rattle.flows.specs.Flow.{feedRules};
 ghost use Rattle.feeds.specs.Fed.{Answers};
 ghost use Rattle.flows.proofs.Ending.{Leaves};
 ghost use Rattle.feeds.specs.Opening.{Opens};
@@ -55,17 +54,6 @@ pub fn open_flow(list: &[u8], flow: &mut [u8], pairs: &mut [u32]) -> Opened
         refusal: rules::PASSED,
         pairs: told.words / 2,
     }
-}
-
-// The check of a feed: the number of the first of the rules 1 to 6 that refuses it, 0 where none does.
-fn feed_refusal(list: &[u8], flow: &[u8], start: u64, piece: &[u8]) -> u32
-    ensures { λ r. ⌜ r ≡ verdict (feedRules (now (list .entry)) (now (flow .entry)) start (now (piece .entry))) ⌝ }
-{
-    let listed = lists::check_list(list);
-    if listed != rules::PASSED {
-        return listed;
-    }
-    flows::flow_refusal(flow, start, piece)
 }
 
 // Runs the automaton from a frontier at an offset over the bytes whose pairs all fit the words.
@@ -114,7 +102,7 @@ fn feed_bytes(list: &[u8], first: StateSet, offset: u64, piece: &[u8], pairs: &m
 pub fn feed(list: &[u8], flow: &mut [u8], start: u64, piece: &[u8], pairs: &mut [u32]) -> Fed
     ensures { λ r. ⌜ Answers (plainFeed (now (list .entry)) (now (flow .entry)) start (now (piece .entry)) (now (pairs .entry))) r (now (pairs .exit)) (now (flow .exit)) ⌝ }
 {
-    let refusal = feed_refusal(list, flow, start, piece);
+    let refusal = flows::feed_refusal(list, flow, start, piece);
     if refusal != rules::PASSED {
         return feeds::refused(refusal);
     }

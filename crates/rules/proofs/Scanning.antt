@@ -142,6 +142,10 @@ every-failed (suc n) p e = go (every n p) refl (p n) refl (every-failed n p)
     go true q false r ih = (n, omega arith, r)
     go true q true r ih = absurd (true≢false (sym (rw (q, r)) ∙ e))
 
+-- and fails of more where it fails of fewer
+pub every-short : (m n : ℕ) (p : ℕ → Bool) → m ≤ n → every m p ≡ false → every n p ≡ false
+every-short m n p l e = let w = every-failed m p e in every-fails n p (w .0) (omega (arith, w .1, l)) (w .2)
+
 -- a rule that refuses where not every one passes refuses exactly when there is one that fails
 pub refuses-exactly : (n : ℕ) (p : ℕ → Bool) → not (every n p) ≡ true ↔ ((i : ℕ) × (i < n) × (p i ≡ false))
 refuses-exactly n p =

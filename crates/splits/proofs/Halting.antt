@@ -1,13 +1,13 @@
 -- Rule 14 in a reader's words: when a frontier is stuck. Assumes nothing.
 use Prim.Native.Nat.{ℕ, _≤_, _<_}
 use mathlib.Core.Path.{_≡_, refl, sym, _∙_}
-use mathlib.Core.Bool.{true, false, _||_, not}
+use mathlib.Core.Bool.{Bool, true, false, _||_, not, true≢false}
 use mathlib.Core.List.{List}
 use mathlib.Core.Logic.{_⊎_, _↔_}
 use lib.ListN.{length, getD}
 use lib.Dec.{leb, ltb}
 use borrow.Author.Tests.{ltb-false, leb-true, le-leb}
-use Rattle.rules.proofs.Scanning.{either-words, over-words}
+use Rattle.rules.proofs.Scanning.{neither, either-words, over-words}
 use Rattle.tables.specs.Table.{Table, partCount, splitCount, splitSet, allBelow, isSplit, splitOf}
 use Rattle.tables.proofs.Joined.{below-fails}
 use Rattle.tables.proofs.Found.{is-split, found-no}
@@ -21,6 +21,17 @@ module _ (S : List ℕ) (F : ℕ) where
     λ e. found-no S F (splitCount S) (splitOf S F) refl refl (leb-true (splitCount S) (splitOf S F) e),
     λ n. le-leb (splitCount S) (splitOf S F) (ltb-false (splitOf S F) (splitCount S) (sym (is-split S F) ∙ n)),
   )
+
+-- where nothing halts the frontier is a split
+pub free-split : (b : ℕ) (T : Table) (F : ℕ) → stuck b T F ≡ false → isSplit (T .splits) F ≡ true
+unfolding stuck
+free-split b T F e = go (isSplit (T .splits) F) refl
+  where
+    go : (t : Bool) → isSplit (T .splits) F ≡ t → t ≡ true
+    go true q = refl
+    go false q =
+        let n = neither (leb (splitCount (T .splits)) (splitOf (T .splits) F) || not (allBelow (partCount (T .parts)) (taken T F))) (ltb b (length (taken T F))) e in
+        absurd (true≢false (sym (past (T .splits) F .1 q) ∙ neither (leb (splitCount (T .splits)) (splitOf (T .splits) F)) (not (allBelow (partCount (T .parts)) (taken T F))) (n .0) .0))
 
 -- no split has the set F, or a slot taken names no part, or more than b are taken
 pub stuck-exactly : (b : ℕ) (T : Table) (F : ℕ) → stuck b T F ≡ true

@@ -118,11 +118,7 @@ fn feed_refusal(
         (table (now (classes .entry)) (now (parts .entry)) (now (rows .entry)) (now (splits .entry)))
         (now (flow .entry)) start (now (piece .entry))) ⌝ }
 {
-    let listed = lists::check_list(list);
-    if listed != rules::PASSED {
-        return listed;
-    }
-    let met = flows::flow_refusal(flow, start, piece);
+    let met = flows::feed_refusal(list, flow, start, piece);
     if met != rules::PASSED {
         return met;
     }

@@ -1,7 +1,7 @@
 -- `flow_refusal` tests the rules in their order, so each return is the table's verdict. Assumes nothing.
 use borrow.Author.Needs.{needs}
 use mathlib.Core.Path.{_≡_, sym, ap, _∙_}
-use mathlib.Core.Bool.{false, not}
+use mathlib.Core.Bool.{false, _||_, not}
 use Prim.Native.Nat.{_+_, _≤_}
 use native.Mathlib.Omega.{arith}
 use lib.ListN.{length}
@@ -14,8 +14,8 @@ use Rattle.flows.proofs.flow_refusal.Statement.{statement}
 use Rattle.flows.proofs.flow_refusal.Tie as tie
 
 -- rules 4 and 5 do not apply where the code has passed them
-good : (c : tie.Else1) → badFlow (c .before .before .before .before .args .flow .now) ≡ false
-good c = sym (c .before .bad-flow .ensures) ∙ c .if1 .left
+good : (c : tie.Else1) → (badFlow (c .before .before .before .before .args .flow .now) || not (c .before .before .before .before .args .known)) ≡ false
+good c = rw (← c .before .bad-flow .ensures) (c .if1 .left)
 
 at-offset : (c : tie.Else2) → otherStart (c .before .before .before .before .before .before .args .flow .now) (c .before .before .before .before .before .before .args .start) ≡ false
 at-offset c = ap not (eq-eqb _ _ (c .if2 .left ∙ c .before .offset-of .ensures))
@@ -29,7 +29,7 @@ bad-flow-requires : tie.Need-bad-flow-requires
 bad-flow-requires c κs = search needs
 
 returns : tie.Need-returns
-returns c = sym (stop 4 _ (sym (c .before .bad-flow .ensures) ∙ c .if1 .taken))
+returns c = sym (stop 4 _ (rw (← c .before .bad-flow .ensures) (c .if1 .taken)))
 
 offset-of-requires : tie.Need-offset-of-requires
 offset-of-requires c κs = search needs

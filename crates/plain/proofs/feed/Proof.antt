@@ -1,15 +1,16 @@
 -- `feed` meets its promise: a refusal, or a loop and its end. Assumes nothing.
 use borrow.Author.Needs.{needs}
 use mathlib.Core.Path.{_≡_, sym, _∙_}
-use mathlib.Core.Bool.{false}
+use mathlib.Core.Bool.{true, false}
 use Prim.Native.Nat.{_+_, _*_, _≤_}
 use native.Mathlib.Omega.{arith}
 use lib.ListN.{length}
-use Rattle.sets.specs.Set.{states}
+use Rattle.sets.specs.Set.{states, within}
 use Rattle.rules.specs.Rules.{verdict}
+use Rattle.lists.specs.Automaton.{named}
 use Rattle.feeds.specs.Engine.{mostOffset}
 use Rattle.feeds.proofs.Looping.{rows-most, answers-refused}
-use Rattle.flows.specs.Flow.{offsetOf, badFlow, flowLayout, feedRules}
+use Rattle.flows.specs.Flow.{frontierOf, offsetOf, badFlow, flowLayout, feedRules}
 use Rattle.flows.proofs.Passing.{feed-passes}
 use Rattle.flows.proofs.Ending.{fits, finishes}
 use Rattle.plain.specs.Plain.{plain}
@@ -33,6 +34,7 @@ passes : (c : tie.Else1)
     → (badFlow (entry (c .before) .args .flow .now) ≡ false)
     × (entry (c .before) .args .start ≡ offsetOf (entry (c .before) .args .flow .now))
     × (offsetOf (entry (c .before) .args .flow .now) + length (entry (c .before) .args .piece .now) ≤ mostOffset)
+    × (within (frontierOf (entry (c .before) .args .flow .now)) (named (entry (c .before) .args .list .now)) ≡ true)
 passes c =
     let a = entry (c .before) .args in
     feed-passes (a .list .now) (a .flow .now) (a .start) (a .piece .now) (verdict-0 c)
