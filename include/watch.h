@@ -68,7 +68,8 @@
  *      7   the bound is not 1 to WATCH_MOST_BOUND
  *      8   a list of the table has the wrong length, or a class is over WATCH_MOST_CLASS
  *      9   a split has a used slot that names no part, a used slot after an unused one, slots that do not strictly rise, more used
- *          slots than the bound, or a set that is not greater, as a string of bytes, than the one before
+ *          slots than the bound, or a set that is not greater, as a string of bytes, than the one before; the split feed looks at the
+ *          sets alone
  *     10   a row that some byte selects is not the automaton's step of its part on that byte
  *     11   the set of a split is not the union of its parts
  *     12   the start set is no split
@@ -78,7 +79,7 @@
  *
  * Each has a name, WATCH_REFUSED_ and some words, and a sentence that watch_refusal_text gives.
  *
- * The list check gives 1 to 3; opening 1 to 4 and 15; the plain feed 1 to 6; the table check 1 to 3 and 7 to 13; the split feed 1 to 8,
+ * The list check gives 1 to 3; opening 1 to 4 and 15; the plain feed 1 to 6; the table check 1 to 3 and 7 to 13; the split feed 1 to 9,
  * and 14 per byte. A refusal other than 14 changes no buffer.
  *
  *
@@ -131,7 +132,7 @@ extern "C" {
 #endif
 
 /* The version of the face that this header describes. */
-#define WATCH_VERSION 5
+#define WATCH_VERSION 6
 
 /* Bytes of stack that a call takes at most. */
 #define WATCH_MOST_STACK 1216
@@ -268,9 +269,10 @@ uint32_t watch_check_table(const uint8_t *list, size_t list_len,
 
 /* The split feed: as the plain feed, but each byte's new frontier is read from the table: of the first split whose set equals
  * the frontier, the slots before the first unused one, and of each the row of that part and the byte's class, joined. The table
- * need not have passed the check. Refusals 1 to 8 answer 0 bytes and 0 pairs and change nothing. A refusal 14 is found at a byte, before
- * its room is looked at; it answers the bytes and pairs before that byte, and they and the record stand as after it was fed those bytes
- * alone. */
+ * need not have passed the check, but its splits' sets must strictly rise: each call tests that once, before any byte, and refuses with 9
+ * where they do not, an empty piece too. Every call pays for this test, by the number of splits: pieces of many bytes are cheaper.
+ * Refusals 1 to 9 answer 0 bytes and 0 pairs and change nothing. A refusal 14 is found at a byte, before its room is looked at; it answers
+ * the bytes and pairs before that byte, and they and the record stand as after it was fed those bytes alone. */
 watch_fed watch_split_feed(const uint8_t *list, size_t list_len,
                            uint64_t bound,
                            const uint8_t *classes, size_t classes_len,

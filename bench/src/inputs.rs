@@ -227,10 +227,80 @@ pub fn quiet_bytes(n: usize) -> Vec<u8> {
 
 /// One order after another: two pairs at every second byte.
 pub fn telling_bytes(n: usize) -> Vec<u8> {
-    let orders = (0..ORDERS)
+    telling(ORDERS, n)
+}
+
+fn telling(orders: u8, n: usize) -> Vec<u8> {
+    let orders = (0..orders)
         .cycle()
         .flat_map(|order| [letter(order), digit(order)]);
     orders.take(n).collect()
+}
+
+/// The orders of the busy list, the states that its frontiers always hold, and the first state that is neither among these nor an order's.
+const BUSY_ORDERS: u8 = 7;
+const STAY: [u16; 3] = [0, 1, 512];
+const UNREACHED: u16 = 2 + 2 * BUSY_ORDERS as u16;
+
+/// A list of 34 records: three start states that are in every frontier, and orders from the first of them, each with two signatures.
+pub fn busy_list() -> Vec<u8> {
+    let mut list: Vec<Record> = STAY.into_iter().map(start).collect();
+    list.extend([(0, 0), (1, 1), (0, 512)].map(|(from, to)| edge(0, 255, from, to)));
+    for order in 0..BUSY_ORDERS {
+        let half = 2 + u16::from(order);
+        let whole = half + u16::from(BUSY_ORDERS);
+        list.push(edge(letter(order), letter(order), 0, half));
+        list.push(edge(digit(order), digit(order), half, whole));
+        list.push(accept(whole, order.into()));
+        list.push(accept(whole, 128 + u16::from(order)));
+    }
+    list.concat()
+}
+
+/// The frontier of the busy list where no order has begun.
+pub fn busy_start() -> Bytes {
+    set_of(STAY)
+}
+
+/// As `telling_bytes`, of the orders of the busy list.
+pub fn busy_telling(n: usize) -> Vec<u8> {
+    telling(BUSY_ORDERS, n)
+}
+
+/// A table of n splits, 16 or more, for the busy list. A split that is reached takes one slot at bound 1; at bound 4 it takes four, or three where
+/// no order has begun. The other splits hold the first two states that stay and some that no edge leaves, for every second one all of them above
+/// 512: so the frontier without orders stands near the middle, and two sets often have their first words in common. With one slot in a split and
+/// 1,024 parts no more than 1,025 sets can be splits; past that the set of a split that is not reached is not the union of its parts, which the
+/// table check refuses and the feed does not look at.
+pub fn busy_table(n: usize, bound: u64) -> Table {
+    let mut b = Builder::new(n as u64 * 10 + bound);
+    let one = bound == 1;
+    let stay = match one {
+        true => vec![b.part(busy_start())],
+        false => [&STAY[..], &[0], &[1]]
+            .map(|states| b.part(set_of(states.iter().copied())))
+            .to_vec(),
+    };
+    b.split(stay.clone());
+    for s in 2..UNREACHED {
+        let slots = match one {
+            true => vec![b.part(join([busy_start(), set_of([s])]))],
+            false => [&stay[..], &[b.part(set_of([s]))]].concat(),
+        };
+        b.split(slots);
+    }
+    let two = set_of([0, 1]);
+    if one {
+        b.fill_lone(n, two);
+    } else {
+        b.fill_joined(n, two);
+    }
+    let mut classes = vec![0; BYTE_VALUES];
+    for order in 0..BUSY_ORDERS {
+        classes[usize::from(letter(order))] = 1 + order;
+        classes[usize::from(digit(order))] = 1 + BUSY_ORDERS + order;
+    }
+    b.table(&busy_list(), classes)
 }
 
 /// A list of 5 records: after the first byte the frontier is the states 0 to width - 1, for ever.
@@ -318,6 +388,47 @@ impl Builder {
                 .map(|_| from as u16 + self.dice.below(others) as u16)
                 .collect();
             self.split(slots);
+        }
+    }
+
+    /// Some states that no edge of the busy list leaves, all of them above 512 where they shall be high.
+    fn unreached(&mut self, high: bool) -> Bytes {
+        let from = if high { 513 } else { UNREACHED };
+        let size = 1 + self.dice.below(8);
+        let states: Vec<u16> = (0..size).map(|_| self.dice.state_from(from)).collect();
+        set_of(states)
+    }
+
+    /// Adds splits of one part each, which hold a set and unreached states, up to n splits.
+    fn fill_lone(&mut self, n: usize, set: Bytes) {
+        while self.splits.len() < n {
+            let others = self.unreached(self.splits.len() % 2 == 1);
+            let set = join([set, others]);
+            if self.parts.len() < MOST_PARTS {
+                let part = self.part(set);
+                self.split(vec![part]);
+            } else if self.sets.insert(set) {
+                self.splits.insert((set, vec![0]));
+            }
+        }
+    }
+
+    /// Adds splits of three parts each, the first of them a set and the others unreached states, up to n splits.
+    fn fill_joined(&mut self, n: usize, set: Bytes) {
+        let first = self.part(set);
+        let from = self.parts.len();
+        while self.parts.len() < MOST_PARTS.min(from + n) {
+            let others = self.unreached(self.parts.len() % 2 == 1);
+            self.part(others);
+        }
+        let pairs = (self.parts.len() - from) as u64 / 2;
+        while self.splits.len() < n {
+            let high = self.splits.len() % 2;
+            let slots = [0; 2].map(|_| {
+                let part = from + 2 * self.dice.below(pairs) as usize;
+                part + (part + high) % 2
+            });
+            self.split(vec![first, slots[0] as u16, slots[1] as u16]);
         }
     }
 

@@ -6,7 +6,8 @@
 //! only the rows with that text in their names are taken.
 //!
 //! bench/count uses the other two: `bench rows` names the archive, and then for each row its number, how many calls a turn has, and its
-//! name; `bench turn SIDE ROW CALLS` makes these calls of one side, and says how many bytes each consumes, or - where the row is about calls.
+//! name; `bench turn SIDE ROW CALLS` makes these calls of one side, and says how many bytes each consumes, or - where the row is about calls. A
+//! third side, hash, is there for the split feed: Rust that looks the splits up in a hash map.
 mod clock;
 mod inputs;
 mod later;
@@ -17,7 +18,7 @@ mod sizes;
 use inputs::{Bytes, Table};
 use later::black_box;
 use ordinary::Fed;
-use sizes::{FLOW_BYTES, MOST_PARTS, MOST_RECORDS, MOST_SPLITS, SLOTS, STATES};
+use sizes::{FLOW_BYTES, MOST_PARTS, MOST_RECORDS, MOST_SPLITS, SLOTS, SPLIT_BYTES, STATES};
 use std::io::{BufRead, BufReader, Write};
 use std::process::{Child, ChildStdin, ChildStdout, Command, Stdio};
 use std::time::Instant;
@@ -165,6 +166,30 @@ impl Work {
         }
     }
 
+    /// Calls the split feed that looks up in a hash map again and again, and gives what the last call answers; nothing where the row has
+    /// another call. The map is made once, before the first.
+    fn repeat_hashed(&self, calls: u32, buffers: &mut Buffers) -> Option<Fed> {
+        let (bound, table, flow, piece) = match &self.call {
+            Call::SplitFeed {
+                bound,
+                table,
+                flow,
+                piece,
+            } => (*bound, lent(table), flow, piece),
+            _ => return None,
+        };
+        let map = ordinary::map(&table);
+        let (list, pairs) = (&self.list, &mut buffers.pairs);
+        let mut last = None;
+        for _ in 0..calls {
+            buffers.flow = *flow;
+            let (lent, record) = (black_box((&table, &map)), &mut buffers.flow);
+            let fed = ordinary::hashed_feed(list, bound, lent, record, 0, black_box(piece), pairs);
+            last = black_box(Some(fed));
+        }
+        last
+    }
+
     /// The bytes that a call consumes; nothing where the row is about calls.
     fn bytes(&self) -> Option<usize> {
         match &self.call {
@@ -185,6 +210,11 @@ impl Work {
             self.name
         );
         assert!(ours == theirs, "{}: buffers", self.name);
+        let mut hashed = Buffers::new();
+        if let Some(fed) = self.repeat_hashed(1, &mut hashed) {
+            assert_eq!(answer, fed, "{}: answers by the hash map", self.name);
+            assert!(ours == hashed, "{}: buffers by the hash map", self.name);
+        }
         assert_eq!(answer.refusal, 0, "{}: refused", self.name);
         assert!(
             self.bytes()
@@ -194,11 +224,12 @@ impl Work {
         );
         let (quiet, telling) = (self.name.ends_with(QUIET), self.name.ends_with(TELLING));
         if quiet || telling {
-            let due = if quiet { 0 } else { answer.bytes };
+            let due = if quiet { 0 } else { answer.bytes / 2 * 2 };
             assert_eq!(answer.pairs, due, "{}: pairs", self.name);
             if let Call::SplitFeed { bound, table, .. } = &self.call {
                 let refusal = ordinary::check_table(&self.list, *bound, &lent(table));
-                assert_eq!(refusal, 0, "{}: table", self.name);
+                let more = *bound == 1 && table.splits.len() / SPLIT_BYTES > MOST_PARTS + 1;
+                assert_eq!(refusal, if more { 11 } else { 0 }, "{}: table", self.name);
             }
         }
     }
@@ -330,20 +361,34 @@ fn rows() -> Vec<Row> {
             );
         }
     }
-    for (splits, bytes) in [(16, 4096), (256, 2048), (MOST_SPLITS, 256)] {
-        for bound in 1..=SLOTS as u8 {
-            row(
-                format!(
-                    "split feed, {} splits, bound {bound}, 5 records",
-                    number(splits)
-                ),
-                4,
-                Box::new(move || {
-                    let table = inputs::wide_table(splits, bound);
-                    let call = split_fed(bound.into(), table, inputs::line(bytes));
-                    (inputs::wide_list(bound), call)
-                }),
-            );
+    let busy: [(&str, fn(usize) -> Vec<u8>); 2] =
+        [(QUIET, inputs::quiet_bytes), (TELLING, inputs::busy_telling)];
+    for splits in [16, 256, MOST_SPLITS] {
+        for bound in [1, SLOTS as u64] {
+            for (bytes, turn) in [(1, 16), (64, 8), (4096, 2)] {
+                for (kind, make) in busy {
+                    let pieces = match bytes {
+                        1 => "1 byte".into(),
+                        _ => format!("{} bytes", number(bytes)),
+                    };
+                    row(
+                        format!(
+                            "split feed, {} splits, bound {bound}, pieces of {pieces}, {kind}",
+                            number(splits)
+                        ),
+                        turn,
+                        Box::new(move || {
+                            let call = Call::SplitFeed {
+                                bound,
+                                table: inputs::busy_table(splits, bound),
+                                flow: inputs::flow_at(inputs::busy_start()),
+                                piece: make(bytes),
+                            };
+                            (inputs::busy_list(), call)
+                        }),
+                    );
+                }
+            }
         }
     }
     for (records, fill) in [("5", false), (&*full, true)] {
@@ -594,15 +639,19 @@ fn name_rows() {
 
 /// Makes some calls of one side, for bench/count.
 fn turn(side: &str, row: &str, calls: &str) {
-    let side = match side {
-        "proved" => &PROVED,
-        "rust" => &ORDINARY,
-        _ => panic!("the side is proved or rust"),
-    };
     let row: usize = row.parse().expect("a row's number");
     let work = rows()[row].work();
     let calls = calls.parse().expect("a number of calls");
-    work.repeat(side, calls, &mut Buffers::new());
+    let mut buffers = Buffers::new();
+    match side {
+        "proved" => work.repeat(&PROVED, calls, &mut buffers),
+        "rust" => work.repeat(&ORDINARY, calls, &mut buffers),
+        "hash" => {
+            let fed = work.repeat_hashed(calls, &mut buffers);
+            fed.expect("a row of the split feed");
+        }
+        _ => panic!("the side is proved, rust or hash"),
+    }
     match work.bytes() {
         Some(n) => println!("{n}"),
         None => println!("-"),

@@ -223,6 +223,14 @@ class Plan:
     def sort(self):
         self.splits.sort(key=lambda split: pack_set(split[0]))
 
+    def once(self):
+        """Of the splits with one set the first, sorted."""
+        first = {}
+        for members, slots in self.splits:
+            first.setdefault(members, slots)
+        self.splits = list(first.items())
+        self.sort()
+
     def table(self):
         return Table(
             bytes(self.classes),

@@ -685,8 +685,8 @@ def harmless_tables(tape, dice):
 
 
 def wild_tables(tape, dice):
-    """Tables of no sense, run as they stand: unsorted and equal splits, slots
-    after an unused one, slots that name no part, more taken than the bound."""
+    """Tables of no sense, run as they stand: slots after an unused one, slots that name no part,
+    more taken than the bound, and in one of eight unsorted and equal splits."""
     for turn in range(190):
         sample = any_list(dice)
         if dice.chance(90):
@@ -717,6 +717,8 @@ def wild_tables(tape, dice):
         classes[dice.below(BYTE_VALUES)] = width - 1
         width = max(classes) + 1
         plan = builders.Plan(classes, width, parts, rows, splits)
+        if turn % 8:
+            plan.once()
         tape.load_list(sample.data)
         tape.load_table(plan.table())
         bound = dice.between(1, MOST_BOUND)
@@ -858,18 +860,17 @@ def ask_order(tape, dice, pair, parts, refused):
     plan = builders.Plan([0] * BYTE_VALUES, 1, [unpack_set(part) for part in parts],
                          {(p, 0): frozenset() for p in range(len(parts))},
                          [(unpack_set(data), padded(slots)) for data, slots in splits])
-    fed = dice.chance(15)
-    frontier = unpack_set(dice.pick(sets)) if fed else frozenset()
+    frontier = unpack_set(dice.pick(sets)) if dice.chance(15) else frozenset({STATES - 8})
     tape.load_list(b"".join(naming([start(STATES - 8)], frontier)))
     tape.load_table(plan.table())
     bound = dice.between(max(len(slots) for _, slots in splits), MOST_BOUND)
     assert (tape.check_table(bound) == 9) == refused
     if dice.chance(20):
         tape.check_table(dice.between(1, MOST_BOUND))
-    if fed:
-        tape.load_record(any_flow(dice, frontier))
-        tape.split_feed(bound, offset_of(tape.record), dice.below(5),
-                        dice.bytes(dice.between(1, 3)))
+    offset = dice.pick([0, 1, 256, dice.below(2 ** 31)])
+    tape.load_record(pack_flow(Flow(frontier, offset, 0)))
+    answer = tape.split_feed(bound, offset, dice.below(5), dice.bytes(dice.below(4)))
+    assert (answer.refusal == 9) == refused
 
 
 def two_sets(choose):
@@ -1040,27 +1041,95 @@ def lengths_of_splits(tape, dice):
             tape.split_feed(3, 0, 6, dice.pick([b"", a_piece(dice, sample, 3)]))
 
 
-def equal_splits(tape, dice):
-    """The first of equal splits is taken, and of its slots those before the first unused one."""
+def slots_taken(tape, dice):
+    """Of a split's slots those before the first unused one are taken, whatever stands behind it."""
     sample = Sample([start(9), edge(0, 255, 9, 9), edge(98, 98, 9, 140), accept(140, 8),
                      accept(9, 200)], [97, 98], [9, 140])
     one, two, none = frozenset({9}), frozenset({9, 140}), frozenset()
     rows = {(0, 0): one, (1, 0): two, (2, 0): none, (3, 0): one}
     parts = [one, two, none, one]
     for turn in range(60):
-        slots = [[dice.below(4) for _ in range(SLOTS)] for _ in range(3)]
-        for at, place in ((0, 1), (1, 2), (2, 0)):
+        slots = [[dice.below(4) for _ in range(SLOTS)] for _ in range(2)]
+        for at, place in ((0, 1), (1, 2)):
             if dice.chance(70):
                 slots[at][place if turn % 2 else dice.below(SLOTS)] = UNUSED
         plan = builders.Plan([0] * BYTE_VALUES, 1, parts, rows,
-                             [(one, slots[0]), (two, slots[2]), (one, slots[1]),
-                              (none, padded([]))][:4 - turn % 2])
+                             [(one, slots[0]), (two, slots[1]), (none, padded([]))][:3 - turn % 2])
+        plan.sort()
         tape.load_list(sample.data)
         tape.load_table(plan.table())
         tape.check_table(MOST_BOUND)
         for bound in (MOST_BOUND, dice.between(1, 3)):
             tape.load_record(pack_flow(Flow(one, 7, 0)))
             tape.split_feed(bound, 7, 12, b"ab")
+
+
+def fed_order(tape, dice):
+    """Split feeds on splits that rise and on those that do not: 9 of any piece, the empty one too,
+    with any slots; and 1 to 8, each of which comes before it."""
+    def exchanged(splits):
+        at = dice.below(len(splits) - 1)
+        return splits[:at] + [splits[at + 1], splits[at]] + splits[at + 2:]
+
+    def doubled(splits):
+        at = dice.below(len(splits))
+        return splits[:at + 1] + splits[at:]
+
+    front, second, third = model.cut(examples.TABLE.splits, SPLIT_SIZE)
+    tape.load_list(examples.LIST)
+    for splits, number in ((front + third + second, 9), (front + front + second + third, 9),
+                           (second + front + third, 9), (front + second + third + third, 9),
+                           (front + second + third, 0)):
+        tape.load_table(examples.TABLE._replace(splits=splits))
+        for piece in (b"", b"a", b"abab"):
+            tape.load_record(bytes(FLOW_SIZE))
+            tape.open()
+            assert tape.split_feed(2, 0, 4, piece).refusal == number
+
+    for turn in range(2 * MANY):
+        bound = dice.between(1, MOST_BOUND)
+        sample, plan = good_table(dice, bound, 9, 7)
+        good = plan.table()
+        splits = model.cut(good.splits, SPLIT_SIZE)
+        if len(splits) < 2:
+            continue
+        tape.load_list(sample.data)
+        bad = good._replace(splits=b"".join(dice.pick([exchanged, doubled])(splits)))
+        for table, number in ((bad, 9), (good, 0)):
+            tape.load_table(table)
+            tape.load_record(bytes(FLOW_SIZE))
+            tape.open()
+            fresh = tape.record
+            for piece in (b"", a_piece(dice, sample, dice.between(1, 4))):
+                tape.load_record(fresh)
+                answer = tape.split_feed(bound, 0, word_count(dice), piece)
+                assert answer.refusal == number
+        # Slots of any kind beside sets that rise.
+        wild = [split[:SET_SIZE] + b"".join(
+            dice.pick([7, 3, 900, 1, UNUSED, MOST_PARTS]).to_bytes(2, "little")
+            for _ in range(SLOTS)) for split in splits]
+        tape.load_table(good._replace(splits=b"".join(wild)))
+        for piece in (b"", a_piece(dice, sample, 2)):
+            tape.load_record(fresh)
+            assert tape.split_feed(bound, 0, word_count(dice), piece).refusal in (0, 14)
+        # A lower number beside 9.
+        tape.load_table(bad)
+        tape.load_record(fresh)
+        piece = dice.pick([b"", a_piece(dice, sample, 2)])
+        lower = 1 + turn % 8
+        if lower < 4:
+            tape.load_list(broken_list(dice, sample, lower))
+        elif lower == 4:
+            tape.load_record(fresh[:RESERVED_AT] + b"\1" + fresh[RESERVED_AT + 1:])
+        elif lower == 6:
+            tape.load_record(pack_flow(Flow(sample.nfa.starts, MOST_OFFSET, 0)))
+            piece = b"a"
+        elif lower == 8:
+            tape.load_table(bad._replace(rows=bad.rows + bytes(SET_SIZE)))
+        answer = tape.split_feed(MOST_BOUND + 1 if lower == 7 else bound,
+                                 offset_of(tape.record) + (lower == 5), word_count(dice), piece)
+        assert answer.refusal == lower
+        tape.load_list(sample.data)
 
 
 # Either case
@@ -1264,7 +1333,7 @@ def foreign(tape, dice):
 GROUPS = [worked, lists, longest_lists, list_limits, openings, record_limits, plain_flows,
           crowded_flows, good_tables, crowded_tables, faulty_tables, one_byte_tables,
           harmless_tables, wild_tables, long_pieces, set_sizes, largest_tables,
-          split_order, equal_splits, low_and_high, lengths_of_splits, no_split,
+          split_order, slots_taken, fed_order, low_and_high, lengths_of_splits, no_split,
           zero_records, old_content, long_pauses, capitals, first_pairs, foreign]
 
 

@@ -144,3 +144,17 @@ def check():
 
     # {8} comes before {0} in the order of byte strings.
     assert _set(8) < _set(0)
+
+    # A split feed refuses splits that do not rise with 9, of an empty piece too; slots are not
+    # looked at.
+    front, second, third = model.cut(TABLE.splits, model.SPLIT_SIZE)
+    wild = front[:SET_SIZE] + bytes.fromhex("0700030084030100")
+    for splits in (front + third + second, front + front + second + third):
+        for piece in (b"abab", b""):
+            assert split(TABLE._replace(splits=splits), 2, [0] * 8, piece) == (
+                9, 0, 0, False, [0] * 8, fresh)
+    assert split(TABLE._replace(splits=wild), 2, [], b"abab") == (14, 0, 0, False, [], fresh)
+    assert split(TABLE._replace(splits=wild), 2, [], b"") == (0, 0, 0, True, [], fresh)
+    eighth = _set(8) + front[SET_SIZE:]
+    assert split(TABLE._replace(splits=eighth + TABLE.splits), 2, [0] * 8, b"abab")[0] == 0
+    assert split(TABLE._replace(splits=front + eighth + second + third), 2, [], b"abab")[0] == 9

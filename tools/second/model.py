@@ -218,6 +218,13 @@ def union(sets):
     return frozenset().union(*sets)
 
 
+def unordered(table):
+    """Whether some split's bytes are not greater than those of the one before: sorted and each
+    taken once, the sets would be others or stand otherwise."""
+    names = [split.name for split in table.splits]
+    return names != sorted(set(names))
+
+
 def breaks_9(table, bound):
     before = None
     for split in table.splits:
@@ -352,6 +359,8 @@ def split_feed(data, table, bound, record, start, words, piece):
         refusal = 7
     if not refusal and wrong_lists(table):
         refusal = 8
+    if not refusal and unordered(decoded(table)):
+        refusal = 9
     if refusal:
         return refused(refusal, words, record)
     lists = decoded(table)

@@ -84,11 +84,17 @@ def feed_8(table):
              "cut(table.splits[:len(table.splits) // SPLIT_SIZE * SPLIT_SIZE], SPLIT_SIZE)")]
 
 
+def feed_9(test):
+    """Another test of the splits' order in the split feed."""
+    return [(FEED_9, test.replace("lists", "decoded(table)"))]
+
+
 def exchange(byte):
     """Another exchange of case."""
     return [("return " + CASE, "return " + byte)]
 
 
+FEED_9 = "unordered(decoded(table))"
 CASE = "bytes([byte]).swapcase()[0]"
 NO_KIND = "    return False\n\n\n@lru_cache(maxsize=64)\n"
 SLOT = "low + 256 * high"
@@ -371,14 +377,44 @@ VERSIONS = [
     ("split feed: all used slots are counted, those up to the unused one joined", [
         ("for slot in taken), len(taken)",
          "for slot in taken), len(used_slots(lists.first[frontier]))")]),
-    ("split feed: the last equal split", [("self.first.setdefault(split.members, split)",
-                                           "self.first[split.members] = split")]),
-    ("split feed: the split is found by halving", [
-        ("        if frontier not in lists.first:\n",
-         "        names = [split.name for split in lists.splits]\n"
-         "        at = __import__(\"bisect\").bisect_left(names, pack_set(frontier))\n"
-         "        if at == len(names) or names[at] != pack_set(frontier):\n"),
-        ("taken_slots(lists.first[frontier])", "taken_slots(lists.splits[at])")]),
+    ("split feed: 9 is not looked for", feed_9("False")),
+    ("split feed: 9 is not looked for where the piece is empty", feed_9("piece and unordered(lists)")),
+    ("split feed: 9 comes after 14", [
+        (FEED_9, "False"),
+        ("return run(automaton(data), record, words, piece, move)",
+         "answer = run(automaton(data), record, words, piece, move)\n"
+         "    if answer.refusal == 0 and unordered(lists):\n"
+         "        return refused(9, words, record)\n"
+         "    return answer")]),
+    ("split feed: 9 comes before 8", [
+        ("if not refusal and wrong_lists(table)", "if not refusal and len(table.splits) % SPLIT_SIZE == 0 "
+         "and table.classes and table.parts and unordered(Names(table)):\n        refusal = 9\n"
+         "    if not refusal and wrong_lists(table)"),
+        ("def unordered(table)", "class Names:\n    def __init__(self, table):\n"
+         "        self.splits = [Split(s[:SET_SIZE], None, None) for s in cut(table.splits, SPLIT_SIZE)]\n\n\n"
+         "def unordered(table)")]),
+    ("split feed: 9 comes before 4", [
+        ("    refusal = feed_refusal(data, record, start, piece)\n    if not refusal and not 1 <= bound",
+         "    refusal = list_refusal(data)\n    if not refusal and not wrong_lists(table) and unordered(decoded(table)):\n"
+         "        refusal = 9\n    refusal = refusal or feed_refusal(data, record, start, piece)\n"
+         "    if not refusal and not 1 <= bound")]),
+    ("split feed: 9 for slots too", feed_9("breaks_9(lists, bound)")),
+    ("split feed: 9 says that an empty piece is all consumed", [
+        ("        refusal = 9\n    if refusal:\n        return refused(refusal, words, record)",
+         "        refusal = 9\n    if refusal:\n"
+         "        return refused(refusal, words, record)._replace(all=refusal == 9 and not piece)")]),
+    ("split feed: equal sets pass", feed_9("[s.name for s in lists.splits] != sorted(s.name for s in lists.splits)")),
+    ("split feed: the order of words of 8 bytes, low byte first", feed_9(
+        "(lambda keys: any(not a < b for a, b in zip(keys, keys[1:])))"
+        "([[number(w) for w in cut(s.name, 8)] for s in lists.splits])")),
+    ("split feed: the order of the sets as numbers", feed_9(
+        "(lambda keys: any(not a < b for a, b in zip(keys, keys[1:])))([number(s.name) for s in lists.splits])")),
+    ("split feed: the order of the first two is not looked at", feed_9(
+        "(lambda keys: any(not a < b for a, b in zip(keys[1:], keys[2:])))([s.name for s in lists.splits])")),
+    ("split feed: the order of the last two is not looked at", feed_9(
+        "(lambda keys: any(not a < b for a, b in zip(keys, keys[1:-1])))([s.name for s in lists.splits])")),
+    ("split feed: the place after the one found", [
+        (LOOKS_UP, "taken = taken_slots((lists.splits + lists.splits[-1:])[lists.splits.index(lists.first[frontier]) + 1])")]),
     ("split feed: 14 is not looked for at the first byte of a piece", not_14("consumed == 0")),
     ("split feed: 14 is not looked for at offset 0", not_14("flow.offset == 0")),
     ("split feed: 14 is not looked for at the last byte of a piece",

@@ -365,6 +365,9 @@ impl Flow {
     ///
     /// A flow that was opened on the list and fed by nothing but the list and a table that has passed its check is never halted.
     ///
+    /// Each call tests once, before any byte, that the sets of the table's splits strictly rise, and is refused with 9 where they do not. What
+    /// this costs goes by the number of splits, so that pieces of many bytes are cheaper than single ones.
+    ///
     /// ```
     /// # use watch::{Flow, List, SplitError, Table, TableLists, BYTE_VALUES, FLOW_SIZE, SET_SIZE};
     /// # fn set(states: &[u8]) -> [u8; SET_SIZE] {
@@ -742,8 +745,8 @@ impl<'a> Table<'a> {
     }
 
     /// A table that is not checked here, as one that passed when it was stored: the check works through every part and split on every
-    /// byte. Nothing is unsafe about a bad one, but a split feed may then refuse it (7, 8), halt (14), or tell other pairs than the
-    /// plain feed.
+    /// byte. Nothing is unsafe about a bad one, but a split feed may then refuse it (7, 8, 9), halt (14), or tell other pairs than
+    /// the plain feed.
     pub fn unchecked(list: &List<'a>, bound: u64, lists: TableLists<'a>) -> Table<'a> {
         Table { list: *list, bound, lists }
     }

@@ -77,7 +77,7 @@ extern "C" {
         splits_len: usize,
     ) -> u32;
 
-    /// The split feed: refusals 1 to 8, and 14.
+    /// The split feed: refusals 1 to 9, and 14.
     pub fn watch_split_feed(
         list: *const u8,
         list_len: usize,

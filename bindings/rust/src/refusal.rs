@@ -34,7 +34,7 @@ pub enum Refusal {
     /// 8: a table list has the wrong length, or a class is over [`MOST_CLASS`].
     TableLists = 8,
     /// 9: a split has a used slot that names no part, a used slot after an unused one, slots not strictly rising, more
-    /// than b used, or a set not greater (as byte strings) than the one before.
+    /// than b used, or a set not greater (as byte strings) than the one before. The split feed looks at the sets alone.
     SplitRecord = 9,
     /// 10: a row that some byte selects differs from the NFA step of its part on that byte.
     WrongRow = 10,
@@ -157,7 +157,7 @@ impl std::error::Error for Refusal {}
 #[derive(Clone, Copy, Debug, PartialEq, Eq, Hash)]
 #[non_exhaustive]
 pub enum SplitError {
-    /// A refusal 1 to 8. No buffer has changed.
+    /// A refusal 1 to 9. No buffer has changed.
     Refused(Refusal),
     /// Refusal 14, at the byte after those consumed.
     #[non_exhaustive]

@@ -371,6 +371,52 @@ fn a_halted_split_feed_keeps_what_was_before() {
 }
 
 #[test]
+fn a_split_feed_tests_the_order_of_the_splits() {
+    let swapped = |a: usize, b: usize| {
+        let mut t = T::new();
+        t.splits.swap(a, b);
+        t
+    };
+    let twice = |i: usize| {
+        let mut t = T::new();
+        t.splits.insert(i, t.splits[i].clone());
+        t
+    };
+    // As strings of bytes {8} comes before {0}, and as numbers after it.
+    let eighth = |at: usize| {
+        let mut t = T::new();
+        t.splits.insert(at, split(&[8], [0, NO, NO, NO]));
+        t
+    };
+    for t in [swapped(1, 2), swapped(0, 1), twice(0), twice(2), eighth(1)] {
+        t.check(2, |checked, table| {
+            assert_eq!(checked.err(), Some(Refusal::SplitRecord));
+            for piece in [&b"abab"[..], b""] {
+                let mut flow = opened();
+                let mut words = [5; 3];
+                let fed = flow.split_feed(&table, 0, piece, &mut words);
+                assert_eq!(fed, Err(SplitError::Refused(Refusal::SplitRecord)));
+                assert_eq!((words, flow.offset(), flow.rows_read()), ([5; 3], 0, 0));
+                // The other rules come first.
+                let other = flow.split_feed(&table, 1, piece, &mut words);
+                assert_eq!(other, Err(SplitError::Refused(Refusal::OtherStart)));
+            }
+        });
+    }
+    eighth(0).check(2, |_, table| {
+        let fed = opened().split_feed(&table, 0, b"abab", &mut [0; ENOUGH_WORDS]).unwrap();
+        assert_eq!(answer(fed), (4, 2, true));
+    });
+    // Slots are not looked at before the byte.
+    let mut wild = T::new();
+    wild.splits = vec![split(&[0], [7, 3, 900, 1])];
+    wild.check(2, |_, table| {
+        assert_eq!(halt(opened().split_feed(&table, 0, b"abab", &mut [])), (14, 0, 0));
+        assert!(opened().split_feed(&table, 0, b"", &mut []).unwrap().all);
+    });
+}
+
+#[test]
 fn the_ordinary_matcher_agrees() {
     let automaton = Automaton::read(&L);
     let mut record = vec![0; FLOW_SIZE];

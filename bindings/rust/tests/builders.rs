@@ -293,8 +293,8 @@ pub fn good_table(dice: &mut Dice, automaton: &Automaton) -> Option<Lists> {
     })
 }
 
-/// A table whose lists have the right lengths, and nothing else about it is right: its rows lead from split to split, so that a
-/// feed gets some way, its splits stand in any order and more than once, and their slots hold anything.
+/// A table whose lists have the right lengths, and little else about it is right: its rows lead from split to split, so that a feed
+/// gets some way, and their slots hold anything. In one of eight its splits stand in any order and more than once; in the others they rise.
 pub fn wild_table(dice: &mut Dice, automaton: &Automaton) -> Lists {
     let states = states_of(automaton);
     let mut pool: Vec<Set> = (0..dice.from(1, 4)).map(|_| random_set(dice, &states)).collect();
@@ -327,6 +327,10 @@ pub fn wild_table(dice: &mut Dice, automaton: &Automaton) -> Lists {
         splits.push(split_record(&automaton.starts, &[0]));
     }
     dice.shuffle(&mut splits);
+    if !dice.once_in(8) {
+        splits.sort();
+        splits.dedup_by(|a, b| a[..SET_SIZE] == b[..SET_SIZE]);
+    }
     Lists {
         bound: dice.from(1, MOST_BOUND as usize) as u64,
         classes,

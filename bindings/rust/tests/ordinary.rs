@@ -262,15 +262,20 @@ impl Table {
         &self.rows[part * self.width + self.classes[usize::from(byte)]]
     }
 
+    /// Rule 9 of the sets alone.
+    fn unordered(&self) -> bool {
+        self.splits.windows(2).any(|two| two[0].bytes >= two[1].bytes)
+    }
+
     fn breaks_9(&self, bound: u64) -> bool {
-        self.splits.iter().enumerate().any(|(i, split)| {
-            let used = split.used();
-            used.iter().any(|&slot| usize::from(slot) >= self.parts.len())
-                || used != split.taken()
-                || used.windows(2).any(|two| two[0] >= two[1])
-                || used.len() as u64 > bound
-                || (i > 0 && self.splits[i - 1].bytes >= split.bytes)
-        })
+        self.unordered()
+            || self.splits.iter().any(|split| {
+                let used = split.used();
+                used.iter().any(|&slot| usize::from(slot) >= self.parts.len())
+                    || used != split.taken()
+                    || used.windows(2).any(|two| two[0] >= two[1])
+                    || used.len() as u64 > bound
+            })
     }
 
     fn breaks_10(&self, automaton: &Automaton) -> bool {
@@ -416,6 +421,9 @@ pub fn split_feed(
         Some(table) => table,
         None => return refused(8),
     };
+    if table.unordered() {
+        return refused(9);
+    }
     run(automaton, flow, piece, words, record, |frontier, byte| {
         let taken = table.splits[*table.first.get(frontier)?].taken();
         if taken.len() as u64 > bound || taken.iter().any(|&slot| usize::from(slot) >= table.parts.len()) {

@@ -30,7 +30,7 @@ const ENTRIES: [(Entry, &str, &[u32]); 5] = [
     (Entry::Open, "opening", &[0, 1, 2, 3, 4, 15]),
     (Entry::Feed, "plain feed", &[0, 1, 2, 3, 4, 5, 6]),
     (Entry::CheckTable, "table check", &[0, 1, 2, 3, 7, 8, 9, 10, 11, 12, 13]),
-    (Entry::SplitFeed, "split feed", &[0, 1, 2, 3, 4, 5, 6, 7, 8, 14]),
+    (Entry::SplitFeed, "split feed", &[0, 1, 2, 3, 4, 5, 6, 7, 8, 9, 14]),
 ];
 
 /// What was run.

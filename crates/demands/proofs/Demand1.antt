@@ -1,8 +1,8 @@
 -- Demand 1: every refusal exactly when its row says, and nothing changes; 14 keeps the bytes before it. Assumes nothing.
-use Prim.Native.Nat.{ℕ, suc, _+_, _*_, _≤_, _<_}
+use Prim.Native.Nat.{ℕ, zero, suc, _+_, _*_, _≤_, _<_}
 use mathlib.Core.Path.{_≡_, refl, sym, ap, _∙_}
 use mathlib.Core.Bool.{Bool, true, false, _&&_, _||_, not, cond}
-use mathlib.Core.List.{List, [], _∷_}
+use mathlib.Core.List.{List, [], _∷_, _++_}
 use mathlib.Core.Logic.{_↔_}
 use native.Mathlib.Omega.{arith}
 use native.Mathlib.Nat.{lt-of-not-le}
@@ -12,11 +12,11 @@ use lib.Seq.{length-take-le, take-take}
 use lib.Dec.{ltb, lit<}
 use borrow.Author.Tests.{eq-eqb, ne-eqb, ltb-true, lt-ltb, le-ltb}
 use Rattle.sets.specs.Set.{signatures, size, within}
-use Rattle.rules.specs.Scan.{rising}
+use Rattle.rules.specs.Scan.{every, rising}
 use Rattle.rules.specs.Rules.{Rule, verdict, number, Given}
 use Rattle.lists.specs.List.{badLength, badRecord, noStart, listRules}
 use Rattle.lists.specs.Automaton.{start, accepted, named}
-use Rattle.rules.proofs.Scanning.{both}
+use Rattle.rules.proofs.Scanning.{both, every-all}
 use Rattle.lists.proofs.Listed.{list-refuses}
 use Rattle.rules.proofs.Rules.{refuses, rises, exactly, numbered, number-lt, verdict-lt, passes-front, passes-changed}
 use Rattle.feeds.specs.Engine.{Engine, Outcome, room, run, consumed, ended, feed, mostOffset}
@@ -29,11 +29,12 @@ use Rattle.feeds.proofs.Opening.{unopened, opening-refusal, opening-rest, openi
 use Rattle.plain.specs.Plain.{plain, openPairs, firstRules, openRules, opened, openFlow}
 use Rattle.plain.proofs.Opening.{openPairs-long, open-fits, opened-fits, room-suffices}
 use Rattle.plain.proofs.Plain.{plain-refusal}
-use Rattle.tables.specs.Table.{Table, sizeRules, tableRules, tableRefusal}
-use Rattle.tables.proofs.Checked.{table-exactly}
+use Rattle.tables.specs.Table.{Table, splitCount, inOrder, sizeRules, risingRules, tableRules, tableRefusal}
+use Rattle.tables.proofs.Checked.{table-exactly, in-order-first, in-order-exactly}
 use Rattle.splits.specs.Split.{stuck, split, splitRules, splitFeed}
 use Rattle.splits.proofs.Halting.{stuck-exactly}
-use Rattle.demands.specs.Words.{First, InWords, tableWords, splitWords}
+use Rattle.splits.proofs.Rising.{rising-verdict, rising-as-before}
+use Rattle.demands.specs.Words.{First, InWords, tableWords, AllRise, splitWords}
 use Rattle.demands.specs.Demands.{Unchanged, Unopened, Same, Demand1}
 use Rattle.demands.proofs.Due.{begins}
 use Rattle.demands.proofs.Saying.{list-tells, open-tells, feed-tells, table-tells, split-tells}
@@ -123,7 +124,7 @@ module _ (L : List ℕ) (b : ℕ) (T : Table) (R : List ℕ) (at : ℕ) (piece o
       decide (stuck b T (run (split L b T) (frontierOf R) (take j piece)) ≡ false) (λ v. consumed-free (split L b T) (frontierOf R) (room out) piece j (rw (bytes-few v) at h))
       (λ v. absurd (omega (arith, ap (λ (o : Outcome). o .bytes) (unfed (split L b T) flowLayout R piece out (splitRules L b T R at piece) v), h)))
 
-  -- 1 to 8 in words
+  -- 1 to 9 in words
   in-words : (n : ℕ) → (n ≡ 0 → ⊥) → (n ≡ 14 → ⊥) → (splitFeed L b T R at piece out .refusal ≡ n) ↔ First (splitWords L b T R at piece) n
   in-words n z m =
       let w = split-tells L b T R at piece .gives n z in (
@@ -135,8 +136,8 @@ module _ (L : List ℕ) (b : ℕ) (T : Table) (R : List ℕ) (at : ℕ) (piece o
       either true e = m (sym e)
       either false e = z (sym e)
 
-  -- 1 to 8
-  by-rule : (i : ℕ) → i < 8 → (splitFeed L b T R at piece out .refusal ≡ number (splitRules L b T R at piece) i) ↔ Given (splitRules L b T R at piece) i
+  -- 1 to 9
+  by-rule : (i : ℕ) → i < 9 → (splitFeed L b T R at piece out .refusal ≡ number (splitRules L b T R at piece) i) ↔ Given (splitRules L b T R at piece) i
   by-rule i h = (
     λ e. exactly (splitRules L b T R at piece) refl i h .0 (there e),
     λ g. let e = exactly (splitRules L b T R at piece) refl i h .1 g in refused-refusal (λ z. numbered (splitRules L b T R at piece) refl i h (sym e ∙ z)) ∙ e,
@@ -148,6 +149,16 @@ module _ (L : List ℕ) (b : ℕ) (T : Table) (R : List ℕ) (at : ℕ) (piece o
           (λ v. absurd (numbered (splitRules L b T R at piece) refl i h
           (small halting (number (splitRules L b T R at piece) i) (sym (ended-refusal v) ∙ e) (number-lt 14 (splitRules L b T R at piece) refl i h))))
           (λ v. sym (refused-refusal v) ∙ e)
+
+  -- where the splits are in order, not 9
+  pub not-9 : every (splitCount (T .splits)) (inOrder (T .splits)) ≡ true → splitFeed L b T R at piece out .refusal ≡ 9 → ⊥
+  not-9 o e =
+      decide ⊥ (λ v. nine halting (sym (ended-refusal v) ∙ e))
+      (λ v. omega (arith, verdict-lt 9 (feedRules L R at piece ++ sizeRules b T) (lit< tt) refl, sym (rising-verdict L b T o R at piece) ∙ sym (refused-refusal v) ∙ e))
+    where
+      nine : (t : Bool) → _≡_ {A = ℕ} (cond t 14 0) 9 → ⊥
+      nine true q = omega arith
+      nine false q = omega arith
 
   passed-14 : splitFeed L b T R at piece out .refusal ≡ 14 → verdict (splitRules L b T R at piece) ≡ 0
   passed-14 e =
@@ -194,12 +205,20 @@ module _ (L : List ℕ) (b : ℕ) (T : Table) (R : List ℕ) (at : ℕ) (piece o
   unfolding ended
   not-all e = rw (goes (passed-14 e)) (ne-eqb (length front) (length piece) (λ q. omega (arith, halts-14 e .0, front-long, q)))
 
+-- splits whose sets rise are in order
+all-rise : (S : List ℕ) → AllRise S → every (splitCount S) (inOrder S) ≡ true
+all-rise S r = every-all (splitCount S) (inOrder S) at-each
+  where
+    at-each : (i : ℕ) → i < splitCount S → inOrder S i ≡ true
+    at-each zero h = in-order-first S
+    at-each (suc i) h = in-order-exactly S i h .1 (r i h)
+
 -- a piece cut to a front of it passes where it passes
 cut-passes : (L : List ℕ) (b : ℕ) (T : Table) (R : List ℕ) (at : ℕ) (piece : List ℕ) (n : ℕ) → verdict (splitRules L b T R at piece) ≡ 0 → verdict (splitRules L b T R at (take n piece)) ≡ 0
 cut-passes L b T R at piece n v =
-    passes-changed ((1, badLength L) ∷ (2, badRecord L) ∷ (3, noStart L) ∷ (4, badFlow R || not (within (frontierOf R) (named L))) ∷ (5, otherStart R at) ∷ []) 5 (tooLong R piece) (tooLong R (take n piece)) (sizeRules b T) v
+    passes-changed ((1, badLength L) ∷ (2, badRecord L) ∷ (3, noStart L) ∷ (4, badFlow R || not (within (frontierOf R) (named L))) ∷ (5, otherStart R at) ∷ []) 5 (tooLong R piece) (tooLong R (take n piece)) (risingRules b T) v
     (le-ltb mostOffset (offsetOf R + length (take n piece))
-    (omega (arith, length-take-most n piece, feed-passes L R at piece (passes-front (feedRules L R at piece) (sizeRules b T) v) .2)))
+    (omega (arith, length-take-most n piece, feed-passes L R at piece (passes-front (feedRules L R at piece) (risingRules b T) v) .2)))
 
 -- 14 leaves what the bytes before it leave
 kept : (L : List ℕ) (b : ℕ) (T : Table) (R : List ℕ) (at : ℕ) (piece out : List ℕ) → splitFeed L b T R at piece out .refusal ≡ 14
@@ -254,6 +273,7 @@ demand-1 =
           λ L b T R at piece out v w.
           refused-unchanged (split L b T) flowLayout R piece out (splitRules L b T R at piece) (λ z. neither-of L b T R at piece out v w z);
       splits-passes = by-none;
+      splits-rising = λ L b T R at piece out r. rising-as-before L b T (all-rise (T .splits) r) R at piece out;
       stuck-said = stuck-exactly;
       halts-first = first-free;
       halts = by-halt;

@@ -19,9 +19,11 @@ use Rattle.plain.specs.Plain.{plain, opened, openFlow}
 use Rattle.tables.specs.Table.{Table, tableRefusal}
 use Rattle.tables.proofs.Accepted.{accepted}
 use Rattle.splits.specs.Split.{split, taken}
+use Rattle.splits.proofs.Rising.{accepted-rises}
 use Rattle.demands.specs.Calls.{Via, byList, byTable, Call, engineOf, rulesOf, asked, allAsked, outcome}
 use Rattle.demands.specs.Demands.{InBytes, Each, Through, activeParts, Demand3}
 use Rattle.demands.proofs.Engines.{call-passes, rows-few, cost-most, AtSplit, split-follows, split-few}
+use Rattle.demands.proofs.Demand1.{not-9}
 use Rattle.demands.proofs.Demand2.{in-bytes, each-along, along-each}
 use Rattle.demands.proofs.Due.{due-all, opened-frontier, opened-offset, opened-rows, begins}
 
@@ -70,6 +72,7 @@ module _ (L : List ℕ) (b : ℕ) (T : Table) (ok : tableRefusal L b T ≡ 0) wh
         (λ Q c f v F G r. ap (λ (E : Engine ℕ). E .cost F) (through-engine L b T c (f v .0) (f v .1)) ∙ ap (λ (H : ℕ). length (taken T H)) (r .0)) B cs h) in
         let n : rowsOf (Rattle.feeds.specs.Calls.recordAfter flowLayout B (allAsked cs)) ≡ allRows flowLayout B (allAsked cs) = w .rows ∙ rw (opened-rows L) (omega arith) in
         record {
+          never-9 = λ Q c v e. not-9 (c .list) b T Q (c .at) (c .piece) (c .out) (accepted-rises L b T ok) (ap (λ (w : Via). outcome Q (record { list = c .list; via = w; at = c .at; piece = c .piece; out = c .out }) .refusal) (sym v) ∙ e);
           never-14 =
               rw (q .1)
               (along-each (λ Q c. outcome Q c .refusal ≡ 14 → ⊥) (λ Q a. answer flowLayout Q a .refusal ≡ verdict (a .rules Q))

@@ -19,7 +19,7 @@ use Rattle.flows.proofs.Records.{good-flow}
 use Rattle.flows.proofs.Passing.{feed-passes}
 use Rattle.plain.specs.Plain.{plain}
 use Rattle.plain.proofs.Plain.{plain-cheap}
-use Rattle.tables.specs.Table.{Table, isSplit, sizeRules, tableRefusal}
+use Rattle.tables.specs.Table.{Table, isSplit, risingRules, tableRefusal}
 use Rattle.tables.proofs.Accepted.{accepted as accepted-table}
 use Rattle.splits.specs.Split.{split}
 use Rattle.splits.proofs.Exact.{few, free, same, stays}
@@ -33,7 +33,7 @@ use Rattle.demands.specs.Demands.{Fit}
 -- it passes the rules of every feed
 passes-feed : (v : Via) (L R : List ℕ) (at : ℕ) (piece : List ℕ) → verdict (rulesOf v L R at piece) ≡ 0 → verdict (feedRules L R at piece) ≡ 0
 passes-feed byList L R at piece e = e
-passes-feed (byTable b T) L R at piece e = passes-front (feedRules L R at piece) (sizeRules b T) e
+passes-feed (byTable b T) L R at piece e = passes-front (feedRules L R at piece) (risingRules b T) e
 
 -- so its record is good, its piece begins at the flow's offset, and ends at one
 pub call-passes : (R : List ℕ) (c : Call) → verdict (asked c .rules R) ≡ 0

@@ -2,7 +2,7 @@
 use Prim.Native.Nat.{ℕ}
 use mathlib.Core.Path.{_≡_, refl, ap₂}
 use mathlib.Core.Bool.{Bool, true, false, _&&_}
-use mathlib.Core.List.{List, [], _∷_}
+use mathlib.Core.List.{List, [], _∷_, _++_}
 use lib.Count.{onesIn}
 use lib.Dec.{T, eqb, eqb→eq}
 use Rattle.sets.specs.Set.{num, digits, holds, join, within, insert, size, members, setAt, before}
@@ -14,9 +14,9 @@ use Rattle.feeds.specs.Engine.{run, costs, due, pairsAt, told, consumed, ended,
 use Rattle.feeds.specs.Opening.{opening}
 use Rattle.flows.specs.Flow.{flowBytes, badFlow}
 use Rattle.plain.specs.Plain.{openPairs}
-use Rattle.tables.specs.Table.{largest, part, row, splitSet, slots, usedSlots, takenSlots, allBelow, joined, badClasses, badCount, badRowsLength, badLengths, goodSlots, inOrder, badSplits, badRows, badUnion, noStartSplit, notClosed, tableRefusal, splitOf}
+use Rattle.tables.specs.Table.{largest, part, row, splitSet, slots, usedSlots, takenSlots, allBelow, joined, badClasses, badCount, badRowsLength, badLengths, goodSlots, inOrder, unordered, badSplits, badRows, badUnion, noStartSplit, notClosed, tableRefusal, splitOf}
 use Rattle.splits.specs.Split.{taken, stuck, splitStep}
-use Rattle.demands.specs.Examples.{Row, Agree, feedRows, openedRow, acceptedRow, acceptedRow₀, boundRow, closedRow, startRow, loudRow, examples}
+use Rattle.demands.specs.Examples.{Row, Agree, feedRows, openedRow, acceptedRow, acceptedRow₀, boundRow, closedRow, startRow, loudRow, orderRows, examples}
 
 -- rows are compared by computing; what computes as the same is the same
 abbrev same : List ℕ → List ℕ → Bool
@@ -47,13 +47,17 @@ agree-sound (r ∷ rs) t =
     let w = both (same (r .0) (r .1)) (agree rs) t in
     (same-sound (r .0) (r .1) (w .0), agree-sound rs (w .1))
 
+agree-append : (rs qs : List Row) → Agree rs → Agree qs → Agree (rs ++ qs)
+agree-append [] qs p q = q
+agree-append (r ∷ rs) qs p q = (p .0, agree-append rs qs (p .1) q)
+
 -- what the rows compute with: a line that names one of these opens all that its own line names
 steps : ℕ
 unfolding num digits holds join within insert size onesIn members setAt before some every first gather verdict goodRecord badLength badRecord noStart start step accepted namedBy
 steps = 0
 
 checks : ℕ
-unfolding largest part row splitSet slots usedSlots takenSlots allBelow rising joined badClasses badCount badRowsLength badLengths goodSlots inOrder badSplits badRows badUnion noStartSplit notClosed tableRefusal
+unfolding largest part row splitSet slots usedSlots takenSlots allBelow rising joined badClasses badCount badRowsLength badLengths goodSlots inOrder unordered badSplits badRows badUnion noStartSplit notClosed tableRefusal
 checks = 0
 
 feeds : ℕ
@@ -89,6 +93,10 @@ feeds-hold : T (agree feedRows)
 unfolding steps checks feeds
 feeds-hold = tt
 
+orders-hold : T (agree orderRows)
+unfolding steps checks feeds
+orders-hold = tt
+
 opened-holds : T (same (openedRow .0) (openedRow .1))
 unfolding steps feeds
 opened-holds = tt
@@ -112,7 +120,7 @@ examples-hold = (
           same-sound (closedRow .0) (closedRow .1) closed-holds,
           (
             same-sound (startRow .0) (startRow .1) start-holds,
-            (same-sound (loudRow .0) (loudRow .1) loud-holds, agree-sound feedRows feeds-hold),
+            (same-sound (loudRow .0) (loudRow .1) loud-holds, agree-append feedRows orderRows (agree-sound feedRows feeds-hold) (agree-sound orderRows orders-hold)),
           ),
         ),
       ),

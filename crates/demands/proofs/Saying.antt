@@ -24,12 +24,12 @@ use Rattle.feeds.specs.Engine.{room}
 use Rattle.feeds.specs.Opening.{noRoom}
 use Rattle.plain.specs.Plain.{openPairs, openRules}
 use Rattle.plain.proofs.Opening.{openPairs-long}
-use Rattle.tables.specs.Table.{Table, partCount, splitCount, slots, usedSlots, takenSlots, goodSlots, inOrder, badSplits, badRows, badUnion, noStartSplit, notClosed, sizeRules, tableRules}
+use Rattle.tables.specs.Table.{Table, partCount, splitCount, slots, usedSlots, takenSlots, goodSlots, inOrder, unordered, badSplits, badRows, badUnion, noStartSplit, notClosed, sizeRules, risingRules, tableRules}
 use Rattle.tables.proofs.Accepted.{Slots-good}
 use Rattle.tables.proofs.Joined.{below-exactly}
-use Rattle.tables.proofs.Checked.{bad-bound, bad-classes, bad-rows-length, bad-lengths, bad-splits, bad-rows, bad-union, no-start-split, not-closed, slots-exactly, in-order-first, in-order-exactly}
+use Rattle.tables.proofs.Checked.{bad-bound, bad-classes, bad-rows-length, bad-lengths, bad-splits, bad-rows, bad-union, no-start-split, not-closed, slots-exactly, in-order-first, in-order-exactly, unordered-exactly}
 use Rattle.splits.specs.Split.{splitRules}
-use Rattle.demands.specs.Words.{Row, None, First, InWords, listWords, openingRows, openWords, Foreign, flowWords, feedWords, SlotsGood, Rises, sizeWords, entryWords, tableWords, splitWords}
+use Rattle.demands.specs.Words.{Row, None, First, InWords, listWords, openingRows, openWords, Foreign, flowWords, feedWords, SlotsGood, Rises, sizeWords, entryWords, tableWords, orderWords, splitWords}
 
 -- ---- a table of rules and a table of words
 
@@ -166,6 +166,16 @@ slots-words n b ss = (there, back)
     back : SlotsGood n b ss → Slots-good n b ss
     back g = record { named = below-exactly n (usedSlots ss) .1 (g .named); taken = sym (g .taken); rise = rising-exactly (usedSlots ss) .1 (up (usedSlots ss) (g .rise)); few = g .few }
 
+-- a set that does not rise
+order-fails : (S : List ℕ) (i : ℕ) → suc i < splitCount S → inOrder S (suc i) ≡ false ↔ (Rises S i → ⊥)
+order-fails S i h = fails (Rises S i) (inOrder S (suc i)) (in-order-exactly S i h)
+
+-- some set does not come after the one before
+order-words : (S : List ℕ) → unordered S ≡ true ↔ ((i : ℕ) × (suc i < splitCount S) × (Rises S i → ⊥))
+order-words S =
+    via (unordered-exactly S)
+    (λ w. (w .0, w .1, order-fails S (w .0) (w .1) .0 (w .2)), λ w. (w .0, w .1, order-fails S (w .0) (w .1) .1 (w .2)))
+
 module _ (b : ℕ) (T : Table) where
   size-says : Says (sizeRules b T) (sizeWords b T)
   size-says = (refl, bad-bound b, (refl, via (bad-lengths T) (sides (sides (sides (bad-classes (T .classes)) same) same) (bad-rows-length T)), tt))
@@ -185,9 +195,6 @@ module _ (b : ℕ) (T : Table) where
       slots-fail : (i : ℕ) → goodSlots (partCount (T .parts)) b (slots (T .splits) i) ≡ false ↔ (SlotsGood (partCount (T .parts)) b (slots (T .splits) i) → ⊥)
       slots-fail i = fails (SlotsGood (partCount (T .parts)) b (slots (T .splits) i)) (goodSlots (partCount (T .parts)) b (slots (T .splits) i)) (via (slots-exactly (partCount (T .parts)) b (slots (T .splits) i)) (slots-words (partCount (T .parts)) b (slots (T .splits) i)))
 
-      order-fails : (i : ℕ) → suc i < splitCount (T .splits) → inOrder (T .splits) (suc i) ≡ false ↔ (Rises (T .splits) i → ⊥)
-      order-fails i h = fails (Rises (T .splits) i) (inOrder (T .splits) (suc i)) (in-order-exactly (T .splits) i h)
-
       Bad : Type 0
       Bad =
           ((i : ℕ) × (i < splitCount (T .splits)) × (SlotsGood (partCount (T .parts)) b (slots (T .splits) i) → ⊥))
@@ -195,13 +202,13 @@ module _ (b : ℕ) (T : Table) where
 
       later : (i : ℕ) → i < splitCount (T .splits) → inOrder (T .splits) i ≡ false → Bad
       later zero h e = absurd (true≢false (sym (in-order-first (T .splits)) ∙ e))
-      later (suc i) h e = inr (i, h, order-fails i h .0 e)
+      later (suc i) h e = inr (i, h, order-fails (T .splits) i h .0 e)
 
       there : (i : ℕ) × (i < splitCount (T .splits)) × ((goodSlots (partCount (T .parts)) b (slots (T .splits) i) ≡ false) ⊎ (inOrder (T .splits) i ≡ false)) → Bad
       there w = choose (w .2) (λ e. inl (w .0, w .1, slots-fail (w .0) .0 e)) (λ e. later (w .0) (w .1) e)
 
       back : Bad → (i : ℕ) × (i < splitCount (T .splits)) × ((goodSlots (partCount (T .parts)) b (slots (T .splits) i) ≡ false) ⊎ (inOrder (T .splits) i ≡ false))
-      back s = choose s (λ w. (w .0, w .1, inl (slots-fail (w .0) .1 (w .2)))) (λ w. (suc (w .0), w .1, inr (order-fails (w .0) (w .1) .1 (w .2))))
+      back s = choose s (λ w. (w .0, w .1, inl (slots-fail (w .0) .1 (w .2)))) (λ w. (suc (w .0), w .1, inr (order-fails (T .splits) (w .0) (w .1) .1 (w .2))))
 
   table-says : (L : List ℕ) → Says (tableRules L b T) (tableWords L b T)
   table-says L =
@@ -212,8 +219,11 @@ module _ (b : ℕ) (T : Table) where
       entries : List Rule
       entries = (9, badSplits b T) ∷ (10, badRows L T) ∷ (11, badUnion T) ∷ (12, noStartSplit L T) ∷ (13, notClosed L T) ∷ []
 
+  rising-says : Says (risingRules b T) (sizeWords b T ++ orderWords T)
+  rising-says = says-append (sizeRules b T) ((9, unordered (T .splits)) ∷ []) (sizeWords b T) (orderWords T) size-says (refl, order-words (T .splits), tt)
+
   split-says : (L R : List ℕ) (at : ℕ) (piece : List ℕ) → Says (splitRules L b T R at piece) (splitWords L b T R at piece)
-  split-says L R at piece = says-append (feedRules L R at piece) (sizeRules b T) (feedWords L R at piece) (sizeWords b T) (feed-says L R at piece) size-says
+  split-says L R at piece = says-append (feedRules L R at piece) (risingRules b T) (feedWords L R at piece) (sizeWords b T ++ orderWords T) (feed-says L R at piece) rising-says
 
 -- ---- each entry point
 

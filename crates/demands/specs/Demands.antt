@@ -10,14 +10,14 @@ use Rattle.rules.specs.Rules.{verdict, number, Given, Rises, Refuses}
 use Rattle.lists.specs.List.{listRules, listRefusal}
 use Rattle.lists.specs.Automaton.{start, accepted, named}
 use Rattle.feeds.specs.Pairs.{Pair, Before}
-use Rattle.feeds.specs.Engine.{Engine, Outcome, run, costs, told, amount, room}
+use Rattle.feeds.specs.Engine.{Engine, Outcome, run, costs, told, amount, room, feed}
 use Rattle.flows.specs.Flow.{flowLayout, frontierOf, offsetOf, rowsOf, badFlow, otherStart, feedRules}
 use Rattle.feeds.specs.Calls.{Bytes, recordAfter, allTold, allBytes}
 use Rattle.feeds.specs.Opening.{Opening}
 use Rattle.plain.specs.Plain.{plain, opened, openPairs, pairsOf, openRules, openFlow, plainFeed}
-use Rattle.tables.specs.Table.{Table, tableRules, tableRefusal}
+use Rattle.tables.specs.Table.{Table, sizeRules, tableRules, tableRefusal}
 use Rattle.splits.specs.Split.{taken, stuck, split, splitRules, splitFeed}
-use Rattle.demands.specs.Words.{None, First, InWords, listWords, openWords, feedWords, tableWords, splitWords, Stuck}
+use Rattle.demands.specs.Words.{None, First, InWords, listWords, openWords, feedWords, tableWords, AllRise, splitWords, Stuck}
 use Rattle.demands.specs.Calls.{byList, byTable, Checked, Call, asked, allAsked, outcome}
 
 -- ==== Demand 1: each refusal has a number, is given exactly when the rules say, and changes nothing in the buffers;
@@ -75,8 +75,8 @@ pub record Demand1 : Type 0 where
   -- the table check: 1 to 3 and 7 to 13
   pub tables : (L : List ℕ) (b : ℕ) (T : Table) → Refuses (tableRules L b T) (tableRefusal L b T)
   pub tables-said : (L : List ℕ) (b : ℕ) (T : Table) → InWords (tableWords L b T) (tableRefusal L b T)
-  -- the split feed: 1 to 8
-  pub splits : (L : List ℕ) (b : ℕ) (T : Table) (R : List ℕ) (at : ℕ) (piece out : List ℕ) (i : ℕ) → i < 8
+  -- the split feed: 1 to 9
+  pub splits : (L : List ℕ) (b : ℕ) (T : Table) (R : List ℕ) (at : ℕ) (piece out : List ℕ) (i : ℕ) → i < 9
       → (splitFeed L b T R at piece out .refusal ≡ number (splitRules L b T R at piece) i) ↔ Given (splitRules L b T R at piece) i
   pub splits-said : (L : List ℕ) (b : ℕ) (T : Table) (R : List ℕ) (at : ℕ) (piece out : List ℕ) (n : ℕ) → (n ≡ 0 → ⊥) → (n ≡ 14 → ⊥)
       → (splitFeed L b T R at piece out .refusal ≡ n) ↔ First (splitWords L b T R at piece) n
@@ -87,6 +87,9 @@ pub record Demand1 : Type 0 where
       → (splitFeed L b T R at piece out .refusal ≡ 0)
       ↔ ((verdict (splitRules L b T R at piece) ≡ 0)
       × (splitFeed L b T R at piece out .bytes < length piece → stuck b T (run (split L b T) (frontierOf R) (take (splitFeed L b T R at piece out .bytes) piece)) ≡ false))
+  -- where the splits' sets rise, the outcome is that of the rules 1 to 8, without 9
+  pub splits-rising : (L : List ℕ) (b : ℕ) (T : Table) (R : List ℕ) (at : ℕ) (piece out : List ℕ) → AllRise (T .splits)
+      → splitFeed L b T R at piece out ≡ feed (feedRules L R at piece ++ sizeRules b T) (split L b T) flowLayout R piece out
   -- a frontier is stuck exactly when 14 says; none is that stands before a byte consumed
   pub stuck-said : (b : ℕ) (T : Table) (F : ℕ) → stuck b T F ≡ true ↔ Stuck b T F
   pub halts-first : (L : List ℕ) (b : ℕ) (T : Table) (R : List ℕ) (at : ℕ) (piece out : List ℕ) (j : ℕ) → j < splitFeed L b T R at piece out .bytes
@@ -210,6 +213,8 @@ activeParts L T = record { next = plain L .next; alerts = plain L .alerts; cost 
 
 -- of the opening o and the calls that follow
 pub record Demand3 (L : List ℕ) (b : ℕ) (T : Table) (o : Opening) (cs : List Call) : Type 0 where
+  -- a call through this table is never refused with 9: its splits' sets rise
+  pub never-9 : (Q : List ℕ) (c : Call) → c .via ≡ byTable b T → outcome Q c .refusal ≡ 9 → ⊥
   -- no call ends in 14
   pub never-14 : Each (λ Q c. outcome Q c .refusal ≡ 14 → ⊥) (o .saved) cs
   -- the pairs told are those of demand 2's definition, from offset 0 on

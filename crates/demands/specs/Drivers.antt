@@ -116,9 +116,9 @@ pub record FeedKept (L R : List ℕ) (s : Seen) (Q : List ℕ) : Type 0 where
 abbrev pub endsStuck : List ℕ → ℕ → Table → List ℕ → Seen → Bool
 endsStuck L b T R s = stuck b T (run (split L b T) (frontierOf R) (take (s .fed .bytes) (s .piece)))
 
--- the split feed: 1 to 8 so, and 14 where bytes are left and the frontier after those consumed is stuck; what it leaves then is what the bytes before it leave
+-- the split feed: 1 to 9 so, and 14 where bytes are left and the frontier after those consumed is stuck; what it leaves then is what the bytes before it leave
 pub record SplitFeedKept (L : List ℕ) (b : ℕ) (T : Table) (R : List ℕ) (s : Seen) (Q : List ℕ) : Type 0 where
-  pub refuses : (i : ℕ) → i < 8 → (s .fed .refusal ≡ number (splitRules L b T R (s .at) (s .piece)) i) ↔ Given (splitRules L b T R (s .at) (s .piece)) i
+  pub refuses : (i : ℕ) → i < 9 → (s .fed .refusal ≡ number (splitRules L b T R (s .at) (s .piece)) i) ↔ Given (splitRules L b T R (s .at) (s .piece)) i
   pub unchanged : (s .fed .refusal ≡ 0 → ⊥) → (s .fed .refusal ≡ 14 → ⊥) → Untouched R s Q
   pub passes : (s .fed .refusal ≡ 0)
       ↔ ((verdict (splitRules L b T R (s .at) (s .piece)) ≡ 0) × (s .fed .bytes < length (s .piece) → endsStuck L b T R s ≡ false))

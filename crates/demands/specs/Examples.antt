@@ -239,6 +239,35 @@ feedRows =
     ∷ (answered (splitABAB 1 (s0 ++ (s01 ++ s02)) 4), 14 ∷ 1 ∷ 0 ∷ 0 ∷ [])
     ∷ []
 
+-- T with its splits {0,1} and {0,2} exchanged; the split {0} alone with slots 7, 3, 900 and 1; a split {8}, whose bytes come before those of {0}
+abbrev pub exchanged : List ℕ
+exchanged = s0 ++ (s02 ++ s01)
+
+abbrev pub wild : List ℕ
+wild = setBytes 1 ++ (digits 8 2 7 ++ (digits 8 2 3 ++ (digits 8 2 900 ++ digits 8 2 1)))
+
+abbrev pub s8 : List ℕ
+s8 = splitOf₂ 256 0 65535
+
+-- the order of the splits, tested at the start of each split feed
+abbrev pub orderRows : List Row
+orderRows =
+    -- exchanged: 9, of the empty piece too, which is not all consumed; 5 and 7 come before 9, and 9 before the 14 of a frontier that is no split
+    (answered (splitABAB 2 exchanged 2), 9 ∷ 0 ∷ 0 ∷ 0 ∷ [])
+    ∷ (answered (fed (byTable 2 (tableOf exchanged)) (opened L) 0 [] 2), 9 ∷ 0 ∷ 0 ∷ 0 ∷ [])
+    ∷ (answered (fed (byTable 2 (tableOf exchanged)) (opened L) 1 (a ∷ []) 2), 5 ∷ 0 ∷ 0 ∷ 0 ∷ [])
+    ∷ (answered (splitABAB 5 exchanged 2), 7 ∷ 0 ∷ 0 ∷ 0 ∷ [])
+    ∷ (answered (splitABAB 2 (s02 ++ s01) 2), 9 ∷ 0 ∷ 0 ∷ 0 ∷ [])
+    -- a set twice: 9
+    ∷ (answered (splitABAB 2 (s0 ++ (s0 ++ (s01 ++ s02))) 2), 9 ∷ 0 ∷ 0 ∷ 0 ∷ [])
+    -- slots are not looked at: no 9, and 14 at the byte
+    ∷ (answered (splitABAB 2 wild 2), 14 ∷ 0 ∷ 0 ∷ 0 ∷ [])
+    ∷ (answered (fed (byTable 2 (tableOf wild)) (opened L) 0 [] 2), 0 ∷ 0 ∷ 0 ∷ 1 ∷ [])
+    -- {8} before {0} rises, though its number is larger; behind it: 9
+    ∷ (answered (splitABAB 2 (s8 ++ (s0 ++ (s01 ++ s02))) 2), 0 ∷ 4 ∷ 2 ∷ 1 ∷ [])
+    ∷ (answered (splitABAB 2 (s0 ++ (s8 ++ (s01 ++ s02))) 2), 9 ∷ 0 ∷ 0 ∷ 0 ∷ [])
+    ∷ []
+
 -- opening on L₀ with five words of 9: the pairs (3, 0) and (5, 0), and the fifth word stays
 abbrev pub openedRow : Row
 openedRow = (openAnswered (begin full 5) ++ begin full 5 .words, 0 ∷ 2 ∷ 3 ∷ 0 ∷ 5 ∷ 0 ∷ 9 ∷ [])
@@ -266,4 +295,4 @@ loudRow = (tableRefusal loud 2 T₃ ∷ [], 10 ∷ [])
 
 -- the one table
 abbrev pub examples : List Row
-examples = openedRow ∷ acceptedRow ∷ acceptedRow₀ ∷ boundRow ∷ closedRow ∷ startRow ∷ loudRow ∷ feedRows
+examples = openedRow ∷ acceptedRow ∷ acceptedRow₀ ∷ boundRow ∷ closedRow ∷ startRow ∷ loudRow ∷ (feedRows ++ orderRows)

@@ -88,6 +88,10 @@ pub record SlotsGood (n b : ℕ) (ss : List ℕ) : Type 0 where
 abbrev pub Rises : List ℕ → ℕ → Type 0
 Rises S i = Smaller setSize (λ j. getD S (splitSize * i + j) 0) (λ j. getD S (splitSize * suc i + j) 0)
 
+-- the sets of the splits rise
+abbrev pub AllRise : List ℕ → Type 0
+AllRise S = (i : ℕ) → suc i < splitCount S → Rises S i
+
 -- F is the set of no split
 abbrev pub NoSplit : List ℕ → ℕ → Type 0
 NoSplit S F = (j : ℕ) → j < splitCount S → splitSet S j ≡ F → ⊥
@@ -118,10 +122,13 @@ entryWords L b T = (
 abbrev pub tableWords : List ℕ → ℕ → Table → List Row
 tableWords L b T = listWords L ++ (sizeWords b T ++ entryWords L b T)
 
--- ---- the split feed: 1 to 8; and 14 at a frontier
+-- ---- the split feed: 1 to 9, 9 for the sets alone; and 14 at a frontier
+
+abbrev pub orderWords : Table → List Row
+orderWords T = (9, (i : ℕ) × (suc i < splitCount (T .splits)) × (Rises (T .splits) i → ⊥)) ∷ []
 
 abbrev pub splitWords : List ℕ → ℕ → Table → List ℕ → ℕ → List ℕ → List Row
-splitWords L b T R k piece = feedWords L R k piece ++ sizeWords b T
+splitWords L b T R k piece = feedWords L R k piece ++ (sizeWords b T ++ orderWords T)
 
 -- no split has the set F, or a slot taken names no part, or more than b are taken
 abbrev pub Stuck : ℕ → Table → ℕ → Type 0

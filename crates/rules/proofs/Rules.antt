@@ -142,6 +142,12 @@ pub last : (k : ℕ) {b : Bool} → b ≡ false → verdict ((k, b) ∷ []) ≡ 
 unfolding verdict
 last k e = rw e
 
+-- a rule at the end that does not apply changes nothing
+pub verdict-end : (rs : List Rule) (k : ℕ) {b : Bool} → b ≡ false → verdict (rs ++ ((k, b) ∷ [])) ≡ verdict rs
+unfolding verdict
+verdict-end [] k e = rw e
+verdict-end (r ∷ rs) k e = ap (λ (n : ℕ). cond (r .1) (r .0) n) (verdict-end rs k e)
+
 -- two tables in a row: the first one's refusal, where it has one
 pub verdict-first : (xs ys : List Rule) (k : ℕ) → verdict xs ≡ suc k → verdict (xs ++ ys) ≡ suc k
 unfolding verdict

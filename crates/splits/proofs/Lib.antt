@@ -3,4 +3,5 @@ pub mod Exact
 pub mod Taking
 pub mod Stepping
 pub mod Feeding
+pub mod Rising
 pub mod Unique

@@ -1,16 +1,15 @@
--- The split step by the first split whose set is the frontier: the search for it, where it halts, what it gives, and what it costs. Assumes nothing.
-use Prim.Native.Nat.{ℕ, _+_, _≤_, _<_}
+-- The split step by the first split whose set is the frontier: where it halts, what it gives, and what it costs. Assumes nothing.
+use Prim.Native.Nat.{ℕ, _≤_, _<_}
 use mathlib.Core.Path.{_≡_, refl, sym, ap, _∙_}
 use mathlib.Core.Bool.{Bool, true, false, _||_, not, true≢false}
 use mathlib.Core.List.{List}
 use mathlib.Core.Logic.{_↔_}
-use native.Mathlib.Numerals.{add-one}
 use lib.ListN.{length, getD}
 use lib.Dec.{ltb, leb, eqb}
 use borrow.Author.Tests.{eqb-true, le-leb, lt-leb}
 use Rattle.sets.specs.Set.{holds, setOf}
-use Rattle.rules.specs.Scan.{some, first}
-use Rattle.rules.proofs.Scanning.{neither, first-at, first-none, first-found}
+use Rattle.rules.specs.Scan.{first}
+use Rattle.rules.proofs.Scanning.{neither, first-found}
 use Rattle.tables.specs.Table.{Table, partCount, splitCount, row, splitSet, slots, takenSlots, allBelow, joined, isSplit, splitOf}
 use Rattle.tables.proofs.Joined.{joined-exactly}
 use Rattle.tables.proofs.Found.{split-exactly}
@@ -19,30 +18,6 @@ use Rattle.splits.specs.Split.{taken, stuck, splitStep, split}
 use Rattle.splits.specs.declared.Taken.{Taken}
 use Rattle.splits.specs.Taken.{TakesSlots, TakesStep}
 use Rattle.splits.proofs.Taking.{taken-most}
-
--- ---- the search
-
--- none of the first i splits has the set F
-unfoldable pub Missed : List ℕ → ℕ → ℕ → Type 0
-Missed S F i = some i (λ j. eqb (splitSet S j) F) ≡ false
-
-pub missed-none : (S : List ℕ) (F : ℕ) → Missed S F 0
-unfolding Missed some
-missed-none S F = refl
-
-module _ (S : List ℕ) (F i : ℕ) (m : Missed S F i) where
-  pub missed-more : eqb (splitSet S i) F ≡ false → Missed S F (i + 1)
-  unfolding Missed some
-  missed-more e = rw (add-one i, m, e)
-
-  pub found-at : i < splitCount S → eqb (splitSet S i) F ≡ true → i ≡ splitOf S F
-  unfolding Missed splitOf
-  found-at l e = sym (first-at (splitCount S) (λ j. eqb (splitSet S j) F) i l m e)
-
-  pub found-none : i ≡ splitCount S → i ≡ splitOf S F
-  unfolding Missed splitOf
-  found-none e =
-      sym (ap (λ (n : ℕ). first n (λ j. eqb (splitSet S j) F)) (sym e) ∙ first-none i (λ j. eqb (splitSet S j) F) m)
 
 -- where some split has the set F, the search gives one that has it
 pub found-split : (S : List ℕ) (F : ℕ) → isSplit S F ≡ true → (splitOf S F < splitCount S) × (splitSet S (splitOf S F) ≡ F)

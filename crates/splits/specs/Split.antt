@@ -8,7 +8,7 @@ use Rattle.rules.specs.Rules.{Rule}
 use Rattle.lists.specs.Automaton.{accepted}
 use Rattle.feeds.specs.Engine.{Engine, Outcome, feed}
 use Rattle.flows.specs.Flow.{flowLayout, feedRules}
-use Rattle.tables.specs.Table.{Table, partCount, splitCount, row, slots, takenSlots, allBelow, joined, splitOf, sizeRules}
+use Rattle.tables.specs.Table.{Table, partCount, splitCount, row, slots, takenSlots, allBelow, joined, splitOf, risingRules}
 
 -- the slots of the split that F takes, up to the first unused one
 unfoldable pub taken : Table → ℕ → List ℕ
@@ -35,10 +35,10 @@ split L b T =
       halts = stuck b T;
     }
 
--- ---- the split feed: 1 to 8, then the longest front of the piece, then 14 where the next byte halts
+-- ---- the split feed: 1 to 9, then the longest front of the piece, then 14 where the next byte halts
 
 abbrev pub splitRules : List ℕ → ℕ → Table → List ℕ → ℕ → List ℕ → List Rule
-splitRules L b T R at piece = feedRules L R at piece ++ sizeRules b T
+splitRules L b T R at piece = feedRules L R at piece ++ risingRules b T
 
 abbrev pub splitFeed : List ℕ → ℕ → Table → List ℕ → ℕ → List ℕ → List ℕ → Outcome
 splitFeed L b T R at piece out = feed (splitRules L b T R at piece) (split L b T) flowLayout R piece out

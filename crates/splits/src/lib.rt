@@ -4,14 +4,16 @@ use flows::Ran;
 use flows::Told;
 use sets::StateSet;
 ghost use mathlib.Core.Path.{_≡_};
+ghost use mathlib.Core.Bool.{true};
 ghost use Prim.Native.Nat.{_+_, _*_, _≤_, _<_};
 ghost use lib.ListN.{length};
 ghost use Rattle.sets.specs.Set.{setSize, setOf};
+ghost use Rattle.rules.specs.Scan.{every};
 ghost use Rattle.rules.specs.Rules.{verdict};
 ghost use Rattle.feeds.specs.Engine.{mostOffset};
 ghost use Rattle.feeds.specs.Fed.{Answers};
 ghost use Rattle.flows.proofs.Ending.{Leaves};
-ghost use Rattle.tables.specs.Table.{table, classCount, partCount, splitCount, rowAt, slots, takenSlots, splitOf};
+ghost use Rattle.tables.specs.Table.{table, classCount, partCount, splitCount, rowAt, slots, takenSlots, inOrder};
 ghost use Rattle.splits.specs.Split.{split, splitRules, splitFeed};
 ghost use Rattle.splits.specs.Taken.{TakesSlots, TakesStep};
 
@@ -23,19 +25,6 @@ struct Taken {
     halts: bool,
     rows: u64,
     next: StateSet,
-}
-
-// The first split whose set is f; the number of splits where there is none.
-fn find(splits: &[u8], f: StateSet) -> usize
-    ensures { λ r. ⌜ r ≡ splitOf (now (splits .entry)) (setOf f) ⌝ }
-{
-    let n = tables::split_count(splits);
-    for i in 0..n {
-        if f.same_whole(splits, tables::SPLIT_SIZE * i) {
-            return i;
-        }
-    }
-    n
 }
 
 // Takes the slots of split i up to the first unused one, where there are n parts and k classes: the rows of class q.
@@ -80,10 +69,11 @@ fn split_step(
     f: StateSet,
     c: u8,
 ) -> Taken
-    requires { ⌜ (k ≡ classCount (now classes)) × (setSize * (partCount (now parts) * classCount (now classes)) ≤ length (now rows)) ⌝ }
+    requires { ⌜ (k ≡ classCount (now classes)) × (setSize * (partCount (now parts) * classCount (now classes)) ≤ length (now rows))
+        × (every (splitCount (now splits)) (inOrder (now splits)) ≡ true) ⌝ }
     ensures { λ t. ⌜ TakesStep bound (table (now (classes .entry)) (now (parts .entry)) (now (rows .entry)) (now (splits .entry))) (setOf f) c t ⌝ }
 {
-    let i = find(splits, f);
+    let i = tables::find_sorted(splits, f);
     if tables::split_count(splits) <= i {
         return Taken {
             halts: true,
@@ -102,7 +92,7 @@ fn split_step(
     }
 }
 
-// The check of a feed: the number of the first of the rules 1 to 8 that refuses it, 0 where none does.
+// The check of a feed: the number of the first of the rules 1 to 9 that refuses it, 0 where none does.
 fn feed_refusal(
     list: &[u8],
     bound: u64,
@@ -122,7 +112,7 @@ fn feed_refusal(
     if met != rules::PASSED {
         return met;
     }
-    tables::size_refusal(bound, classes, parts, rows, splits)
+    tables::rising_refusal(bound, classes, parts, rows, splits)
 }
 
 // Runs the split step from a frontier at an offset over the bytes that it moves and whose pairs all fit the words.
@@ -138,7 +128,8 @@ fn feed_bytes(
     piece: &[u8],
     pairs: &mut [u32],
 ) -> Ran
-    requires { ⌜ (offset + length (now piece) ≤ mostOffset) × (setSize * (partCount (now parts) * classCount (now classes)) ≤ length (now rows)) ⌝ }
+    requires { ⌜ (offset + length (now piece) ≤ mostOffset) × (setSize * (partCount (now parts) * classCount (now classes)) ≤ length (now rows))
+        × (every (splitCount (now splits)) (inOrder (now splits)) ≡ true) ⌝ }
     ensures { λ r. ⌜ Leaves (split (now (list .entry)) bound (table (now (classes .entry)) (now (parts .entry)) (now (rows .entry)) (now (splits .entry))))
         (setOf first) offset (now (piece .entry)) (now (pairs .entry)) r (now (pairs .exit)) ⌝ }
 {

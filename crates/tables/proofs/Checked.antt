@@ -19,7 +19,7 @@ use Rattle.lists.specs.Automaton.{start, step}
 use Rattle.rules.proofs.Scanning.{choose, either-words, equal-words, differ-words, over-words, length-words, some-none, none-some, refuses-exactly}
 use Rattle.rules.proofs.Rules.{refuses}
 use Rattle.tables.specs.Table.{Table, byteValues, mostClass, mostParts, mostSplits, mostBound, splitSize, largest, classCount, partCount, splitCount, part, row, splitSet, slots, usedSlots, takenSlots, joined, isSplit}
-use Rattle.tables.specs.Table.{badBound, badClasses, badCount, badRowsLength, badLengths, goodSlots, inOrder, badSplits, badRows, badUnion, noStartSplit, notClosed, tableRules, tableRefusal}
+use Rattle.tables.specs.Table.{badBound, badClasses, badCount, badRowsLength, badLengths, goodSlots, inOrder, unordered, badSplits, badRows, badUnion, noStartSplit, notClosed, tableRules, tableRefusal}
 use Rattle.tables.proofs.Entries.{largest-at}
 use Rattle.tables.proofs.Accepted.{Slots-good, slots-said, accepted, accepts}
 
@@ -162,6 +162,18 @@ module _ (b : ℕ) (T : Table) where
       scan-words (splitCount (T .splits)) (λ i. goodSlots (partCount (T .parts)) b (slots (T .splits) i) && inOrder (T .splits) i)
       (λ i. (goodSlots (partCount (T .parts)) b (slots (T .splits) i) ≡ false) ⊎ (inOrder (T .splits) i ≡ false))
       (λ i. and-fails (goodSlots (partCount (T .parts)) b (slots (T .splits) i)) (inOrder (T .splits) i))
+
+-- the splits are unordered exactly when some set does not come after the one before
+pub unordered-exactly : (S : List ℕ) → unordered S ≡ true ↔ ((i : ℕ) × (suc i < splitCount S) × (inOrder S (suc i) ≡ false))
+unfolding unordered
+unordered-exactly S = (λ e. later (w .0 e), λ x. w .1 (suc (x .0), x .1, x .2))
+  where
+    w : not (every (splitCount S) (inOrder S)) ≡ true ↔ ((i : ℕ) × (i < splitCount S) × (inOrder S i ≡ false))
+    w = scan-words (splitCount S) (inOrder S) (λ i. inOrder S i ≡ false) (λ i. (λ e. e, λ e. e))
+
+    later : (i : ℕ) × (i < splitCount S) × (inOrder S i ≡ false) → (i : ℕ) × (suc i < splitCount S) × (inOrder S (suc i) ≡ false)
+    later (zero, h, e) = absurd (true≢false (sym (in-order-first S) ∙ e))
+    later (suc i, h, e) = (i, h, e)
 
 -- ---- 10 to 13
 

@@ -1,17 +1,19 @@
 -- A search by halving among strings that rise: what its loop keeps, and what it finds. Assumes nothing.
-use Prim.Native.Nat.{ℕ, zero, suc, _+_, _*_, _≤_, _<_}
-use mathlib.Core.Path.{_≡_, refl, sym, ap, _∙_}
-use mathlib.Core.Bool.{Bool, true, false, true≢false}
+use Prim.Native.Nat.{ℕ, zero, suc, _+_, _*_, _^_, _≤_, _<_}
+use mathlib.Core.Path.{_≡_, sym, ap, _∙_}
+use mathlib.Core.Bool.{true, false, true≢false}
 use mathlib.Core.List.{List}
 use native.Mathlib.Omega.{arith}
 use native.Mathlib.Nat.{lt-of-not-le}
 use native.Mathlib.Decide.{decLt}
+use lib.ListN.{length}
 use lib.Dec.{eqb}
-use borrow.Author.Tests.{ne-eqb}
-use Rattle.sets.specs.Set.{setBytes, bytesAt, before}
-use Rattle.sets.proofs.Laws.{Small}
-use Rattle.sets.proofs.Order.{before-irrefl, before-trans}
-use Rattle.rules.specs.Scan.{some, every, first}
+use borrow.Author.Tests.{eq-eqb, ne-eqb}
+use Rattle.sets.specs.Set.{setSize, num, setBytes, bytesAt, before, compare}
+use Rattle.sets.proofs.Laws.{Small, num-digits, length-digits}
+use Rattle.sets.proofs.Sets.{set-at-lt}
+use Rattle.sets.proofs.Order.{before-irrefl, before-trans, compare-exactly, compare-rest}
+use Rattle.rules.specs.Scan.{every}
 use Rattle.rules.proofs.Scanning.{below-suc, choose, some-none, every-at, first-at, first-none}
 use Rattle.tables.specs.Table.{splitSize, splitCount, splitSet, splitOf, inOrder}
 use Rattle.tables.proofs.Entries.{split-bytes}
@@ -31,16 +33,23 @@ pub splits-rise : (S : List ℕ) → Small 8 S → every (splitCount S) (inOrder
     → before (setBytes (splitSet S i)) (setBytes (splitSet S j)) ≡ true
 splits-rise S s o i j l h = rw (split-bytes S i s (omega arith), split-bytes S j s h) (rise S o i j l h)
 
--- every split below lo comes before F, and none from hi on does
+-- every split below lo comes before F, and F before every one from hi on
 pub record Between (S : List ℕ) (F lo hi : ℕ) : Type 0 where
   pub order : lo ≤ hi
   pub most : hi ≤ splitCount S
   pub below : (i : ℕ) → i < lo → before (setBytes (splitSet S i)) (setBytes F) ≡ true
-  pub above : (i : ℕ) → hi ≤ i → i < splitCount S → before (setBytes (splitSet S i)) (setBytes F) ≡ false
+  pub above : (i : ℕ) → hi ≤ i → i < splitCount S → before (setBytes F) (setBytes (splitSet S i)) ≡ true
 
 pub between-start : (S : List ℕ) (F n : ℕ) → n ≡ splitCount S → Between S F 0 n
 between-start S F n e =
     record { order = omega arith; most = omega arith; below = λ i h. absurd (omega arith); above = λ i h l. absurd (omega arith) }
+
+-- a set that comes before F, or after it, is another
+earlier-other : (x F : ℕ) → before (setBytes x) (setBytes F) ≡ true → eqb x F ≡ false
+earlier-other x F e = ne-eqb x F (λ q. true≢false (sym e ∙ ap (λ (y : ℕ). before (setBytes y) (setBytes F)) q ∙ before-irrefl (setBytes F)))
+
+later-other : (x F : ℕ) → before (setBytes F) (setBytes x) ≡ true → eqb x F ≡ false
+later-other x F e = ne-eqb x F (λ q. true≢false (sym e ∙ ap (λ (y : ℕ). before (setBytes F) (setBytes y)) q ∙ before-irrefl (setBytes F)))
 
 module _ (S : List ℕ) (s : Small 8 S) (o : every (splitCount S) (inOrder S) ≡ true) (F : ℕ) where
   module _ (lo hi m : ℕ) (b : Between S F lo hi) (l : lo ≤ m) (h : m < hi) where
@@ -56,55 +65,52 @@ module _ (S : List ℕ) (s : Small 8 S) (o : every (splitCount S) (inOrder S) �
         earlier : (i : ℕ) → i < m → before (setBytes (splitSet S i)) (setBytes F) ≡ true
         earlier i j = before-trans (setBytes (splitSet S i)) (setBytes (splitSet S m)) (setBytes F) (splits-rise S s o i m j (omega (arith, b .most))) q
 
-    pub between-left : before (setBytes (splitSet S m)) (setBytes F) ≡ false → Between S F lo m
+    pub between-left : before (setBytes F) (setBytes (splitSet S m)) ≡ true → Between S F lo m
     between-left q =
         record {
           order = l;
           most = omega (arith, b .most);
           below = b .below;
-          above = λ i k t. later i k t (before (setBytes (splitSet S i)) (setBytes F)) refl;
+          above = λ i k t. choose (below-suc m i (omega arith)) (λ j. later i j t) (λ e. rw (← e) q);
         }
       where
-        later : (i : ℕ) → m ≤ i → i < splitCount S → (v : Bool) → before (setBytes (splitSet S i)) (setBytes F) ≡ v → before (setBytes (splitSet S i)) (setBytes F) ≡ false
-        later i k t false e = e
-        later i k t true e =
-            choose (below-suc m i (omega arith))
-            (λ j. absurd (true≢false (sym (before-trans (setBytes (splitSet S m)) (setBytes (splitSet S i)) (setBytes F) (splits-rise S s o m i j t) e) ∙ q)))
-            (λ j. rw (← j) q)
+        later : (i : ℕ) → m < i → i < splitCount S → before (setBytes F) (setBytes (splitSet S i)) ≡ true
+        later i j t = before-trans (setBytes F) (setBytes (splitSet S m)) (setBytes (splitSet S i)) q (splits-rise S s o m i j t)
 
-  -- none below lo is F, and none above it
-  module _ (lo hi : ℕ) (b : Between S F lo hi) (e : hi ≤ lo) where
-    lower : (i : ℕ) → i < lo → eqb (splitSet S i) F ≡ false
-    lower i l =
-        ne-eqb (splitSet S i) F (λ q. true≢false (sym (b .below i l) ∙ ap (λ (x : ℕ). before (setBytes x) (setBytes F)) q ∙ before-irrefl (setBytes F)))
+  -- a split that has the set is the first that has it: those below come before it
+  pub between-found : (m : ℕ) → m < splitCount S → splitSet S m ≡ F → m ≡ splitOf S F
+  unfolding splitOf
+  between-found m h e =
+      sym (first-at (splitCount S) (λ i. eqb (splitSet S i) F) m h
+      (some-none m (λ i. eqb (splitSet S i) F) (λ i l. earlier-other (splitSet S i) F (rw e at (splits-rise S s o i m l h)))) (eq-eqb (splitSet S m) F e))
 
-    higher : (i : ℕ) → i < splitCount S → lo < i → eqb (splitSet S i) F ≡ false
-    higher i h l =
-        ne-eqb (splitSet S i) F
-        (λ q. true≢false (sym (splits-rise S s o lo i l h) ∙ ap (λ (x : ℕ). before (setBytes (splitSet S lo)) (setBytes x)) q ∙ b .above lo e (omega arith)))
-
-    none-lower : some lo (λ i. eqb (splitSet S i) F) ≡ false
-    none-lower = some-none lo (λ i. eqb (splitSet S i) F) lower
-
-    -- so the test at lo decides; where lo is the number of splits, either way
-    pub between-found : eqb (splitSet S lo) F ≡ true → lo ≡ splitOf S F
-    unfolding splitOf
-    between-found q =
-        elim (decLt lo (splitCount S)) [
-          | yes l ↦ sym (first-at (splitCount S) (λ i. eqb (splitSet S i) F) lo l none-lower q)
-          | no g ↦ outside (omega (arith, b .order, b .most, lt-of-not-le (λ (l : suc lo ≤ splitCount S). g l)))
+-- where none is left between them, no split has the set
+pub between-none : (S : List ℕ) (F lo hi : ℕ) → Between S F lo hi → hi ≤ lo → splitCount S ≡ splitOf S F
+unfolding splitOf
+between-none S F lo hi b e = sym (first-none (splitCount S) (λ i. eqb (splitSet S i) F) (some-none (splitCount S) (λ i. eqb (splitSet S i) F) any))
+  where
+    any : (i : ℕ) → i < splitCount S → eqb (splitSet S i) F ≡ false
+    any i h =
+        elim (decLt i lo) [
+          | yes l ↦ earlier-other (splitSet S i) F (b .below i l)
+          | no g ↦ later-other (splitSet S i) F (b .above i (omega (arith, lt-of-not-le (λ (l : suc i ≤ lo). g l))) h)
         ]
-      where
-        outside : lo ≡ splitCount S → lo ≡ first (splitCount S) (λ i. eqb (splitSet S i) F)
-        outside k = k ∙ sym (first-none (splitCount S) (λ i. eqb (splitSet S i) F) (rw k at none-lower))
 
-    pub between-none : eqb (splitSet S lo) F ≡ false → splitCount S ≡ splitOf S F
-    unfolding splitOf
-    between-none q = sym (first-none (splitCount S) (λ i. eqb (splitSet S i) F) (some-none (splitCount S) (λ i. eqb (splitSet S i) F) any))
-      where
-        any : (i : ℕ) → i < splitCount S → eqb (splitSet S i) F ≡ false
-        any i h =
-            elim (decLt i lo) [
-              | yes l ↦ lower i l
-              | no g ↦ choose (below-suc lo i (omega (arith, lt-of-not-le (λ (l : suc i ≤ lo). g l)))) (higher i h) (λ k. rw (← k) q)
-            ]
+-- ---- how a split's set stands to F, by the comparison's number
+
+module _ (S : List ℕ) (s : Small 8 S) (F : ℕ) (f : F < 2 ^ (8 * setSize)) (m : ℕ) where
+  long : length (setBytes (splitSet S m)) ≡ length (setBytes F)
+  long = length-digits 8 setSize (splitSet S m) ∙ sym (length-digits 8 setSize F)
+
+  pub compared-same : compare (setBytes (splitSet S m)) (setBytes F) ≡ 0 → splitSet S m ≡ F
+  unfolding splitSet
+  compared-same e =
+      sym (num-digits 8 setSize (splitSet S m) (set-at-lt S (splitSize * m) s))
+      ∙ ap (num 8) (compare-exactly (setBytes (splitSet S m)) (setBytes F) long .0 .0 e) ∙ num-digits 8 setSize F f
+
+  pub compared-before : compare (setBytes (splitSet S m)) (setBytes F) ≡ 1 → before (setBytes (splitSet S m)) (setBytes F) ≡ true
+  compared-before e = compare-exactly (setBytes (splitSet S m)) (setBytes F) long .1 .0 e
+
+  pub compared-after : (compare (setBytes (splitSet S m)) (setBytes F) ≡ 0 → ⊥) → (compare (setBytes (splitSet S m)) (setBytes F) ≡ 1 → ⊥)
+      → before (setBytes F) (setBytes (splitSet S m)) ≡ true
+  compared-after z o = compare-rest (setBytes (splitSet S m)) (setBytes F) long z o

@@ -5,6 +5,6 @@ pub mod Slots
 pub mod Turns
 pub mod Found
 pub mod Halving
-pub mod Ordered
+pub mod Verdict
 pub mod Checked
 pub mod Unique

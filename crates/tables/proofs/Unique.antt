@@ -7,7 +7,7 @@ use Rattle.sets.specs.declared.StateSet.{StateSet}
 use Rattle.sets.specs.Set.{setWords, setOf}
 use Rattle.sets.proofs.Sets.{Words, set-one}
 use Rattle.rules.specs.Rules.{verdict}
-use Rattle.tables.specs.Table.{Table, classCount, partCount, splitCount, rowAt, slots, sizeRules, tableRefusal}
+use Rattle.tables.specs.Table.{Table, classCount, partCount, splitCount, rowAt, slots, splitOf, risingRules, tableRefusal}
 
 -- ---- numbers and answers
 
@@ -15,8 +15,11 @@ module _ (x y : ℕ) where
   pub unique-check-table : (L : List ℕ) (b : ℕ) (T : Table) → x ≡ tableRefusal L b T → y ≡ tableRefusal L b T → x ≡ y
   unique-check-table L b T p q = p ∙ sym q
 
-  pub unique-size-refusal : (b : ℕ) (T : Table) → x ≡ verdict (sizeRules b T) → y ≡ verdict (sizeRules b T) → x ≡ y
-  unique-size-refusal b T p q = p ∙ sym q
+  pub unique-rising-refusal : (b : ℕ) (T : Table) → x ≡ verdict (risingRules b T) → y ≡ verdict (risingRules b T) → x ≡ y
+  unique-rising-refusal b T p q = p ∙ sym q
+
+  pub unique-find-sorted : (S : List ℕ) (F : ℕ) → x ≡ splitOf S F → y ≡ splitOf S F → x ≡ y
+  unique-find-sorted S F p q = p ∙ sym q
 
   pub unique-class-count : (C : List ℕ) → x ≡ classCount C → y ≡ classCount C → x ≡ y
   unique-class-count C p q = p ∙ sym q

@@ -142,6 +142,10 @@ unfoldable pub inOrder : List ℕ → ℕ → Bool
 inOrder S zero = true
 inOrder S (suc i) = before (bytesAt S (splitSize * i)) (bytesAt S (splitSize * suc i))
 
+-- 9 in a split feed: some set is not greater than the one before; slots are not looked at
+unfoldable pub unordered : List ℕ → Bool
+unordered S = not (every (splitCount S) (inOrder S))
+
 unfoldable pub badSplits : ℕ → Table → Bool
 badSplits b T = not (every (splitCount (T .splits)) (λ i. goodSlots (partCount (T .parts)) b (slots (T .splits) i) && inOrder (T .splits) i))
 
@@ -166,6 +170,10 @@ notClosed L T = not (every (splitCount (T .splits)) (λ i. every byteValues (λ 
 
 abbrev pub sizeRules : ℕ → Table → List Rule
 sizeRules b T = (7, badBound b) ∷ (8, badLengths T) ∷ []
+
+-- what a split feed asks of its table: 7 and 8, then 9 for the sets alone
+abbrev pub risingRules : ℕ → Table → List Rule
+risingRules b T = sizeRules b T ++ ((9, unordered (T .splits)) ∷ [])
 
 abbrev pub tableRules : List ℕ → ℕ → Table → List Rule
 tableRules L b T =

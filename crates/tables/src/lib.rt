@@ -12,7 +12,7 @@ ghost use Rattle.lists.specs.List.{listRefusal};
 ghost use Rattle.lists.specs.Automaton.{step};
 ghost use Rattle.tables.specs.Table.{table, byteValues, mostParts, largest, classCount, partCount, splitCount, part, rowAt, row, splitSet};
 ghost use Rattle.tables.specs.Table.{slots, unusedSlot, usedSlots, allBelow, joined, isSplit, splitOf};
-ghost use Rattle.tables.specs.Table.{badClasses, badCount, badRowsLength, badLengths, goodSlots, inOrder, sizeRules, tableRefusal};
+ghost use Rattle.tables.specs.Table.{badClasses, badCount, badRowsLength, badLengths, goodSlots, inOrder, sizeRules, risingRules, tableRefusal};
 
 // Bytes that a piece may have; each has a class.
 pub const BYTE_VALUES: usize = 256;
@@ -162,7 +162,7 @@ fn bad_lengths(classes: &[u8], parts: &[u8], rows: &[u8], splits: &[u8]) -> bool
 }
 
 // The size rules: 7 where the bound refuses, 8 where a list does, 0 where neither does.
-pub fn size_refusal(bound: u64, classes: &[u8], parts: &[u8], rows: &[u8], splits: &[u8]) -> u32
+fn size_refusal(bound: u64, classes: &[u8], parts: &[u8], rows: &[u8], splits: &[u8]) -> u32
     ensures { λ r. ⌜ r ≡ verdict (sizeRules bound (table (now (classes .entry)) (now (parts .entry)) (now (rows .entry)) (now (splits .entry)))) ⌝ }
 {
     if (bound == 0) | (MOST_BOUND < bound) {
@@ -197,30 +197,56 @@ fn good_slots(splits: &[u8], i: usize, n: usize, bound: u64) -> bool
     true
 }
 
-// Says whether the set of split i comes after the one before it.
-fn in_order(splits: &[u8], i: usize) -> bool
-    requires { ⌜ i < splitCount (now splits) ⌝ }
-    ensures { λ r. ⌜ r ≡ inOrder (now (splits .entry)) i ⌝ }
+// Says whether each split's set comes after the one before it.
+fn ordered(splits: &[u8]) -> bool
+    ensures { λ r. ⌜ r ≡ every (splitCount (now (splits .entry))) (inOrder (now (splits .entry))) ⌝ }
 {
-    if i == 0 {
-        true
-    } else {
+    let n = split_count(splits);
+    for i in 1..n {
         let last = i - 1;
-        split_set(splits, i).follows_whole(splits, SPLIT_SIZE * last)
+        if !sets::before_whole(splits, SPLIT_SIZE * last, SPLIT_SIZE * i) {
+            return false;
+        }
     }
+    true
+}
+
+// What a split feed asks of its table: the size rules, then 9 where the splits' sets do not rise.
+pub fn rising_refusal(bound: u64, classes: &[u8], parts: &[u8], rows: &[u8], splits: &[u8]) -> u32
+    ensures { λ r. ⌜ r ≡ verdict (risingRules bound (table (now (classes .entry)) (now (parts .entry)) (now (rows .entry)) (now (splits .entry)))) ⌝ }
+{
+    let sized = size_refusal(bound, classes, parts, rows, splits);
+    if sized != rules::PASSED {
+        return sized;
+    }
+    if !ordered(splits) {
+        return 9;
+    }
+    rules::PASSED
+}
+
+// Says whether rule 9 passes the slots of every split.
+fn slots_good(splits: &[u8], n: usize, bound: u64) -> bool
+    ensures { λ r. ⌜ r ≡ every (splitCount (now (splits .entry))) (λ i. goodSlots n bound (slots (now (splits .entry)) i)) ⌝ }
+{
+    let m = split_count(splits);
+    for i in 0..m {
+        if !good_slots(splits, i, n, bound) {
+            return false;
+        }
+    }
+    true
 }
 
 // Says whether rule 9 passes the splits.
 fn splits_good(splits: &[u8], n: usize, bound: u64) -> bool
     ensures { λ r. ⌜ r ≡ every (splitCount (now (splits .entry))) (λ i. goodSlots n bound (slots (now (splits .entry)) i) && inOrder (now (splits .entry)) i) ⌝ }
 {
-    let m = split_count(splits);
-    for i in 0..m {
-        if !(good_slots(splits, i, n, bound) & in_order(splits, i)) {
-            return false;
-        }
+    if ordered(splits) {
+        slots_good(splits, n, bound)
+    } else {
+        false
     }
-    true
 }
 
 // Says whether rule 10 passes the rows of part p, whose set is f.
@@ -301,7 +327,7 @@ fn unions_good(parts: &[u8], splits: &[u8]) -> bool
 }
 
 // The split whose set is f, by halving, where the splits are in order; the number of splits where there is none.
-fn find_sorted(splits: &[u8], f: StateSet) -> usize
+pub fn find_sorted(splits: &[u8], f: StateSet) -> usize
     requires { ⌜ every (splitCount (now splits)) (inOrder (now splits)) ≡ true ⌝ }
     ensures { λ r. ⌜ r ≡ splitOf (now (splits .entry)) (setOf f) ⌝ }
 {
@@ -310,14 +336,15 @@ fn find_sorted(splits: &[u8], f: StateSet) -> usize
     let mut hi = n;
     while lo < hi {
         let mid = (lo + hi) / 2;
-        if f.follows_whole(splits, SPLIT_SIZE * mid) {
+        let met = f.compare_whole(splits, SPLIT_SIZE * mid);
+        if met == sets::SAME {
+            return mid;
+        }
+        if met == sets::BEFORE {
             lo = mid + 1;
         } else {
             hi = mid;
         }
-    }
-    if split_set(splits, lo).same(f) {
-        return lo;
     }
     n
 }

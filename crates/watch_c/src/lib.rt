@@ -8,7 +8,7 @@ ghost use Rattle.splits.specs.Split.{splitFeed};
 ghost use Rattle.watch_c.specs.Face.{version, Faces, FaceAnswers, FaceOpens};
 
 // The version of the face, by which a caller compares its header with the archive.
-pub const VERSION: u32 = 5;
+pub const VERSION: u32 = 6;
 
 // What a feed answers, as C lays it out.
 #[repr(C)]

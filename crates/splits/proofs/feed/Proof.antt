@@ -73,7 +73,7 @@ feed-bytes-requires c κs =
     let here = c .before .before .before in
     let a = entry (here .before) .args in
     let p = split-passes (a .list .now) (a .bound) (given (here .before)) (a .flow .now) (a .start) (a .piece .now) (verdict-0 here) in
-    (omega (arith, p .1, p .2), p .3)
+    (omega (arith, p .1, p .2), p .3, p .4)
 
 finish-requires : tie.Need-finish-requires
 finish-requires c κs =

@@ -1,4 +1,4 @@
--- `split_step` takes the slots of the split that `find` gives. Assumes nothing.
+-- `split_step` takes the slots of the split that `tables::find_sorted` gives. Assumes nothing.
 use borrow.Author.Needs.{needs}
 use mathlib.Core.Path.{refl}
 use native.Mathlib.Omega.{arith}
@@ -9,8 +9,8 @@ use Rattle.splits.proofs.Stepping.{step-none, step-found}
 use Rattle.splits.proofs.split_step.Statement.{statement}
 use Rattle.splits.proofs.split_step.Tie as tie
 
-find-requires : tie.Need-find-requires
-find-requires c κs = search needs
+find-sorted-requires : tie.Need-find-sorted-requires
+find-sorted-requires c κs = search needs
 
 split-count-requires : tie.Need-split-count-requires
 split-count-requires c κs = search needs
@@ -19,7 +19,7 @@ returns : tie.Need-returns
 returns c =
     let a = c .before .before .before .before .before .before .before .args in
     let T : Table = record { classes = a .classes .now; parts = a .parts .now; rows = a .rows .now; splits = a .splits .now } in
-    step-none (a .bound) T (setOf (a .f)) (a .c) (c .before .before .find .result) (c .before .before .find .ensures) (omega arith) _ refl
+    step-none (a .bound) T (setOf (a .f)) (a .c) (c .before .before .find-sorted .result) (c .before .before .find-sorted .ensures) (omega arith) _ refl
 
 part-count-requires : tie.Need-part-count-requires
 part-count-requires c κs = search needs
@@ -43,7 +43,7 @@ unfolding row
 returns-2 c =
     let s = c .before .before .before .before .before .before .before .before .before .before .before .before .before in
     let a = s .args in
-    let found = c .before .before .before .before .before .before .before .before .find in
+    let found = c .before .before .before .before .before .before .before .before .find-sorted in
     let T : Table = record { classes = a .classes .now; parts = a .parts .now; rows = a .rows .now; splits = a .splits .now } in
     step-found (a .bound) T (setOf (a .f)) (a .c) (found .result) (found .ensures) (omega arith) (c .before .before .before .take-slots .result)
     (rw (c .before .before .before .before .before .part-count .ensures, s .pre .0, c .before .before .before .before .byte-at .ensures) at (c .before .before .before .take-slots .ensures)) _ refl refl refl
@@ -52,7 +52,7 @@ pub split-step-spec : {M : Type 1} → statement M
 split-step-spec =
     tie.close
     (tie.spec
-    find-requires
+    find-sorted-requires
     split-count-requires
     returns
     part-count-requires

@@ -5,7 +5,7 @@ use mathlib.Core.Bool.{true, false}
 use native.Mathlib.Omega.{arith}
 use Rattle.sets.specs.Set.{setSize, before}
 use Rattle.tables.specs.Table.{splitSize, mostParts, mostSplits, badClasses, badCount, badLengths}
-use Rattle.tables.proofs.Ordered.{count-fits}
+use Rattle.tables.proofs.Verdict.{count-fits}
 use Rattle.tables.proofs.bad_lengths.Statement.{statement}
 use Rattle.tables.proofs.bad_lengths.Tie as tie
 

@@ -3,7 +3,7 @@ use borrow.Author.Needs.{needs}
 use mathlib.Core.Path.{sym, _∙_}
 use Rattle.sets.specs.Set.{before}
 use Rattle.tables.specs.Table.{Table}
-use Rattle.tables.proofs.Ordered.{list-first, size-first}
+use Rattle.tables.proofs.Verdict.{list-first, size-first}
 use Rattle.tables.proofs.check_table.Statement.{statement}
 use Rattle.tables.proofs.check_table.Tie as tie
 

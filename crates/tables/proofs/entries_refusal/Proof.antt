@@ -10,7 +10,7 @@ use Rattle.rules.specs.Scan.{every}
 use Rattle.lists.specs.Automaton.{start}
 use Rattle.tables.specs.Table.{Table, splitCount, slots, isSplit, splitOf, goodSlots, inOrder}
 use Rattle.tables.proofs.Found.{found-some, found-no}
-use Rattle.tables.proofs.Ordered.{refused-9, refused-10, refused-11, refused-12, refused-13, passed, few-parts, splits-ordered, splits-below, rows-closed, goodSplits, goodRows, goodUnions, closed}
+use Rattle.tables.proofs.Verdict.{refused-9, refused-10, refused-11, refused-12, refused-13, passed, few-parts, splits-ordered, splits-below, rows-closed, goodSplits, goodRows, goodUnions, closed}
 use Rattle.tables.proofs.entries_refusal.Statement.{statement}
 use Rattle.tables.proofs.entries_refusal.Tie as tie
 

@@ -1,13 +1,14 @@
--- `find_sorted` halves: all splits below `lo` come before the set, and none from `hi` on does. Assumes nothing.
+-- `find_sorted` halves: all splits below `lo` come before the set, and it comes before all from `hi` on. Assumes nothing.
 use borrow.Author.Needs.{needs}
-use mathlib.Core.Path.{_≡_, sym, ap, _∙_}
-use Prim.Native.Nat.{ℕ, _+_, _-_, _/_}
+use mathlib.Core.Path.{_≡_, sym, _∙_}
+use Prim.Native.Nat.{ℕ, _+_, _-_, _*_, _/_, _^_, _<_}
 use native.Mathlib.Omega.{arith}
-use lib.Dec.{eqb}
-use Rattle.sets.specs.Set.{setOf, setBytes, before}
+use Rattle.sets.specs.Set.{setWords, setSize, setOf, setBytes, compare}
 use Rattle.sets.proofs.Laws.{Small}
+use Rattle.sets.proofs.Sets.{words-lt}
+use Rattle.sets.proofs.Whole.{valid-of}
 use Rattle.tables.specs.Table.{splitSet}
-use Rattle.tables.proofs.Halving.{Between, between-start, between-right, between-left, between-found, between-none}
+use Rattle.tables.proofs.Halving.{Between, between-start, between-right, between-left, between-found, between-none, compared-same, compared-before, compared-after}
 use Rattle.tables.proofs.find_sorted.Statement.{statement}
 use Rattle.tables.proofs.find_sorted.Tie as tie
 
@@ -31,16 +32,15 @@ middle c = (c .loop .lo + c .loop .hi) / 2
 bytes : (c : tie.At-loop Inv-loop μ-loop) → Small 8 (entry c .args .splits .now)
 bytes c i = c .before .before .shared-slice-known .given i .fits
 
--- what the test in the loop says, and the one behind it
-said : (c : tie.After-follows-whole Inv-loop μ-loop)
-    → c .follows-whole .result
-    ≡ before (setBytes (splitSet (entry (c .before .before) .args .splits .now) (middle (c .before .before)))) (setBytes (sought (c .before .before)))
-unfolding splitSet
-said c = c .follows-whole .ensures
+-- the set that is looked for is one
+small : (c : tie.At-loop Inv-loop μ-loop) → sought c < 2 ^ (8 * setSize)
+small c = words-lt setWords (entry c .args .f .words) (valid-of (entry c .args .f) _ (entry c .good .1 .0))
 
-same : (c : tie.After-same Inv-loop μ-loop)
-    → c .same .result ≡ eqb (splitSet (entry (c .before .before .before) .args .splits .now) (c .before .before .before .loop .lo)) (sought (c .before .before .before))
-same c = c .same .ensures ∙ ap (λ (x : ℕ). eqb x (sought (c .before .before .before))) (c .before .split-set .ensures)
+-- how the split in the middle stands to it
+said : (c : tie.After-compare-whole Inv-loop μ-loop)
+    → compare (setBytes (splitSet (entry (c .before .before) .args .splits .now) (middle (c .before .before)))) (setBytes (sought (c .before .before))) ≡ c .compare-whole .result
+unfolding splitSet
+said c = sym (c .compare-whole .ensures)
 
 split-count-requires : tie.Need-split-count-requires Inv-loop μ-loop
 split-count-requires c κs = search needs
@@ -52,52 +52,48 @@ loop-holds c =
 add-mid : tie.Need-add-mid Inv-loop μ-loop
 add-mid c = omega (arith, c .before .loop .inv .order, c .before .loop .inv .most)
 
-mul-follows-whole : tie.Need-mul-follows-whole Inv-loop μ-loop
-mul-follows-whole c = omega (arith, c .before .loop .inv .order, c .before .loop .inv .most)
+mul-compare-whole : tie.Need-mul-compare-whole Inv-loop μ-loop
+mul-compare-whole c = omega (arith, c .before .loop .inv .order, c .before .loop .inv .most)
 
-follows-whole-requires : tie.Need-follows-whole-requires Inv-loop μ-loop
-follows-whole-requires c κs = omega (arith, c .before .loop .inv .order, c .before .loop .inv .most)
+compare-whole-requires : tie.Need-compare-whole-requires Inv-loop μ-loop
+compare-whole-requires c κs = omega (arith, c .before .loop .inv .order, c .before .loop .inv .most)
+
+returns : tie.Need-returns Inv-loop μ-loop
+returns c =
+    let h = c .before .before .before in
+    let S = entry h .args .splits .now in
+    between-found S (bytes h) (entry h .pre) (sought h) (middle h) (omega (arith, h .loop .inv .order, h .loop .inv .most))
+    (compared-same S (bytes h) (sought h) (small h) (middle h) (said (c .before) ∙ c .if1 .taken))
 
 add-lo : tie.Need-add-lo Inv-loop μ-loop
 add-lo c =
-    omega (arith, c .before .before .before .loop .inv .order, c .before .before .before .loop .inv .most)
+    omega (arith, c .before .before .before .before .loop .inv .order, c .before .before .before .before .loop .inv .most)
 
 loop-less : tie.Need-loop-less Inv-loop μ-loop
 loop-less c = search needs
 
 loop-again : tie.Need-loop-again Inv-loop μ-loop
 loop-again c =
-    let h = c .before .before .before in
-    between-right (entry h .args .splits .now) (bytes h) (entry h .pre) (sought h) (h .loop .lo) (h .loop .hi) (middle h) (h .loop .inv)
-    (omega arith) (omega arith) (sym (said (c .before)) ∙ c .if1 .taken)
+    let h = c .before .before .before .before in
+    let S = entry h .args .splits .now in
+    between-right S (bytes h) (entry h .pre) (sought h) (h .loop .lo) (h .loop .hi) (middle h) (h .loop .inv)
+    (omega arith) (omega arith) (compared-before S (bytes h) (sought h) (small h) (middle h) (said (c .before .before) ∙ c .if2 .taken))
 
 loop-less-2 : tie.Need-loop-less-2 Inv-loop μ-loop
 loop-less-2 c = search needs
 
 loop-again-2 : tie.Need-loop-again-2 Inv-loop μ-loop
 loop-again-2 c =
-    let h = c .before .before .before in
-    between-left (entry h .args .splits .now) (bytes h) (entry h .pre) (sought h) (h .loop .lo) (h .loop .hi) (middle h) (h .loop .inv)
-    (omega arith) (omega arith) (sym (said (c .before)) ∙ c .if1 .left)
-
-split-set-requires : tie.Need-split-set-requires Inv-loop μ-loop
-split-set-requires c κs = search needs
-
-same-requires : tie.Need-same-requires Inv-loop μ-loop
-same-requires c κs = search needs
-
-returns : tie.Need-returns Inv-loop μ-loop
-returns c =
     let h = c .before .before .before .before in
-    between-found (entry h .args .splits .now) (bytes h) (entry h .pre) (sought h) (h .loop .lo) (h .loop .hi) (h .loop .inv) (omega arith)
-    (sym (same (c .before)) ∙ c .if2 .taken)
+    let S = entry h .args .splits .now in
+    let met = said (c .before .before) in
+    between-left S (bytes h) (entry h .pre) (sought h) (h .loop .lo) (h .loop .hi) (middle h) (h .loop .inv)
+    (omega arith) (omega arith) (compared-after S (bytes h) (sought h) (small h) (middle h) (λ z. c .before .if1 .left (sym met ∙ z)) (λ z. c .if2 .left (sym met ∙ z)))
 
 returns-2 : tie.Need-returns-2 Inv-loop μ-loop
 returns-2 c =
-    let h = c .before .before .before .before in
-    h .before .split-count .ensures
-    ∙ between-none (entry h .args .splits .now) (bytes h) (entry h .pre) (sought h) (h .loop .lo) (h .loop .hi) (h .loop .inv) (omega arith)
-    (sym (same (c .before)) ∙ c .if2 .left)
+    let h = c .before in
+    h .before .split-count .ensures ∙ between-none (entry h .args .splits .now) (sought h) (h .loop .lo) (h .loop .hi) (h .loop .inv) (omega arith)
 
 pub find-sorted-spec : {M : Type 1} → statement M
 find-sorted-spec =
@@ -108,14 +104,12 @@ find-sorted-spec =
     split-count-requires
     loop-holds
     add-mid
-    mul-follows-whole
-    follows-whole-requires
+    mul-compare-whole
+    compare-whole-requires
+    returns
     add-lo
     loop-less
     loop-again
     loop-less-2
     loop-again-2
-    split-set-requires
-    same-requires
-    returns
     returns-2)

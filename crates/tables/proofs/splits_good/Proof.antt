@@ -1,82 +1,37 @@
--- `splits_good` goes through the splits; those passed are good and in order. Assumes nothing.
+-- `splits_good` tests the order of the splits, and then their slots. Assumes nothing.
 use borrow.Author.Needs.{needs}
-use borrow.Author.Tests.{not-true, not-false}
-use mathlib.Core.Path.{_≡_, sym, ap₂, _∙_}
-use mathlib.Core.Bool.{Bool, true, _&&_}
+use mathlib.Core.Path.{_≡_, sym, ap, _∙_}
+use mathlib.Core.Bool.{Bool, _&&_}
 use mathlib.Core.List.{List}
-use Prim.Native.Nat.{ℕ, _-_, _≤_}
-use native.Mathlib.Omega.{arith}
-use Rattle.sets.specs.Set.{before}
+use Prim.Native.Nat.{ℕ}
 use Rattle.rules.specs.Scan.{every}
 use Rattle.tables.specs.Table.{splitCount, slots, goodSlots, inOrder}
-use Rattle.tables.proofs.Turns.{every-none, every-more, every-stops, every-ends}
+use Rattle.tables.proofs.Turns.{every-both}
 use Rattle.tables.proofs.splits_good.Statement.{statement}
 use Rattle.tables.proofs.splits_good.Tie as tie
 
--- split i has good slots and is in order
-abbrev good : List ℕ → ℕ → ℕ → ℕ → Bool
-good splits n bound i = goodSlots n bound (slots splits i) && inOrder splits i
+-- rule 9 where the test of the order says t
+said : (S : List ℕ) (n bound : ℕ) (t : Bool) → t ≡ every (splitCount S) (inOrder S)
+    → (t && every (splitCount S) (λ i. goodSlots n bound (slots S i))) ≡ every (splitCount S) (λ i. goodSlots n bound (slots S i) && inOrder S i)
+said S n bound t e =
+    ap (λ (b : Bool). b && every (splitCount S) (λ i. goodSlots n bound (slots S i))) e
+    ∙ sym (every-both (splitCount S) (λ i. goodSlots n bound (slots S i)) (inOrder S))
 
-abbrev Inv-loop : tie.InvT-loop
-Inv-loop splits n bound m i₀ i = (i ≤ m) × (every i (good splits n bound) ≡ true)
+ordered-requires : tie.Need-ordered-requires
+ordered-requires c κs = search needs
 
-abbrev μ-loop : tie.MeasureT-loop
-μ-loop splits n bound m i₀ i = m - i
+slots-good-requires : tie.Need-slots-good-requires
+slots-good-requires c κs = search needs
 
--- the way back from the loop's head to the entry
-abbrev entry : tie.At-loop Inv-loop μ-loop → tie.Start Inv-loop μ-loop
-entry c = c .before .before .before
-
--- what the test says
-said : (c : tie.After-in-order Inv-loop μ-loop)
-    → let h = c .before .before .before in
-    let a = entry h .args in
-    (c .before .good-slots .result && c .in-order .result) ≡ good (a .splits .now) (a .n) (a .bound) (h .loop .i)
-said c = ap₂ (λ (x y : Bool). x && y) (c .before .good-slots .ensures) (c .in-order .ensures)
-
-split-count-requires : tie.Need-split-count-requires Inv-loop μ-loop
-split-count-requires c κs = search needs
-
-loop-holds : tie.Need-loop-holds Inv-loop μ-loop
-loop-holds c = (search needs, every-none _)
-
-good-slots-requires : tie.Need-good-slots-requires Inv-loop μ-loop
-good-slots-requires c κs = search needs
-
-in-order-requires : tie.Need-in-order-requires Inv-loop μ-loop
-in-order-requires c κs = search needs
-
-returns : tie.Need-returns Inv-loop μ-loop
+returns : tie.Need-returns
 returns c =
-    let h = c .before .before .before .before in
-    every-stops (splitCount (entry h .args .splits .now)) _ (h .loop .i) (omega arith) (sym (said (c .before)) ∙ not-true _ (c .if1 .taken))
+    let a = c .before .before .before .before .args in
+    c .slots-good .ensures ∙ said (a .splits .now) (a .n) (a .bound) _ (sym (c .before .if1 .taken) ∙ c .before .before .ordered .ensures)
 
-add-i : tie.Need-add-i Inv-loop μ-loop
-add-i c = search needs
-
-loop-less : tie.Need-loop-less Inv-loop μ-loop
-loop-less c = search needs
-
-loop-again : tie.Need-loop-again Inv-loop μ-loop
-loop-again c =
-    let l = c .before .before .before .before .loop in
-    (search needs, every-more _ (l .i) (l .inv .1) (sym (said (c .before)) ∙ not-false _ (c .if1 .left)))
-
-returns-2 : tie.Need-returns-2 Inv-loop μ-loop
-returns-2 c = every-ends (splitCount (entry (c .before) .args .splits .now)) _ (c .before .loop .i) (omega arith) (c .before .loop .inv .1)
+returns-2 : tie.Need-returns-2
+returns-2 c =
+    let a = c .before .before .before .args in
+    said (a .splits .now) (a .n) (a .bound) _ (sym (c .if1 .left) ∙ c .before .ordered .ensures)
 
 pub splits-good-spec : {M : Type 1} → statement M
-splits-good-spec =
-    tie.close
-    (tie.spec
-    Inv-loop
-    μ-loop
-    split-count-requires
-    loop-holds
-    good-slots-requires
-    in-order-requires
-    returns
-    add-i
-    loop-less
-    loop-again
-    returns-2)
+splits-good-spec = tie.close (tie.spec ordered-requires slots-good-requires returns returns-2)

@@ -13,9 +13,9 @@ use Rattle.rules.specs.Rules.{verdict}
 use Rattle.lists.specs.List.{listRules, listRefusal}
 use Rattle.lists.specs.Automaton.{start, step}
 use Rattle.rules.proofs.Scanning.{both, neither, every-at, every-all, every-same}
-use Rattle.rules.proofs.Rules.{passes, skip, stop, last, verdict-first, verdict-then}
+use Rattle.rules.proofs.Rules.{passes, skip, stop, last, verdict-first, verdict-refused, verdict-then, passes-front}
 use Rattle.tables.specs.Table.{Table, byteValues, mostParts, classCount, partCount, splitCount, part, row, splitSet, slots, usedSlots, allBelow, joined, isSplit, splitSize, mostSplits}
-use Rattle.tables.specs.Table.{badClasses, badCount, badRowsLength, badLengths, goodSlots, inOrder, badSplits, badRows, badUnion, noStartSplit, notClosed, sizeRules, tableRefusal}
+use Rattle.tables.specs.Table.{badClasses, badCount, badRowsLength, badLengths, goodSlots, inOrder, unordered, badSplits, badRows, badUnion, noStartSplit, notClosed, sizeRules, risingRules, tableRefusal}
 use Rattle.tables.proofs.Joined.{step-joined, joined-same}
 use Rattle.tables.proofs.Accepted.{slots-said}
 use Rattle.tables.proofs.Slots.{below-wider}
@@ -116,6 +116,30 @@ rows-there b T z =
     let e = passes 7 _ _ (passes 6 _ _ z .1) .0 in
     let r = neither (badClasses (T .classes) || badCount setSize mostParts (T .parts) || badCount splitSize mostSplits (T .splits)) (badRowsLength T) e in
     eqb-true (length (T .rows)) (setSize * (partCount (T .parts) * classCount (T .classes))) (not-false (eqb (length (T .rows)) (setSize * (partCount (T .parts) * classCount (T .classes)))) (r .1))
+
+-- ---- what a split feed asks of its table
+
+module _ (b : ℕ) (T : Table) where
+  pub size-refuses : (r : ℕ) → r ≡ verdict (sizeRules b T) → (r ≡ 0 → ⊥) → r ≡ verdict (risingRules b T)
+  size-refuses r e n = e ∙ sym (verdict-refused (sizeRules b T) ((9, unordered (T .splits)) ∷ []) (λ z. n (e ∙ z)))
+
+  module _ (z : verdict (sizeRules b T) ≡ 0) where
+    pub unordered-refuses : every (splitCount (T .splits)) (inOrder (T .splits)) ≡ false → 9 ≡ verdict (risingRules b T)
+    unfolding unordered
+    unordered-refuses e = sym (verdict-then (sizeRules b T) ((9, unordered (T .splits)) ∷ []) refl z ∙ stop 9 [] (ap not e))
+
+    pub ordered-passes : every (splitCount (T .splits)) (inOrder (T .splits)) ≡ true → 0 ≡ verdict (risingRules b T)
+    unfolding unordered
+    ordered-passes e = sym (verdict-then (sizeRules b T) ((9, unordered (T .splits)) ∷ []) refl z ∙ last 9 (ap not e))
+
+  -- where it passes, the sizes do and the splits are in order
+  module _ (v : verdict (risingRules b T) ≡ 0) where
+    pub rising-sizes : verdict (sizeRules b T) ≡ 0
+    rising-sizes = passes-front (sizeRules b T) ((9, unordered (T .splits)) ∷ []) v
+
+    pub rising-ordered : every (splitCount (T .splits)) (inOrder (T .splits)) ≡ true
+    unfolding unordered
+    rising-ordered = not-false _ (passes 8 _ _ (sym (verdict-then (sizeRules b T) ((9, unordered (T .splits)) ∷ []) refl rising-sizes) ∙ v) .0)
 
 module _ (b : ℕ) (T : Table) (e9 : goodSplits b T ≡ true) where
   at : (i : ℕ) → i < splitCount (T .splits) → (goodSlots (partCount (T .parts)) b (slots (T .splits) i) ≡ true) × (inOrder (T .splits) i ≡ true)
