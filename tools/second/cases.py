@@ -1284,6 +1284,69 @@ def first_pairs(tape, dice):
             tape.open(needed)
 
 
+def swaps(tape, dice):
+    """Flows that change at any piece between the plain feed and tables that the check accepts, each at its own bound, with refused
+    calls between: pairs and frontier are those of one plain feed of all bytes consumed."""
+    def flow_of(data, engines, pieces, refused):
+        tape.load_list(data)
+        tape.load_record(dice.bytes(FLOW_SIZE))
+        assert tape.open() == 0
+        opened, told, consumed = tape.record, [], b""
+        for piece, words in pieces:
+            table, bound = dice.pick(engines)
+            at, rows = offset_of(tape.record), unpack_flow(tape.record).rows
+            if table is None:
+                answer = tape.feed(at, words, piece)
+            else:
+                tape.load_table(table)
+                answer = tape.split_feed(bound, at, words, piece)
+            assert answer.refusal == 0
+            assert unpack_flow(tape.record).rows - rows <= bound * answer.consumed
+            told += answer.words[:2 * answer.pairs]
+            consumed += piece[:answer.consumed]
+            if dice.chance(30):
+                refused(dice.pick(engines))
+        plain = model.plain_feed(data, opened, 0, [0] * (2 * SIGNATURES * len(consumed) + 2), consumed)
+        assert told == plain.words[:2 * plain.pairs]
+        assert tape.record[:ROWS_AT] == plain.record[:ROWS_AT]
+
+    for _ in range(8):
+        engines = [(None, STATES), (examples.TABLE, 2), (examples.TABLE, 4), (examples.ONE, 1), (examples.ONE, 3)]
+        flow_of(examples.LIST, engines, [(piece, dice.below(6)) for piece in (b"a", b"b", b"ab", b"", b"xab", b"aab")],
+                lambda engine: None)
+    for turn in range(90):
+        bound = 1 + turn % MOST_BOUND
+        sample, plan = good_table(dice, bound, 14, 9)
+        engines = [(None, STATES), (plan.table(), bound)]
+        for other in dice.some(list(BOUNDS), 3):
+            plan = builders.build_plan(dice, sample, other, 14, 9)
+            if plan is not None:
+                engines.append((plan.table(), other))
+        for table, other in engines[1:]:
+            tape.load_list(sample.data)
+            tape.load_table(table)
+            assert tape.check_table(other) == 0
+
+        def refused(engine):
+            """A call that is refused, through any of them: from another start, on a list that is refused, or at no bound."""
+            table, other = engine
+            if table is not None:
+                tape.load_table(table)
+            at = offset_of(tape.record)
+            data = broken_list(dice, sample, dice.between(1, 3)) if dice.chance(30) else sample.data
+            tape.load_list(data)
+            if dice.chance(50):
+                answer = tape.feed(at + 1, 4, b"ab")
+            else:
+                tape.load_table(dice.pick(engines[1:])[0])
+                answer = tape.split_feed(dice.pick([0, other]), at + 1, 4, b"ab")
+            assert answer.refusal
+            tape.load_list(sample.data)
+
+        pieces = [(a_piece(dice, sample, short_length(dice)), word_count(dice)) for _ in range(dice.between(6, 14))]
+        flow_of(sample.data, engines, pieces, refused)
+
+
 def foreign(tape, dice):
     """Records whose frontier has states that no record of the list names, and such with named states alone, through both feeds: at the
     flow's offset and beside it, with a piece and without."""
@@ -1334,7 +1397,7 @@ GROUPS = [worked, lists, longest_lists, list_limits, openings, record_limits, pl
           crowded_flows, good_tables, crowded_tables, faulty_tables, one_byte_tables,
           harmless_tables, wild_tables, long_pieces, set_sizes, largest_tables,
           split_order, slots_taken, fed_order, low_and_high, lengths_of_splits, no_split,
-          zero_records, old_content, long_pauses, capitals, first_pairs, foreign]
+          zero_records, old_content, long_pauses, capitals, first_pairs, foreign, swaps]
 
 
 def make(tape, dice):

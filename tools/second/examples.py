@@ -27,6 +27,11 @@ TABLE = Table(
     _set(0) + _set(1) + _set(2),
     _set(0) + _set(0, 1) + _set(0) + _set() + _set() + _set(2) + _set() * 3,
     b"".join(SPLITS))
+# A table of bound 1 for the list, by hand: each set that can be reached is a part and a split.
+ONE = Table(TABLE.classes, _set(0) + _set(0, 1) + _set(0, 2),
+            _set(0) + _set(0, 1) + _set(0) + _set(0) + _set(0, 1) + _set(0, 2) + _set(0) + _set(0, 1) + _set(0),
+            _split({0}, 0) + _split({0, 1}, 1) + _split({0, 2}, 2))
+
 # Start 4, and accept 6 under signature 200.
 LONE = bytes.fromhex("0200000000000400" "030000000600C800")
 
@@ -127,6 +132,14 @@ def check():
     assert model.table_refusal(capitals, TABLE, 2) == 10
     assert model.plain_feed(capitals, fresh, 0, words, b"AbaB")[:5] == (
         0, 4, 1, True, [7, 2, 13, 14, 15])
+
+    # "abab" with the engine swapped twice: "a" plain, "b" through the table at 2, "ab" through the table of bound 1.
+    assert model.table_refusal(LIST, ONE, 1) == 0
+    first = plain(fresh, 0, [0] * 2, b"a")
+    second = split(TABLE, 2, [0] * 2, b"b", first.record, 1)
+    third = split(ONE, 1, [0] * 2, b"ab", second.record, 2)
+    assert [first.pairs, second.words, third.words] == [0, [7, 2], [7, 4]]
+    assert third.record == pack_flow(Flow(frozenset({0, 2}), 4, 1 + 2 + 1 + 1))
 
     # A frontier with a state that no record names: 4, before 5 and for an empty piece; a signature names nothing.
     def at(data, states, start=0, piece=b"ab"):

@@ -363,7 +363,9 @@ impl Flow {
 
     /// The split feed of a piece that begins at offset `start` of the flow, by the table and the table's list.
     ///
-    /// A flow that was opened on the list and fed by nothing but the list and a table that has passed its check is never halted.
+    /// A flow that was opened on the list and fed by nothing but the list and tables that have passed its check is never halted. It may change
+    /// between them at any piece, each table at its own bound: the pairs and the frontier are as if nothing was changed, and each
+    /// feed adds its own rows.
     ///
     /// Each call tests once, before any byte, that the sets of the table's splits strictly rise, and is refused with 9 where they do not. What
     /// this costs goes by the number of splits, so that pieces of many bytes are cheaper than single ones.
@@ -388,6 +390,13 @@ impl Flow {
     /// assert_eq!(words, [9, 0, 0]);
     /// let fed = flow.split_feed(&table, 0, b"x", &mut words)?;
     /// assert_eq!((fed.all, words), (true, [9, 1, 0]));
+    ///
+    /// // The list alone goes on, and then a table of another bound.
+    /// flow.feed(&list, 1, b"y", &mut words)?;
+    /// assert_eq!(words, [9, 2, 0]);
+    /// let other = Table::check(&list, 2, table.lists())?;
+    /// flow.split_feed(&other, 2, b"z", &mut words)?;
+    /// assert_eq!((words, flow.rows_read()), ([9, 3, 0], 3));
     ///
     /// // A record from elsewhere, with a frontier that is no split: halted at its first byte.
     /// let mut lost = Flow::from_bytes([0; FLOW_SIZE]);

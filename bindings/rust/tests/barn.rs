@@ -341,6 +341,35 @@ fn split_abab() {
     });
 }
 
+/// "abab" with the engine swapped twice: "a" plain, "b" through T at 2, "ab" through a table of bound 1.
+#[test]
+fn swapped_abab() {
+    let one = T {
+        parts: [set(&[0]), set(&[0, 1]), set(&[0, 2])].concat(),
+        rows: [
+            [set(&[0]), set(&[0, 1]), set(&[0])].concat(),
+            [set(&[0]), set(&[0, 1]), set(&[0, 2])].concat(),
+            [set(&[0]), set(&[0, 1]), set(&[0])].concat(),
+        ]
+        .concat(),
+        splits: vec![split(&[0], [0, NO, NO, NO]), split(&[0, 1], [1, NO, NO, NO]), split(&[0, 2], [2, NO, NO, NO])],
+        ..T::new()
+    };
+    let mut flow = opened();
+    let mut words = [0; 4];
+    assert_eq!(answer(flow.feed(&list(), 0, b"a", &mut words).unwrap()), (1, 0, true));
+    assert_eq!(flow.rows_read(), 1);
+    T::new().check(2, |checked, _| {
+        assert_eq!(answer(flow.split_feed(&checked.unwrap(), 1, b"b", &mut words).unwrap()), (1, 1, true));
+    });
+    assert_eq!((words, flow.rows_read()), ([7, 2, 0, 0], 3));
+    one.check(1, |checked, _| {
+        assert_eq!(answer(flow.split_feed(&checked.unwrap(), 2, b"ab", &mut words[2..]).unwrap()), (2, 1, true));
+    });
+    assert_eq!((words, flow.rows_read()), ([7, 2, 7, 4], 5));
+    assert_eq!(flow.frontier().collect::<Vec<u16>>(), [0, 2]);
+}
+
 #[test]
 fn a_halted_split_feed_keeps_what_was_before() {
     // Without {0, 2} the feed can't go on after "ab": 14 at the third byte.

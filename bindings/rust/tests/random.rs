@@ -41,6 +41,7 @@ struct Tally {
     pauses: usize,
     standstills: usize,
     late_halts: usize,
+    swaps: usize,
     empty_pieces: usize,
     odd_rooms: usize,
     bytes: u64,
@@ -133,7 +134,6 @@ impl<'d> Case<'d> {
         self.table = ordinary::Table::read(&lists.classes, &lists.parts, &lists.rows, &lists.splits);
         self.lists = lists;
         self.accepted = false;
-        self.own = false;
     }
 
     fn another_record(&mut self) {
@@ -363,14 +363,18 @@ impl<'d> Case<'d> {
             match self.dice.below(60) {
                 0 => self.check_list(tally),
                 1..=4 => self.open(tally),
-                5 => {
+                // Another table, and now and then another flow: one that is opened on the list goes on through each table that passes.
+                5..=7 => {
                     self.another_table();
-                    if self.dice.once_in(2) {
+                    if !self.dice.once_in(3) {
+                        tally.swaps += usize::from(self.own);
                         self.check_table(tally);
+                    }
+                    if self.dice.once_in(4) {
                         self.open(tally);
                     }
                 }
-                6..=30 => self.feed(Entry::Feed, tally),
+                8..=31 => self.feed(Entry::Feed, tally),
                 _ => self.feed(Entry::SplitFeed, tally),
             }
         }
@@ -395,8 +399,8 @@ fn random_calls_are_answered_as_by_the_ordinary_matcher() {
     }
     println!("random: {} calls in {cases} cases with seed {seed}, all equal", tally.calls());
     println!(
-        "  {} feeds through the safe face; {} pauses, {} of them at the first byte; {} refusals 14 after some bytes; {} empty pieces; {} odd rooms",
-        tally.safe, tally.pauses, tally.standstills, tally.late_halts, tally.empty_pieces, tally.odd_rooms
+        "  {} feeds through the safe face; {} pauses, {} of them at the first byte; {} refusals 14 after some bytes; {} other tables in mid-flow; {} empty pieces; {} odd rooms",
+        tally.safe, tally.pauses, tally.standstills, tally.late_halts, tally.swaps, tally.empty_pieces, tally.odd_rooms
     );
     println!("  {} bytes consumed, {} pairs told", tally.bytes, tally.pairs);
     for (entry, name, refusals) in ENTRIES {

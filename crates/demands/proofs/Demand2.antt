@@ -79,7 +79,7 @@ plainly-fair L R c f v =
       short = q .short;
     }
 
-demand-2-from : (L R : List ℕ) (cs : List Call) → IsSet (frontierOf R) → InBytes cs → Each (Plainly L) R cs → Demand2 L R cs
+pub demand-2-from : (L R : List ℕ) (cs : List Call) → IsSet (frontierOf R) → InBytes cs → Each (Plainly L) R cs → Demand2 L R cs
 demand-2-from L R cs at hb h =
     let fair = each-along (Plainly L) (Fair flowLayout (plain L) (Equal IsSet) states) (plainly-fair L) R cs h in
     let pieces = in-bytes R cs hb in
@@ -100,17 +100,6 @@ demand-2-from L R cs at hb h =
 
 pub demand-2 : (L R : List ℕ) (cs : List Call) → Bytes R → InBytes cs → Each (Plainly L) R cs → Demand2 L R cs
 demand-2 L R cs hR = demand-2-from L R cs (frontier-lt R hR)
-
--- from opening on: its pairs, then the feeds'
-pub demand-2-opened : (L R out : List ℕ) → openFlow L R out .refusal ≡ 0 → (cs : List Call) → InBytes cs → Each (Plainly L) (openFlow L R out .saved) cs
-    → Demand2Opened L (openFlow L R out) cs
-demand-2-opened L R out z cs hb h =
-    let q = begins L R out z in
-    let d = demand-2-from L (opened L) cs (rw (opened-frontier L) (start-lt L)) hb (rw (q .1) at h) in
-    record {
-      due = rw (q .0, q .1) (due-all L _ _ (rw (opened-frontier L, opened-offset L) at (d .tells)));
-      feeds = rw (q .1) d;
-    }
 
 -- ---- of one call
 

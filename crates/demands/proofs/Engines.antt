@@ -9,7 +9,7 @@ use lib.Dec.{lit<}
 use Rattle.sets.specs.Set.{states, within}
 use Rattle.rules.specs.Rules.{verdict}
 use Rattle.lists.specs.Automaton.{step, accepted, named}
-use Rattle.rules.proofs.Rules.{passes-front, exactly}
+use Rattle.rules.proofs.Rules.{passes-front, exactly, verdict-lt}
 use Rattle.lists.proofs.Steps.{step-lt}
 use Rattle.lists.proofs.Named.{step-named}
 use Rattle.feeds.specs.Engine.{mostOffset}
@@ -42,6 +42,11 @@ call-passes R c e = feed-passes (c .list) R (c .at) (c .piece) (passes-feed (c .
 
 pub rows-few : (R : List ℕ) → badFlow R ≡ false → rowsOf R ≤ states * offsetOf R
 rows-few R e = good-flow R e .2
+
+-- the rules of a call have numbers below 14
+pub below-14 : (v : Via) (L R : List ℕ) (at : ℕ) (piece : List ℕ) → verdict (rulesOf v L R at piece) < 14
+below-14 byList L R at piece = verdict-lt 14 (rulesOf byList L R at piece) (lit< tt) refl
+below-14 (byTable b T) L R at piece = verdict-lt 14 (rulesOf (byTable b T) L R at piece) (lit< tt) refl
 
 -- one whose record 4 takes is not refused with 4
 pub no-4 : (v : Via) (L R : List ℕ) (at : ℕ) (piece : List ℕ) → Fit L R → verdict (rulesOf v L R at piece) ≡ 4 → ⊥

@@ -1,12 +1,10 @@
-pub mod Examples
 pub mod Engines
 pub mod Demand1
 pub mod Due
 pub mod Demand2
-pub mod Demand3
 pub mod Swapping
+pub mod Demand3
 pub mod Cuts
-pub mod Instance
 pub mod Saying
 pub mod Made
 pub mod Driving

@@ -5,7 +5,7 @@ use mathlib.Core.List.{List, [], _∷_, _++_}
 use mathlib.Core.Logic.{_⊎_, _↔_}
 use mathlib.Core.Path.{_≡_}
 use lib.ListN.{length, getD, take}
-use Rattle.sets.specs.Set.{signatures, holds, within}
+use Rattle.sets.specs.Set.{states, signatures, holds, within}
 use Rattle.rules.specs.Rules.{verdict, number, Given, Rises, Refuses}
 use Rattle.lists.specs.List.{listRules, listRefusal}
 use Rattle.lists.specs.Automaton.{start, accepted, named}
@@ -18,7 +18,7 @@ use Rattle.plain.specs.Plain.{plain, opened, openPairs, pairsOf, openRules, ope
 use Rattle.tables.specs.Table.{Table, sizeRules, tableRules, tableRefusal}
 use Rattle.splits.specs.Split.{taken, stuck, split, splitRules, splitFeed}
 use Rattle.demands.specs.Words.{None, First, InWords, listWords, openWords, feedWords, tableWords, AllRise, splitWords, Stuck}
-use Rattle.demands.specs.Calls.{byList, byTable, Checked, Call, asked, allAsked, outcome}
+use Rattle.demands.specs.Calls.{Via, byList, byTable, Checked, Call, asked, allAsked, outcome}
 
 -- ==== Demand 1: each refusal has a number, is given exactly when the rules say, and changes nothing in the buffers;
 -- ==== only 14, met by the split feed at some byte, keeps the bytes before it.
@@ -225,13 +225,41 @@ pub record Demand3 (L : List ℕ) (b : ℕ) (T : Table) (o : Opening) (cs : List
   pub rows : rowsOf (after (o .saved) cs) ≡ costs (activeParts L T) (start L) (bytesOf (o .saved) cs)
   pub ceiling : rowsOf (after (o .saved) cs) ≤ b * length (bytesOf (o .saved) cs)
 
--- ==== Foreign records: 4 refuses a record whose frontier holds a state that no record of the list names. No flow that is opened on a list
--- ==== and fed by the plain feed or through tables that the check accepts, each at its own bound, is refused so on that list.
+-- ==== Changing tables in mid-flow: for one list a flow from opening may change at any piece between any tables that the check accepts, each
+-- ==== at its own bound, and the plain feed: pairs and frontier are as if nothing was swapped, and each split call adds at most its own bound
+-- ==== times the bytes that it consumed. Such a flow holds no state that the list does not name, so none of these calls is refused with 4.
 
 -- a call that no rule refuses is on L, by the plain feed or through a table that the check accepts at the call's bound; one that is refused may hold anything
 abbrev pub Swaps : List ℕ → List ℕ → Call → Type 0
 Swaps L R c = verdict (asked c .rules R) ≡ 0 → (c .list ≡ L) × Checked L (c .via)
 
+-- the bytes that a call on the record R consumes
+abbrev pub eatenOf : List ℕ → Call → List ℕ
+eatenOf R c = take (outcome R c .bytes) (c .piece)
+
+-- the automaton of L, where a byte costs what a call counts at the frontier before it: plain its states, through a table the slots taken
+abbrev pub counted : Via → List ℕ → Engine ℕ
+counted byList L = plain L
+counted (byTable b T) L = activeParts L T
+
+-- the most that a byte may cost: plain all states, through a table the call's bound
+abbrev pub mostRows : Via → ℕ
+mostRows byList = states
+mostRows (byTable b T) = b
+
 -- of the opening o and the calls that follow: none on L that goes by what is checked is refused with 4
 abbrev pub NeverForeign : List ℕ → Opening → List Call → Type 0
 NeverForeign L o cs = Each (λ Q c. c .list ≡ L → Checked L (c .via) → outcome Q c .refusal ≡ 4 → ⊥) (o .saved) cs
+
+pub record Swapped (L : List ℕ) (o : Opening) (cs : List Call) : Type 0 where
+  -- no call ends in 14, and none that goes by what is checked is refused as foreign
+  pub never-14 : Each (λ Q c. outcome Q c .refusal ≡ 14 → ⊥) (o .saved) cs
+  pub never-4 : NeverForeign L o cs
+  -- opening's pairs and the words told are those of demand 2's definition on all bytes consumed
+  pub due : Due L (bytesOf (o .saved) cs) (openTold o ++ wordsOf (o .saved) cs)
+  -- frontier and offset are those of the plain run
+  pub frontier : frontierOf (after (o .saved) cs) ≡ run (plain L) (start L) (bytesOf (o .saved) cs)
+  pub offset : offsetOf (after (o .saved) cs) ≡ length (bytesOf (o .saved) cs)
+  -- the rows that each call adds: what it counts before each byte that it consumed, at most its bound times these bytes
+  pub rows : Each (λ Q c. rowsOf (outcome Q c .saved) ≡ rowsOf Q + costs (counted (c .via) L) (frontierOf Q) (eatenOf Q c)) (o .saved) cs
+  pub ceiling : Each (λ Q c. costs (counted (c .via) L) (frontierOf Q) (eatenOf Q c) ≤ mostRows (c .via) * outcome Q c .bytes) (o .saved) cs

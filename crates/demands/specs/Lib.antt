@@ -3,4 +3,3 @@ pub mod Words
 pub mod Demands
 pub mod Made
 pub mod Drivers
-pub mod Examples

@@ -51,7 +51,7 @@ module _ {C : Type 0} (K : Layout C) (R : List ℕ) (a : Asked C) where
       go false e = g
 
   -- so of its bytes: a front, or none
-  by-eaten : (Q : List ℕ → Type 0) → (verdict (a .rules R) ≡ 0 → (n : ℕ) → Q (take n (a .piece))) → Q [] → Q (eaten K R a)
+  pub by-eaten : (Q : List ℕ → Type 0) → (verdict (a .rules R) ≡ 0 → (n : ℕ) → Q (take n (a .piece))) → Q [] → Q (eaten K R a)
   unfolding ended
   by-eaten Q f g = by-answer (λ o. Q (take (o .bytes) (a .piece))) (λ v n. rw (take-front n (a .piece)) (f v n)) g
 
@@ -74,6 +74,14 @@ module _ {C D : Type 0} (K : Layout C) (G : Engine D) (Rel : C → D → Type 0)
     pub bytes : Bytes (allBytes K R calls)
     pub again : Written K R → Written K (recordAfter K R calls)
     pub within : Within K most R → Within K most (recordAfter K R calls)
+
+  -- what a call meets: a record whose configuration is related to one of G, that is within and written again, and a piece of bytes; and the rows that it adds
+  pub record Met (R : List ℕ) (a : Asked C) : Type 0 where
+    pub related : (y : D) × Rel (K .config R) y
+    pub written : Written K R
+    pub within : Within K most R
+    pub piece : Bytes (a .piece)
+    pub rows : K .rows (answer K R a .saved) ≡ K .rows R + costs (a .engine) (K .config R) (eaten K R a)
 
   -- what a call must be that no rule refuses: its engine follows G and is cheap, the record's rows are few, and the piece ends at an offset
   pub record Passed (R : List ℕ) (a : Asked C) : Type 0 where
@@ -142,13 +150,15 @@ module _ {C D : Type 0} (K : Layout C) (G : Engine D) (Rel : C → D → Type 0)
           within = λ w. ih .within (d .within w);
         }
 
-    -- each call meets a record whose configuration is related to one of G, and that is within and written again where the first is
+    -- what each call meets, where the first record is within and written again
     pub met : (calls : List (Asked C)) (R : List ℕ) (y : D) → Along K Fair R calls → Along K Pieces R calls → Rel (K .config R) y → Written K R → Within K most R
-        → Along K (λ Q a. ((z : D) × Rel (K .config Q) z) × Written K Q × Within K most Q) R calls
+        → Along K Met R calls
     met [] R y f h r w q = tt
     met (a ∷ rest) R y f h r w q =
-        let d = call-done y R a r (h .0) (f .0) in
-        (((y, r), w, q), met rest (answer K R a .saved) (run G y (eaten K R a)) (f .1) (h .1) (d .related) (d .again w) (d .within q))
+        let d = call-done y R a r (h .0) (f .0) in (
+          record { related = (y, r); written = w; within = q; piece = h .0; rows = d .rows },
+          met rest (answer K R a .saved) (run G y (eaten K R a)) (f .1) (h .1) (d .related) (d .again w) (d .within q),
+        )
 
     -- where G never halts, each call's refusal is that of its rules
     pub never-halts : ((y : D) → G .halts y ≡ false)

@@ -12,11 +12,12 @@ use Rattle.lists.specs.List.{goodRecord, badLength, badRecord, noStart}
 use Rattle.lists.specs.Automaton.{start, step, accepted, namedBy}
 use Rattle.feeds.specs.Engine.{run, costs, due, pairsAt, told, consumed, ended, feed}
 use Rattle.feeds.specs.Opening.{opening}
+use Rattle.feeds.specs.Calls.{recordAfter, allTold}
 use Rattle.flows.specs.Flow.{flowBytes, badFlow}
 use Rattle.plain.specs.Plain.{openPairs}
 use Rattle.tables.specs.Table.{largest, part, row, splitSet, slots, usedSlots, takenSlots, allBelow, joined, badClasses, badCount, badRowsLength, badLengths, goodSlots, inOrder, unordered, badSplits, badRows, badUnion, noStartSplit, notClosed, tableRefusal, splitOf}
 use Rattle.splits.specs.Split.{taken, stuck, splitStep}
-use Rattle.demands.specs.Examples.{Row, Agree, feedRows, openedRow, acceptedRow, acceptedRow₀, boundRow, closedRow, startRow, loudRow, orderRows, examples}
+use Rattle.barn.specs.Examples.{Row, Agree, feedRows, openRow, openedRow, acceptedRow, acceptedRow₁, acceptedRow₀, boundRow, closedRow, startRow, loudRow, orderRows, examples}
 
 -- rows are compared by computing; what computes as the same is the same
 abbrev same : List ℕ → List ℕ → Bool
@@ -61,13 +62,17 @@ unfolding largest part row splitSet slots usedSlots takenSlots allBelow rising j
 checks = 0
 
 feeds : ℕ
-unfolding opening openPairs run costs due pairsAt told consumed ended feed flowBytes badFlow splitOf taken stuck splitStep
+unfolding opening openPairs run costs due pairsAt told consumed ended feed recordAfter allTold flowBytes badFlow splitOf taken stuck splitStep
 feeds = 0
 
 -- each row that runs the table check is computed by itself, and the feeds' rows together
 accepted-holds : T (same (acceptedRow .0) (acceptedRow .1))
 unfolding steps checks
 accepted-holds = tt
+
+accepted-holds₁ : T (same (acceptedRow₁ .0) (acceptedRow₁ .1))
+unfolding steps checks
+accepted-holds₁ = tt
 
 accepted-holds₀ : T (same (acceptedRow₀ .0) (acceptedRow₀ .1))
 unfolding steps checks
@@ -101,26 +106,45 @@ opened-holds : T (same (openedRow .0) (openedRow .1))
 unfolding steps feeds
 opened-holds = tt
 
+open-holds : T (same (openRow .0) (openRow .1))
+unfolding steps feeds
+open-holds = tt
+
+pub open-agrees : openRow .0 ≡ openRow .1
+open-agrees = same-sound (openRow .0) (openRow .1) open-holds
+
 pub opened-agrees : openedRow .0 ≡ openedRow .1
 opened-agrees = same-sound (openedRow .0) (openedRow .1) opened-holds
+
+pub accepted-agrees : acceptedRow .0 ≡ acceptedRow .1
+accepted-agrees = same-sound (acceptedRow .0) (acceptedRow .1) accepted-holds
+
+pub accepted-agrees₁ : acceptedRow₁ .0 ≡ acceptedRow₁ .1
+accepted-agrees₁ = same-sound (acceptedRow₁ .0) (acceptedRow₁ .1) accepted-holds₁
 
 pub accepted-agrees₀ : acceptedRow₀ .0 ≡ acceptedRow₀ .1
 accepted-agrees₀ = same-sound (acceptedRow₀ .0) (acceptedRow₀ .1) accepted-holds₀
 
 pub examples-hold : Agree examples
 examples-hold = (
-  opened-agrees,
+  open-agrees,
   (
-    same-sound (acceptedRow .0) (acceptedRow .1) accepted-holds,
+    opened-agrees,
     (
-      accepted-agrees₀,
+      accepted-agrees,
       (
-        same-sound (boundRow .0) (boundRow .1) bound-holds,
+        accepted-agrees₁,
         (
-          same-sound (closedRow .0) (closedRow .1) closed-holds,
+          accepted-agrees₀,
           (
-            same-sound (startRow .0) (startRow .1) start-holds,
-            (same-sound (loudRow .0) (loudRow .1) loud-holds, agree-append feedRows orderRows (agree-sound feedRows feeds-hold) (agree-sound orderRows orders-hold)),
+            same-sound (boundRow .0) (boundRow .1) bound-holds,
+            (
+              same-sound (closedRow .0) (closedRow .1) closed-holds,
+              (
+                same-sound (startRow .0) (startRow .1) start-holds,
+                (same-sound (loudRow .0) (loudRow .1) loud-holds, agree-append feedRows orderRows (agree-sound feedRows feeds-hold) (agree-sound orderRows orders-hold)),
+              ),
+            ),
           ),
         ),
       ),

@@ -1,4 +1,4 @@
--- Demands 2 and 3 are no empty promises: an opening at a start state that accepts, and four calls, two of them refused, to which the theorems apply. Assumes nothing.
+-- The demands are no empty promises: openings, and calls that follow, to which the theorems apply. Assumes nothing.
 use Prim.Native.Nat.{ℕ, zero, suc, _<_}
 use mathlib.Core.Path.{_≡_, refl, sym, _∙_}
 use mathlib.Core.List.{List, [], _∷_}
@@ -9,14 +9,14 @@ use Rattle.lists.specs.List.{badLength}
 use Rattle.rules.specs.Rules.{verdict}
 use Rattle.rules.proofs.Rules.{stop}
 use Rattle.feeds.specs.Calls.{Bytes}
+use Rattle.plain.specs.Plain.{openFlow}
 use Rattle.tables.specs.Table.{tableRefusal}
 use Rattle.demands.specs.Calls.{Via, byList, byTable, Call, rulesOf}
-use Rattle.demands.specs.Demands.{InBytes, Demand2Opened, Demand3, NeverForeign}
-use Rattle.demands.specs.Examples.{L₀, T₃, a, b, room, full, begin}
-use Rattle.demands.proofs.Examples.{opened-agrees, accepted-agrees₀}
-use Rattle.demands.proofs.Demand2.{demand-2-opened}
+use Rattle.demands.specs.Demands.{InBytes, Demand2Opened, Demand3, Swapped}
+use Rattle.barn.specs.Examples.{L, L₀, T₃, T₁, a, b, room, full, begin, swaps}
+use Rattle.barn.proofs.Examples.{open-agrees, opened-agrees, accepted-agrees, accepted-agrees₁, accepted-agrees₀}
 use Rattle.demands.proofs.Demand3.{demand-3}
-use Rattle.demands.proofs.Swapping.{never-foreign}
+use Rattle.demands.proofs.Swapping.{demand-2-opened, swapped}
 
 -- four calls: "aba"; start 0 again, which is refused with 5; an empty list, which is refused with 1; then "b" from 3
 abbrev fed : Via → List ℕ → ℕ → List ℕ → Call
@@ -64,11 +64,31 @@ split-applies =
     demand-3 L₀ 2 T₃ accepts full (replicate 5 9) passes (calls (byTable 2 T₃)) (in-bytes (byTable 2 T₃))
     (λ v. (refl, refl), (λ v. (refl, refl), (λ v. by-none _ (byTable 2 T₃) _ 3 (b ∷ []) v, (λ v. (refl, refl), tt))))
 
--- the first call plain, the last through the table, and between them the two that are refused
+-- "abab" with the engine swapped twice
+two : Bytes (a ∷ b ∷ [])
+two zero = lit< tt
+two (suc zero) = lit< tt
+two (suc (suc i)) = lit< tt
+
+opens : openFlow L full [] .refusal ≡ 0
+opens = one-number (openFlow L full [] .refusal) 0 _ _ open-agrees
+
+accepts₂ : tableRefusal L 2 T₃ ≡ 0
+accepts₂ = one-number (tableRefusal L 2 T₃) 0 [] [] accepted-agrees
+
+accepts₁ : tableRefusal L 1 T₁ ≡ 0
+accepts₁ = one-number (tableRefusal L 1 T₁) 0 [] [] accepted-agrees₁
+
+pub swapped-applies : Swapped L (openFlow L full []) swaps
+swapped-applies =
+    swapped L full [] opens swaps (one a (lit< tt), (one b (lit< tt), (two, tt)))
+    (λ v. (refl, tt), (λ v. (refl, accepts₂), (λ v. (refl, accepts₁), tt)))
+
+-- four calls, the first plain and the last through a table, and between them the two that are refused
 abbrev mixed : List Call
 mixed = fed byList L₀ 0 (a ∷ b ∷ a ∷ []) ∷ fed byList L₀ 0 (b ∷ []) ∷ fed (byTable 2 T₃) [] 3 (b ∷ []) ∷ fed (byTable 2 T₃) L₀ 3 (b ∷ []) ∷ []
 
-pub foreign-applies : NeverForeign L₀ (begin full 5) mixed
-foreign-applies =
-    never-foreign L₀ full (replicate 5 9) passes mixed (three, (one b (lit< tt), (one b (lit< tt), (one b (lit< tt), tt))))
+pub mixed-applies : Swapped L₀ (begin full 5) mixed
+mixed-applies =
+    swapped L₀ full (replicate 5 9) passes mixed (three, (one b (lit< tt), (one b (lit< tt), (one b (lit< tt), tt))))
     (λ v. (refl, tt), (λ v. (refl, tt), (λ v. by-none _ (byTable 2 T₃) _ 3 (b ∷ []) v, (λ v. (refl, accepts), tt))))

@@ -12,7 +12,8 @@ use Rattle.feeds.specs.Opening.{Opening}
 use Rattle.flows.specs.Flow.{flowSize, flowBytes, rowsOf}
 use Rattle.plain.specs.Plain.{opened, openFlow, pairsOf}
 use Rattle.tables.specs.Table.{Table, table, splitSize, mostClass, mostParts, mostSplits, mostBound, tableRefusal}
-use Rattle.demands.specs.Calls.{Via, byList, byTable, outcome}
+use Rattle.demands.specs.Calls.{Via, byList, byTable, Call, outcome}
+use Rattle.demands.specs.Demands.{wordsOf, after}
 
 -- a row: what a definition gives, and what the example says
 abbrev pub Row : Type 0
@@ -99,6 +100,12 @@ tableOf splits = tableBy (1 ∷ 3 ∷ 1 ∷ 0 ∷ 0 ∷ 4 ∷ 0 ∷ 0 ∷ 0 ∷ 
 abbrev pub T₃ : Table
 T₃ = tableOf (s0 ++ (s01 ++ s02))
 
+-- a table of bound 1 for L, by hand: parts {0}, {0,1}, {0,2}, rows {0} {0,1} {0}, {0} {0,1} {0,2}, {0} {0,1} {0}, and each part a split
+abbrev pub T₁ : Table
+T₁ =
+    table (replicate 97 0 ++ (1 ∷ 2 ∷ replicate 157 0)) (setsOf (1 ∷ 3 ∷ 5 ∷ [])) (setsOf (1 ∷ 3 ∷ 1 ∷ 1 ∷ 3 ∷ 5 ∷ 1 ∷ 3 ∷ 1 ∷ []))
+    (splitOf₂ 1 0 65535 ++ (splitOf₂ 3 1 65535 ++ splitOf₂ 5 2 65535))
+
 -- ---- calls
 
 -- bytes a and b
@@ -156,6 +163,13 @@ afterA = fed byList (opened L) 0 (a ∷ []) 2 .saved
 abbrev pub afterBAB : List ℕ
 afterBAB = fed byList afterA 1 (b ∷ a ∷ b ∷ []) 2 .saved
 
+-- "abab" on L: "a" plain, "b" through T at 2, "ab" through the table of bound 1
+abbrev pub swaps : List Call
+swaps =
+    record { list = L; via = byList; at = 0; piece = a ∷ []; out = room 1 }
+    ∷ record { list = L; via = byTable 2 T₃; at = 1; piece = b ∷ []; out = room 1 }
+    ∷ record { list = L; via = byTable 1 T₁; at = 2; piece = a ∷ b ∷ []; out = room 1 } ∷ []
+
 -- ---- the rows
 
 abbrev pub feedRows : List Row
@@ -192,8 +206,7 @@ feedRows =
     -- an odd buffer filled with other numbers, "abab": room for one pair, and the words behind it stay, the odd last one too
     ∷ (odd .words, 7 ∷ 2 ∷ 9 ∷ [])
     ∷ (answered odd, 0 ∷ 3 ∷ 1 ∷ 0 ∷ [])
-    -- opening a record full of FF, with no room: no start state accepts, so it opens; one of another size, as that of 256 states, 48 bytes: 4, and it stays
-    ∷ (openAnswered (openFlow L full []) ++ openFlow L full [] .saved, 0 ∷ 0 ∷ opened L)
+    -- opening a record of another size, as that of 256 states, 48 bytes: 4, and it stays
     ∷ (openAnswered (openFlow L (0xFF ∷ []) []) ++ openFlow L (0xFF ∷ []) [] .saved, 4 ∷ 0 ∷ 0xFF ∷ [])
     ∷ (openAnswered (openFlow L (replicate 48 0xFF) []) ++ openFlow L (replicate 48 0xFF) [] .saved, 4 ∷ 0 ∷ replicate 48 0xFF)
     -- L₀ with four words of 9: the pairs (3, 0) and (5, 0); with three: 15, and nothing changes
@@ -235,6 +248,9 @@ feedRows =
     -- start 4 and accept 6 under signature 200 name {4,6}: {200} and {5} are refused, and opening takes a record that holds them
     ∷ (refusedAt lone 80 0 [] ++ refusedAt lone (2 ^ 200) 0 [] ++ refusedAt lone 32 0 [], 0 ∷ 0 ∷ 4 ∷ 4 ∷ 4 ∷ 4 ∷ [])
     ∷ (openAnswered (openFlow lone (flowBytes (2 ^ 200) 0 0) []), 0 ∷ 0 ∷ [])
+    -- "abab" with the engine swapped twice: the same words, and 1 + 2 + 1 + 1 rows
+    ∷ (wordsOf (opened L) swaps, 7 ∷ 2 ∷ 7 ∷ 4 ∷ [])
+    ∷ (rowsOf (after (opened L) swaps) ∷ [], 5 ∷ [])
     -- T at bound 1, fed "abab": 14 at the second byte
     ∷ (answered (splitABAB 1 (s0 ++ (s01 ++ s02)) 4), 14 ∷ 1 ∷ 0 ∷ 0 ∷ [])
     ∷ []
@@ -272,11 +288,19 @@ orderRows =
 abbrev pub openedRow : Row
 openedRow = (openAnswered (begin full 5) ++ begin full 5 .words, 0 ∷ 2 ∷ 3 ∷ 0 ∷ 5 ∷ 0 ∷ 9 ∷ [])
 
+-- opening a record full of FF, with no room: no start state of L accepts, so it opens
+abbrev pub openRow : Row
+openRow = (openAnswered (openFlow L full []) ++ openFlow L full [] .saved, 0 ∷ 0 ∷ opened L)
+
 -- the table check: T at 2 is accepted; at bound 1: 9; without {0,2}: 13; without {0}: 12
 abbrev pub acceptedRow : Row
 acceptedRow = (tableRefusal L 2 T₃ ∷ [], 0 ∷ [])
 
--- and for L₀, whose edges and start states are L's
+-- the table of bound 1 at 1
+abbrev pub acceptedRow₁ : Row
+acceptedRow₁ = (tableRefusal L 1 T₁ ∷ [], 0 ∷ [])
+
+-- and T for L₀, whose edges and start states are L's
 abbrev pub acceptedRow₀ : Row
 acceptedRow₀ = (tableRefusal L₀ 2 T₃ ∷ [], 0 ∷ [])
 
@@ -295,4 +319,4 @@ loudRow = (tableRefusal loud 2 T₃ ∷ [], 10 ∷ [])
 
 -- the one table
 abbrev pub examples : List Row
-examples = openedRow ∷ acceptedRow ∷ acceptedRow₀ ∷ boundRow ∷ closedRow ∷ startRow ∷ loudRow ∷ (feedRows ++ orderRows)
+examples = openRow ∷ openedRow ∷ acceptedRow ∷ acceptedRow₁ ∷ acceptedRow₀ ∷ boundRow ∷ closedRow ∷ startRow ∷ loudRow ∷ (feedRows ++ orderRows)
