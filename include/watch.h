@@ -2,10 +2,10 @@
  *
  * A signature list is an automaton. A flow of bytes is fed to it in pieces, and each time that a signature ends the caller gets a
  * pair: the number of the signature and the offset at which it ends. Link libwatch_c.a, which tools/build-c makes in
- * target/staticlib; it needs no other library. bindings/c/breakfast.c is a whole program over it, and bindings/c/live.c one for a live line, which goes on from a saved
+ * target/staticlib; it needs no other library than C's. bindings/c/breakfast.c is a whole program over it, and bindings/c/live.c one for a live line, which goes on from a saved
  * record after being killed.
  *
- * The functions keep nothing between calls and call nothing outside the archive: no memory is allocated, no file is read. All that a
+ * The functions keep nothing between calls and call nothing outside the archive but memset: no memory is allocated, no file is read. All that a
  * flow needs is in its record, which the caller keeps, copies, writes to a disk or hands to another process as it likes.
  *
  * Header and archive belong together. WATCH_VERSION is the header's version and watch_version() the archive's; compare them once at the
@@ -51,6 +51,10 @@
  *     splits      1 to WATCH_MOST_SPLITS records of WATCH_SPLIT_SIZE bytes: a set, then WATCH_SLOTS slots, each a 2-byte part
  *                 number, or WATCH_UNUSED
  *
+ * A bit matrix is made from a list: for each state up to the highest that a record of the list names (as the state that an edge leaves or leads
+ * to, or that starts or accepts), and each byte, a set. The set of state s and byte c is number s x WATCH_BYTE_VALUES + c, so that a matrix
+ * has WATCH_ROW_SIZE bytes for each state: at most WATCH_MOST_MATRIX.
+ *
  *
  * REFUSALS
  *
@@ -66,7 +70,8 @@
  *      5   the piece's stated start is not the flow's offset
  *      6   offset + piece length is over WATCH_MOST_OFFSET
  *      7   the bound is not 1 to WATCH_MOST_BOUND
- *      8   a list of the table has the wrong length, or a class is over WATCH_MOST_CLASS
+ *      8   a list of the table has the wrong length, or a class is over WATCH_MOST_CLASS; or the matrix has not WATCH_ROW_SIZE bytes for each
+ *          state up to the highest that the list names
  *      9   a split has a used slot that names no part, a used slot after an unused one, slots that do not strictly rise, more used
  *          slots than the bound, or a set that is not greater, as a string of bytes, than the one before; the split feed looks at the
  *          sets alone
@@ -80,7 +85,7 @@
  * Each has a name, WATCH_REFUSED_ and some words, and a sentence that watch_refusal_text gives.
  *
  * The list check gives 1 to 3; opening 1 to 4 and 15; the plain feed 1 to 6; the table check 1 to 3 and 7 to 13; the split feed 1 to 9,
- * and 14 per byte. A refusal other than 14 changes no buffer.
+ * and 14 per byte; the filler of a matrix 1 to 3 and 8; the matrix feed 1 to 6 and 8. A refusal other than 14 changes no buffer.
  *
  *
  * WHAT THE CALLER OWES
@@ -88,12 +93,12 @@
  * There is no wrong content: every byte in every buffer, and every length, start and bound, has an answer. The rest is the
  * caller's, and a call that breaks it has no promise at all:
  *
- *   - Each pointer is good for its length, as C means it: x_len bytes can be read at x, and the flow_len bytes and the
- *     pairs_len words can also be written. pairs is aligned as a uint32_t; nothing else has to be aligned.
+ *   - Each pointer is good for its length, as C means it: x_len bytes can be read at x, and the flow_len bytes, the
+ *     pairs_len words and the matrix_len bytes that are filled can also be written. pairs is aligned as a uint32_t; nothing else has to be aligned.
  *   - Through a pointer with length 0 nothing is read or written, so it may point anywhere. Give one that is not NULL, as the
  *     address of any object: the code takes NULL with length 0 today, and that is tested, but it is no part of what is proved. NULL
  *     with another length is an error.
- *   - flow and pairs are written, so neither overlaps the other or any other buffer of the call. The buffers that are only
+ *   - flow and pairs are written, and by the filler its matrix, so none overlaps another buffer of the call. The buffers that are only
  *     read may overlap one another, or be the same.
  *   - Nobody else writes any buffer of a call, or reads flow or pairs, while the call runs. Calls in several threads may share lists and
  *     tables; each has its own flow and pairs.
@@ -104,8 +109,9 @@
  *
  *   - Stack: WATCH_MOST_STACK bytes below the caller's frame at most, whatever the input, return addresses and red zone counted. tools/stack
  *     reads the number off the archive for each function, and tools/test-outside holds this one to it.
- *   - No heap, no statics, no locks, no system calls: the archive has no data that can be written, and calls nothing outside itself. So every
- *     function is reentrant: threads, tasks and signal handlers may be in it at once, each with its own flow and pairs.
+ *   - No heap, no statics, no locks, no system calls: the archive has no data that can be written, and calls nothing outside itself but C's
+ *     memset, which clears a matrix that is filled; a compiler asks for it without an operating system too. Its stack is not in the number
+ *     above. So every function is reentrant: threads, tasks and signal handlers may be in it at once, each with its own flow and pairs.
  *   - The code uses the general registers, the registers of SSE2 and the 128 bytes below the stack pointer, the red zone. So it is not for a
  *     bare interrupt, nor for a kernel that leaves those to the task that it interrupts: wake a task, and call from there.
  *   - Every call ends; that is proved. Its work is bounded by the lengths that it is given, and grows as docs/PERFORMANCE.md shows.
@@ -132,7 +138,7 @@ extern "C" {
 #endif
 
 /* The version of the face that this header describes. */
-#define WATCH_VERSION 6
+#define WATCH_VERSION 7
 
 /* Bytes of stack that a call takes at most. */
 #define WATCH_MOST_STACK 1216
@@ -180,6 +186,10 @@ extern "C" {
 
 /* Bytes in a split: its set, then its slots of two bytes. */
 #define WATCH_SPLIT_SIZE (WATCH_SET_SIZE + 2 * WATCH_SLOTS)
+
+/* Bytes of a matrix for one state, and of one for all states. */
+#define WATCH_ROW_SIZE (WATCH_BYTE_VALUES * WATCH_SET_SIZE)
+#define WATCH_MOST_MATRIX (WATCH_STATES * WATCH_ROW_SIZE)
 
 /* The refusals by name, and what is answered where there is none. The functions answer them as numbers. */
 enum watch_refusal {
@@ -284,6 +294,22 @@ watch_fed watch_split_feed(const uint8_t *list, size_t list_len,
                            const uint8_t *piece, size_t piece_len,
                            uint32_t *pairs, size_t pairs_len);
 
+/* The filler: writes the matrix of a list. 0, and each set is where the list leads from its state alone on its byte; or a refusal 1 to 3 or 8,
+ * which leaves the matrix as it is. What was in it before does not matter. */
+uint32_t watch_fill_matrix(const uint8_t *list, size_t list_len,
+                           uint8_t *matrix, size_t matrix_len);
+
+/* The matrix feed: as the plain feed, but each byte's new frontier is the union of the sets that the matrix has for the frontier's states and the
+ * byte; a state past the highest that the list names adds nothing. With a matrix that the filler wrote for this list it answers and leaves in every
+ * way what the plain feed does, rows read as well. Any other matrix of the right length is run as stored. Refusals 1 to 6 and 8 answer 0 bytes
+ * and 0 pairs and change nothing; 8 is given for an empty piece too. */
+watch_fed watch_matrix_feed(const uint8_t *list, size_t list_len,
+                            const uint8_t *matrix, size_t matrix_len,
+                            uint8_t *flow, size_t flow_len,
+                            uint64_t start,
+                            const uint8_t *piece, size_t piece_len,
+                            uint32_t *pairs, size_t pairs_len);
+
 /* A size as text within a sentence. */
 #define WATCH_TEXT_OF(tokens) #tokens
 #define WATCH_TEXT(size) WATCH_TEXT_OF(size)
@@ -312,7 +338,7 @@ static inline const char *watch_refusal_text(uint32_t n)
     case WATCH_REFUSED_BOUND:
         return "the bound is not 1 to " WATCH_TEXT(WATCH_MOST_BOUND);
     case WATCH_REFUSED_TABLE_LISTS:
-        return "a list of the table has the wrong length, or a class is over " WATCH_TEXT(WATCH_MOST_CLASS);
+        return "a list of the table has the wrong length, a class is over " WATCH_TEXT(WATCH_MOST_CLASS) ", or the matrix has the wrong length";
     case WATCH_REFUSED_SPLIT_RECORD:
         return "a split has a used slot that names no part, a used slot after an unused one, slots that do not strictly rise, more used "
                "slots than the bound, or a set that is not greater, as a string of bytes, than the one before";

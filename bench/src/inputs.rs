@@ -168,6 +168,28 @@ pub fn steady_list(n: usize, frontier: usize) -> Vec<u8> {
     list.concat()
 }
 
+/// The same of the first `states` states alone.
+pub fn small_list(n: usize, frontier: usize, states: u16) -> Vec<u8> {
+    let mut dice = Dice((n * 2000 + frontier) as u64);
+    let mut list = vec![start(0)];
+    list.extend((0..frontier).map(|s| edge(0, 255, s as u16, s as u16)));
+    while list.len() < n {
+        let from = dice.below(states.into()) as u16;
+        if list.len() % 16 == 15 && frontier < usize::from(states) {
+            let state = frontier as u16 + from % (states - frontier as u16);
+            list.push(accept(state, dice.signature()));
+            continue;
+        }
+        let most = if usize::from(from) < frontier { frontier as u64 } else { states.into() };
+        let to = dice.below(most) as u16;
+        list.push(narrow_edge(&mut dice, from, to));
+    }
+    // The last state is named, so that the matrix has a row for each.
+    list[1 + frontier] = edge(0, 0, states - 1, states - 1);
+    dice.mix(&mut list);
+    list.concat()
+}
+
 /// The list with every edge for either case.
 pub fn either_case(mut list: Vec<u8>) -> Vec<u8> {
     for record in list.chunks_exact_mut(RECORD_BYTES) {

@@ -18,7 +18,9 @@ mod sizes;
 use inputs::{Bytes, Table};
 use later::black_box;
 use ordinary::Fed;
-use sizes::{FLOW_BYTES, MOST_PARTS, MOST_RECORDS, MOST_SPLITS, SLOTS, SPLIT_BYTES, STATES};
+use sizes::{
+    FLOW_BYTES, MOST_PARTS, MOST_RECORDS, MOST_SPLITS, ROW_BYTES, SLOTS, SPLIT_BYTES, STATES,
+};
 use std::io::{BufRead, BufReader, Write};
 use std::process::{Child, ChildStdin, ChildStdout, Command, Stdio};
 use std::time::Instant;
@@ -32,13 +34,15 @@ const RUNS: usize = 21;
 /// The nanoseconds of processor time that one run of one side takes, where a call is shorter.
 const RUN: f64 = 25e6;
 
-/// One side's five functions.
+/// One side's seven functions.
 struct Side {
     check_list: fn(&[u8]) -> u32,
     open: fn(&[u8], &mut [u8], &mut [u32]) -> Fed,
     feed: fn(&[u8], &mut [u8], u64, &[u8], &mut [u32]) -> Fed,
     check_table: fn(&[u8], u64, &ordinary::Table) -> u32,
     split_feed: fn(&[u8], u64, &ordinary::Table, &mut [u8], u64, &[u8], &mut [u32]) -> Fed,
+    fill_matrix: fn(&[u8], &mut [u8]) -> u32,
+    matrix_feed: fn(&[u8], &[u8], &mut [u8], u64, &[u8], &mut [u32]) -> Fed,
 }
 
 const PROVED: Side = Side {
@@ -47,6 +51,8 @@ const PROVED: Side = Side {
     feed: proved::feed,
     check_table: proved::check_table,
     split_feed: proved::split_feed,
+    fill_matrix: proved::fill_matrix,
+    matrix_feed: proved::matrix_feed,
 };
 
 const ORDINARY: Side = Side {
@@ -55,6 +61,8 @@ const ORDINARY: Side = Side {
     feed: ordinary::feed,
     check_table: ordinary::check_table,
     split_feed: ordinary::split_feed,
+    fill_matrix: ordinary::fill_matrix,
+    matrix_feed: ordinary::matrix_feed,
 };
 
 /// What a row calls, and on what.
@@ -72,6 +80,14 @@ enum Call {
     SplitFeed {
         bound: u64,
         table: Table,
+        flow: [u8; FLOW_BYTES],
+        piece: Vec<u8>,
+    },
+    FillMatrix {
+        bytes: usize,
+    },
+    MatrixFeed {
+        matrix: Vec<u8>,
         flow: [u8; FLOW_BYTES],
         piece: Vec<u8>,
     },
@@ -102,11 +118,12 @@ impl Row {
     }
 }
 
-/// The buffers that a call writes to: a flow record and the pairs.
+/// The buffers that a call writes to: a flow record, the pairs, and a matrix.
 #[derive(Clone, PartialEq)]
 struct Buffers {
     flow: [u8; FLOW_BYTES],
     pairs: Vec<u32>,
+    matrix: Vec<u8>,
 }
 
 impl Buffers {
@@ -114,6 +131,7 @@ impl Buffers {
         Buffers {
             flow: [0xAA; FLOW_BYTES],
             pairs: vec![0xAAAA_AAAA; 8192],
+            matrix: Vec::new(),
         }
     }
 }
@@ -163,6 +181,19 @@ impl Work {
                     pairs,
                 )
             }
+            Call::FillMatrix { bytes } => {
+                buffers.matrix.resize(*bytes, 0xAA);
+                checked((side.fill_matrix)(&self.list, &mut buffers.matrix))
+            }
+            Call::MatrixFeed {
+                matrix,
+                flow,
+                piece,
+            } => {
+                buffers.flow = *flow;
+                let (list, pairs) = (&self.list, &mut buffers.pairs);
+                (side.matrix_feed)(list, matrix, &mut buffers.flow, 0, piece, pairs)
+            }
         }
     }
 
@@ -193,7 +224,9 @@ impl Work {
     /// The bytes that a call consumes; nothing where the row is about calls.
     fn bytes(&self) -> Option<usize> {
         match &self.call {
-            Call::Feed { piece, .. } | Call::SplitFeed { piece, .. } => Some(piece.len()),
+            Call::Feed { piece, .. }
+            | Call::SplitFeed { piece, .. }
+            | Call::MatrixFeed { piece, .. } => Some(piece.len()),
             _ => None,
         }
     }
@@ -293,6 +326,15 @@ fn rows() -> Vec<Row> {
             bound,
             table,
             flow: inputs::flow_at(first(1)),
+            piece,
+        }
+    }
+    fn matrix_fed(list: &[u8], states: usize, frontier: usize, piece: Vec<u8>) -> Call {
+        let mut matrix = vec![0; states * ROW_BYTES];
+        assert_eq!(ordinary::fill_matrix(list, &mut matrix), 0, "a matrix");
+        Call::MatrixFeed {
+            matrix,
+            flow: inputs::flow_at(first(frontier)),
             piece,
         }
     }
@@ -427,6 +469,83 @@ fn rows() -> Vec<Row> {
                 }),
             );
         }
+    }
+    row(
+        "matrix feed, 5 records, 3 states, frontier 1".into(),
+        8,
+        Box::new(|| {
+            let list = inputs::barn_list();
+            let call = matrix_fed(&list, 3, 1, inputs::line(4096));
+            (list, call)
+        }),
+    );
+    // The plain feed of the same lists stands beside it; a frontier of all states is the worst that a byte can meet.
+    const SMALL: u16 = 64;
+    for frontier in [1, 2, 8, SMALL as usize] {
+        let list = move || inputs::small_list(300, frontier, SMALL);
+        row(
+            format!("plain feed, 300 records, 64 states, frontier {frontier}"),
+            2,
+            Box::new(move || (list(), fed(frontier, inputs::line(512)))),
+        );
+        row(
+            format!("matrix feed, 300 records, 64 states, frontier {frontier}"),
+            4,
+            Box::new(move || {
+                let call = matrix_fed(&list(), SMALL.into(), frontier, inputs::line(2048));
+                (list(), call)
+            }),
+        );
+    }
+    row(
+        "matrix feed, 300 records, 64 states, frontier 2, pieces of 1 byte".into(),
+        16,
+        Box::new(|| {
+            let list = inputs::small_list(300, 2, SMALL);
+            let call = matrix_fed(&list, SMALL.into(), 2, inputs::line(1));
+            (list, call)
+        }),
+    );
+    for frontier in [1, 8, 64, STATES] {
+        row(
+            format!("matrix feed, {full} records, 1,024 states, frontier {frontier}"),
+            2,
+            Box::new(move || {
+                let list = inputs::steady_list(MOST_RECORDS, frontier);
+                let call = matrix_fed(&list, STATES, frontier, inputs::line(512));
+                (list, call)
+            }),
+        );
+    }
+    for records in [318, MOST_RECORDS] {
+        for (kind, bytes) in traffic {
+            row(
+                format!("matrix feed, {} records, {kind}", number(records)),
+                2,
+                Box::new(move || {
+                    let list = inputs::orders_list(records);
+                    let states = ordinary::states_of(&list);
+                    let call = matrix_fed(&list, states, 1, bytes(4096));
+                    (list, call)
+                }),
+            );
+        }
+    }
+    let fillings: [(&str, fn() -> Vec<u8>); 3] = [
+        ("5 records, 3 states", inputs::barn_list),
+        ("300 records, 64 states", || inputs::small_list(300, 2, SMALL)),
+        ("8,192 records, 1,024 states", || inputs::steady_list(MOST_RECORDS, 8)),
+    ];
+    for (what, list) in fillings {
+        row(
+            format!("filling a matrix, {what}"),
+            1,
+            Box::new(move || {
+                let list = list();
+                let bytes = ROW_BYTES * ordinary::states_of(&list);
+                (list, Call::FillMatrix { bytes })
+            }),
+        );
     }
     row(
         "opening, 5 records".into(),

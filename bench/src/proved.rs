@@ -69,6 +69,20 @@ extern "C" {
         pairs: *mut u32,
         pairs_len: usize,
     ) -> WatchFed;
+    fn watch_fill_matrix(list: *const u8, list_len: usize, matrix: *mut u8, matrix_len: usize) -> u32;
+    fn watch_matrix_feed(
+        list: *const u8,
+        list_len: usize,
+        matrix: *const u8,
+        matrix_len: usize,
+        flow: *mut u8,
+        flow_len: usize,
+        start: u64,
+        piece: *const u8,
+        piece_len: usize,
+        pairs: *mut u32,
+        pairs_len: usize,
+    ) -> WatchFed;
 }
 
 fn fed(answer: WatchFed) -> Fed {
@@ -170,4 +184,41 @@ pub fn split_feed(
             pairs.len(),
         )
     })
+}
+
+pub fn fill_matrix(list: &[u8], matrix: &mut [u8]) -> u32 {
+    // SAFETY: as above.
+    unsafe { watch_fill_matrix(list.as_ptr(), list.len(), matrix.as_mut_ptr(), matrix.len()) }
+}
+
+pub fn matrix_feed(
+    list: &[u8],
+    matrix: &[u8],
+    record: &mut [u8],
+    start: u64,
+    piece: &[u8],
+    pairs: &mut [u32],
+) -> Fed {
+    // SAFETY: as above.
+    let fed = unsafe {
+        watch_matrix_feed(
+            list.as_ptr(),
+            list.len(),
+            matrix.as_ptr(),
+            matrix.len(),
+            record.as_mut_ptr(),
+            record.len(),
+            start,
+            piece.as_ptr(),
+            piece.len(),
+            pairs.as_mut_ptr(),
+            pairs.len(),
+        )
+    };
+    Fed {
+        refusal: fed.refusal,
+        bytes: fed.bytes as usize,
+        pairs: fed.pairs as usize,
+        all: fed.all,
+    }
 }

@@ -29,3 +29,6 @@ pub const SPLIT_BYTES: usize = SET_BYTES + 2 * SLOTS;
 pub const MOST_SPLITS: usize = 4096;
 pub const MOST_PARTS: usize = 1024;
 pub const CLASSES: usize = 64;
+
+/// A matrix has a set for each byte and each of its states: so many bytes for a state.
+pub const ROW_BYTES: usize = BYTE_VALUES * SET_BYTES;

@@ -18,9 +18,11 @@ NEEDED = {
     "f": [0, 1, 2, 3, 4, 5, 6],
     "k": [0, 1, 2, 3, 7, 8, 9, 10, 11, 12, 13],
     "s": [0, 1, 2, 3, 4, 5, 6, 7, 8, 9, 14],
+    "m": [0, 1, 2, 3, 8],
+    "x": [0, 1, 2, 3, 4, 5, 6, 8],
 }
 NAMES = {"c": "list check", "o": "opening", "f": "plain feed", "k": "table check",
-         "s": "split feed"}
+         "s": "split feed", "m": "filler", "x": "matrix feed"}
 
 
 def counts_text(counts, groups):

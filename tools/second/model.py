@@ -29,6 +29,8 @@ MOST_BOUND = 4
 SLOTS = 4  # in a split
 UNUSED = 65535  # the number in a slot that is not in use
 SPLIT_SIZE = SET_SIZE + 2 * SLOTS  # bytes in a split
+ROW_SIZE = BYTE_VALUES * SET_SIZE  # bytes of a matrix for one state
+MOST_MATRIX = STATES * ROW_SIZE  # and for all states
 
 Accept = namedtuple("Accept", "state signature")
 Flow = namedtuple("Flow", "frontier offset rows")
@@ -36,6 +38,7 @@ Table = namedtuple("Table", "classes parts rows splits")  # four byte lists
 Split = namedtuple("Split", "name members slots")
 Answer = namedtuple("Answer", "refusal consumed pairs all words record")
 Opened = namedtuple("Opened", "refusal pairs words record")
+Filled = namedtuple("Filled", "refusal matrix")
 
 
 # Numbers and sets as bytes
@@ -291,10 +294,35 @@ def table_refusal(data, table, bound):
     return deep_refusal(data, table)
 
 
+# The bit matrix: a set for each state up to the highest that is named, and each byte
+
+def matrix_states(data):
+    """How many states a list's matrix has."""
+    return max(automaton(data).named) + 1
+
+
+@lru_cache(maxsize=8)
+def matrix_of(data):
+    nfa = automaton(data)
+    return b"".join(pack_set(nfa.step(frozenset([state]), byte))
+                    for state in range(matrix_states(data)) for byte in range(BYTE_VALUES))
+
+
+def wrong_matrix(data, matrix):
+    return len(matrix) != matrix_states(data) * ROW_SIZE
+
+
+def fill_matrix(data, matrix):
+    refusal = list_refusal(data)
+    if not refusal and wrong_matrix(data, matrix):
+        refusal = 8
+    return Filled(refusal, matrix if refusal else matrix_of(data))
+
+
 # The feeds
 
 def feed_refusal(data, record, start, piece):
-    """The lowest of 1 to 6, the tests that both feeds begin with."""
+    """The lowest of 1 to 6, the tests that every feed begins with."""
     refusal = list_refusal(data)
     if refusal:
         return refusal
@@ -373,5 +401,20 @@ def split_feed(data, table, bound, record, start, words, piece):
             return None
         group = lists.classes[byte]
         return union(lists.row[slot, group] for slot in taken), len(taken)
+
+    return run(automaton(data), record, words, piece, move)
+
+
+def matrix_feed(data, matrix, record, start, words, piece):
+    refusal = feed_refusal(data, record, start, piece)
+    if not refusal and wrong_matrix(data, matrix):
+        refusal = 8
+    if refusal:
+        return refused(refusal, words, record)
+    states = matrix_states(data)
+
+    def move(frontier, byte):
+        places = [SET_SIZE * (state * BYTE_VALUES + byte) for state in frontier if state < states]
+        return union(unpack_set(matrix[at:at + SET_SIZE]) for at in places), len(frontier)
 
     return run(automaton(data), record, words, piece, move)

@@ -44,6 +44,13 @@ def replay(data, tape):
             tape.load_table(Table(reader.block(), reader.block(), reader.block(), reader.block()))
         elif command == b"R":
             tape.load_record(reader.block())
+        elif command == b"M":
+            tape.load_matrix(reader.block())
+        elif command == b"m":
+            tape.fill_matrix()
+        elif command == b"x":
+            start, words, piece = reader.number(8), reader.number(4), reader.block()
+            tape.matrix_feed(start, words, piece)
         elif command == b"c":
             tape.check_list()
         elif command == b"o":

@@ -1,7 +1,7 @@
 """The stream of commands and the lines expected for them.
 
 A tape holds the same state as the program that replays the stream: the
-current list, table and record. Each method writes one command, and where the
+current list, table, matrix and record. Each method writes one command, and where the
 command answers, works out its line with the model.
 """
 
@@ -20,6 +20,8 @@ BEYOND = 256
 MOST_TABLE = model.Table(model.BYTE_VALUES, model.MOST_PARTS * model.SET_SIZE,
                          4 * model.MOST_PARTS * model.SET_SIZE,
                          model.MOST_SPLITS * model.SPLIT_SIZE)
+# The most states of a matrix.
+MOST_MATRIX_STATES = 8
 
 
 def digest(data):
@@ -65,6 +67,7 @@ class Tape:
         self.groups = []  # names, each with its number of lines
         self.list = b""
         self.table = model.Table(b"", b"", b"", b"")
+        self.matrix = b""
         self.record = b""
 
     # Loading. Nothing is written when the content is already current.
@@ -81,6 +84,12 @@ class Tape:
         if table != self.table:
             self.table = table
             self.commands.append(b"T" + b"".join(block(data) for data in table))
+
+    def load_matrix(self, matrix):
+        assert len(matrix) <= MOST_MATRIX_STATES * model.ROW_SIZE + BEYOND
+        if matrix != self.matrix:
+            self.matrix = matrix
+            self.commands.append(b"M" + block(matrix))
 
     def load_record(self, record):
         assert len(record) <= model.FLOW_SIZE + BEYOND
@@ -145,6 +154,17 @@ class Tape:
                                   buffer, piece)
         return self._fed(b"s" + u64(bound) + u64(start) + u32(words) + block(piece),
                          "s", answer)
+
+    def fill_matrix(self):
+        answer = model.fill_matrix(self.list, self.matrix)
+        self.matrix = answer.matrix
+        return self._answer(b"m", "m", [answer.refusal, digest(answer.matrix)])
+
+    def matrix_feed(self, start, words, piece):
+        assert words <= MOST_WORDS and len(piece) <= MOST_PIECE
+        buffer = [WORD_FILL + i for i in range(words)]
+        answer = model.matrix_feed(self.list, self.matrix, self.record, start, buffer, piece)
+        return self._fed(b"x" + u64(start) + u32(words) + block(piece), "x", answer)
 
     # The two files.
 

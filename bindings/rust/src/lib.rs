@@ -68,6 +68,12 @@
 //! A [`Table`] is an automaton worked out beforehand, with at most [`MOST_BOUND`] rows read a byte. One that passes [`Table::check`] tells the same
 //! pairs as the plain feed.
 //!
+//! # Bit matrices
+//!
+//! A [`Matrix`] has a set for each state and byte, which [`Matrix::fill`] writes from a list into a buffer of [`List::matrix_size`] bytes. Fed by it,
+//! a flow is in every way as fed by its list: pairs, record and rows read. It costs [`ROW_SIZE`] bytes a state, and a byte then costs work for
+//! each state of the frontier and not for each record of the list.
+//!
 //! # Linking
 //!
 //! The code itself is the archive `libwatch_c.a`, for x86-64 and the System V calling convention. `tools/build-c` in the repository
@@ -79,7 +85,7 @@
 //! The archive says which version of the face it has, and [`List::check`] compares it with [`VERSION`]: everything else begins with a list,
 //! so nothing runs over an archive that this crate is not written for.
 //!
-//! This wrapper is not proved. All that is unsafe in it is six calls: five in which slices are handed on as pointers and lengths, and one
+//! This wrapper is not proved. All that is unsafe in it is eight calls: seven in which slices are handed on as pointers and lengths, and one
 //! that takes nothing.
 //!
 //! # Features
@@ -100,8 +106,8 @@ mod sizes;
 
 pub use refusal::{Refusal, SplitError};
 pub use sizes::{
-    BYTE_VALUES, ENOUGH_WORDS, FLOW_SIZE, MOST_BOUND, MOST_CLASS, MOST_LIST, MOST_OFFSET, MOST_PARTS, MOST_RECORDS,
-    MOST_SPLITS, OFFSET_AT, RECORD_SIZE, RESERVED_AT, ROWS_AT, SET_SIZE, SIGNATURES, SLOTS, SPLIT_SIZE, STATES, UNUSED,
+    BYTE_VALUES, ENOUGH_WORDS, FLOW_SIZE, MOST_BOUND, MOST_CLASS, MOST_LIST, MOST_MATRIX, MOST_OFFSET, MOST_PARTS, MOST_RECORDS,
+    MOST_SPLITS, OFFSET_AT, RECORD_SIZE, RESERVED_AT, ROWS_AT, ROW_SIZE, SET_SIZE, SIGNATURES, SLOTS, SPLIT_SIZE, STATES, UNUSED,
     VERSION,
 };
 
@@ -174,6 +180,28 @@ impl<'a> List<'a> {
     /// The number of records.
     pub fn records(&self) -> usize {
         self.bytes.len() / RECORD_SIZE
+    }
+
+    /// The bytes of the list's [`Matrix`]: [`ROW_SIZE`] for each state up to the highest that a record names, as the state that an edge leaves or
+    /// leads to, or that starts or accepts.
+    ///
+    /// ```
+    /// use watch::{List, ROW_SIZE};
+    ///
+    /// // An accept record names state 2 and signature 7, a start record state 0.
+    /// let list = List::check(b"\x02\0\0\0\0\0\0\0\x03\0\0\0\x02\0\x07\0").unwrap();
+    /// assert_eq!(list.matrix_size(), 3 * ROW_SIZE);
+    /// ```
+    pub fn matrix_size(&self) -> usize {
+        let named = |record: &[u8]| {
+            let number = |at: usize| usize::from(record[at]) + 256 * usize::from(record[at + 1]);
+            match record[0] {
+                1 => number(4).max(number(6)),
+                2 => number(6),
+                _ => number(4),
+            }
+        };
+        ROW_SIZE * (1 + self.bytes.chunks_exact(RECORD_SIZE).map(named).max().unwrap_or(0))
     }
 }
 
@@ -443,6 +471,81 @@ impl Flow {
             }
             Err(refusal) => Err(SplitError::Refused(refusal)),
         }
+    }
+
+    /// The matrix feed of a piece that begins at offset `start` of the flow: as [`feed`](Flow::feed), but each byte's new frontier is the union of
+    /// the stored sets of its states.
+    ///
+    /// With a matrix that [`Matrix::fill`] wrote it does in every way what the plain feed of the list does. Refusals 4 to 6, and 8 for a matrix of
+    /// another length.
+    ///
+    /// ```
+    /// # use watch::{Flow, List, Matrix, Refusal};
+    /// # let bytes = *b"\x01\x00\xFF\0\0\0\0\0\x01aa\0\0\0\x01\0\x01bb\0\x01\0\x02\0\x02\0\0\0\0\0\0\0\x03\0\0\0\x02\0\x07\0";
+    /// let list = List::check(&bytes)?; // signature 7 after any "ab"
+    /// let matrix = Matrix::fill(&list, vec![0; list.matrix_size()])?;
+    /// let mut words = [0; 4];
+    /// let mut flow = Flow::open(&list, &mut words)?.flow;
+    /// let fed = flow.matrix_feed(&matrix, 0, b"abab", &mut words)?;
+    /// assert_eq!((fed.all, words, flow.rows_read()), (true, [7, 2, 7, 4], 7));
+    ///
+    /// // A byte is missing: refused, and the record stays.
+    /// let short = Matrix::unchecked(&list, &matrix.as_bytes()[1..]);
+    /// assert_eq!(flow.matrix_feed(&short, 4, b"ab", &mut words), Err(Refusal::TableLists));
+    /// assert_eq!(flow.offset(), 4);
+    /// # Ok::<(), Refusal>(())
+    /// ```
+    pub fn matrix_feed<B: AsRef<[u8]>>(
+        &mut self,
+        matrix: &Matrix<'_, B>,
+        start: u64,
+        piece: &[u8],
+        pairs: &mut [u32],
+    ) -> Result<Fed, Refusal> {
+        let (list, bytes) = (matrix.list.bytes, matrix.bytes.as_ref());
+        // SAFETY: as in `feed`.
+        let fed = unsafe {
+            raw::watch_matrix_feed(
+                list.as_ptr(),
+                list.len(),
+                bytes.as_ptr(),
+                bytes.len(),
+                self.bytes.as_mut_ptr(),
+                FLOW_SIZE,
+                start,
+                piece.as_ptr(),
+                piece.len(),
+                pairs.as_mut_ptr(),
+                pairs.len(),
+            )
+        };
+        Refusal::verdict(fed.refusal)?;
+        Ok(Fed::from_raw(fed))
+    }
+
+    /// The matrix feed of a whole piece that begins at offset `start` of the flow, as [`feed_all`](Flow::feed_all) is the plain one.
+    ///
+    /// ```
+    /// # use watch::{Flow, List, Matrix, Refusal};
+    /// # let bytes = *b"\x01\x00\xFF\0\0\0\0\0\x02\0\0\0\0\0\0\0\x03\0\0\0\0\0\x09\0";
+    /// # let list = List::check(&bytes)?;
+    /// // Signature 9 at opening and at every byte, by state 0:
+    /// let matrix = Matrix::fill(&list, vec![0; list.matrix_size()])?;
+    /// let mut told = 0;
+    /// let mut flow = Flow::open_all(&list, |_| told += 1);
+    /// let fed = flow.matrix_feed_all(&matrix, 0, &[0; 1000], |_| told += 1)?;
+    /// assert_eq!((fed.bytes, fed.pairs, told), (1000, 1000, 1001));
+    /// # Ok::<(), Refusal>(())
+    /// ```
+    pub fn matrix_feed_all<B: AsRef<[u8]>>(
+        &mut self,
+        matrix: &Matrix<'_, B>,
+        start: u64,
+        piece: &[u8],
+        told: impl FnMut(Pair),
+    ) -> Result<FedAll, Refusal> {
+        feed_whole(start, piece, told, |start, rest, words| Ok(self.matrix_feed(matrix, start, rest, words)?))
+            .map_err(|error| error.refusal())
     }
 
     /// The plain feed of a whole piece that begins at offset `start` of the flow. Each pair is handed to `told`, in order, and after a
@@ -776,12 +879,82 @@ impl<'a> Table<'a> {
     }
 }
 
+/// A bit matrix with the list that it is for: a set of [`SET_SIZE`] bytes for each state up to the highest that the list names and each byte, that of
+/// state s and byte c at index s × [`BYTE_VALUES`] + c.
+///
+/// It owns its bytes, or borrows them, as `B` does: `Vec<u8>`, `Box<[u8]>`, `&[u8]`.
+#[derive(Clone, Copy, PartialEq, Eq)]
+pub struct Matrix<'a, B> {
+    list: List<'a>,
+    bytes: B,
+}
+
+impl<'a, B: AsRef<[u8]> + AsMut<[u8]>> Matrix<'a, B> {
+    /// Writes the matrix of a list over a buffer, which has [`List::matrix_size`] bytes; else refusal 8, and they stay as they are.
+    ///
+    /// ```
+    /// use watch::{List, Matrix, Refusal, ROW_SIZE, SET_SIZE};
+    ///
+    /// // An edge on 'a' from state 0 to state 0, which starts.
+    /// let bytes = *b"\x01aa\0\0\0\0\0\x02\0\0\0\0\0\0\0";
+    /// let list = List::check(&bytes)?;
+    /// let matrix = Matrix::fill(&list, [9; ROW_SIZE])?;
+    /// let a = usize::from(b'a') * SET_SIZE;
+    /// assert_eq!(matrix.as_bytes()[a..a + 2], [1, 0]);
+    /// assert_eq!(matrix.as_bytes().iter().filter(|&&byte| byte != 0).count(), 1);
+    ///
+    /// let mut long = [9; ROW_SIZE + 1];
+    /// assert_eq!(Matrix::fill(&list, &mut long[..]).err(), Some(Refusal::TableLists));
+    /// assert_eq!(long, [9; ROW_SIZE + 1]);
+    /// # Ok::<(), Refusal>(())
+    /// ```
+    pub fn fill(list: &List<'a>, mut bytes: B) -> Result<Matrix<'a, B>, Refusal> {
+        let matrix = bytes.as_mut();
+        // SAFETY: each pointer and length is that of a slice that is borrowed over the call, the matrix's alone for writing.
+        let number = unsafe {
+            raw::watch_fill_matrix(list.bytes.as_ptr(), list.bytes.len(), matrix.as_mut_ptr(), matrix.len())
+        };
+        Refusal::verdict(number)?;
+        Ok(Matrix { list: *list, bytes })
+    }
+}
+
+impl<'a, B: AsRef<[u8]>> Matrix<'a, B> {
+    /// A matrix that is not filled here, as one that was stored. Nothing is unsafe about a bad one: a feed refuses another length (8), and runs what
+    /// is stored as it stands.
+    pub fn unchecked(list: &List<'a>, bytes: B) -> Matrix<'a, B> {
+        Matrix { list: *list, bytes }
+    }
+
+    /// The list that the matrix is for.
+    pub fn list(&self) -> List<'a> {
+        self.list
+    }
+
+    /// The matrix's bytes.
+    pub fn as_bytes(&self) -> &[u8] {
+        self.bytes.as_ref()
+    }
+
+    /// What holds the bytes, given back.
+    pub fn into_bytes(self) -> B {
+        self.bytes
+    }
+}
+
+impl<B: AsRef<[u8]>> fmt::Debug for Matrix<'_, B> {
+    fn fmt(&self, f: &mut fmt::Formatter<'_>) -> fmt::Result {
+        write!(f, "Matrix({} states)", self.as_bytes().len() / ROW_SIZE)
+    }
+}
+
 /// Lists and tables may be shared between threads, and flows handed from one to another.
 const _: () = {
     const fn send_and_sync<T: Send + Sync + Unpin + 'static>() {}
     send_and_sync::<List<'static>>();
     send_and_sync::<Table<'static>>();
     send_and_sync::<TableLists<'static>>();
+    send_and_sync::<Matrix<'static, &[u8]>>();
     send_and_sync::<Flow>();
     send_and_sync::<Opened>();
     send_and_sync::<Fed>();

@@ -4,9 +4,9 @@
 //!
 //! # Safety
 //!
-//! Of every function here: each pointer is valid for its length (`pairs_len` counts words), for reads, and `flow` and `pairs` for writes
-//! too; `pairs` is aligned; `flow` and `pairs` overlap nothing else of the call; nobody else writes any of the buffers, or reads `flow` or
-//! `pairs`, during the call. A pointer with length 0 may dangle. There is no wrong content.
+//! Of every function here: each pointer is valid for its length (`pairs_len` counts words), for reads, and `flow`, `pairs` and the `matrix` that
+//! is filled for writes too; `pairs` is aligned; what is written overlaps nothing else of the call; nobody else writes any of the buffers, or
+//! reads one that is written, during the call. A pointer with length 0 may dangle. There is no wrong content.
 
 /// What a feed answers, as C lays it out.
 #[repr(C)]
@@ -90,6 +90,24 @@ extern "C" {
         rows_len: usize,
         splits: *const u8,
         splits_len: usize,
+        flow: *mut u8,
+        flow_len: usize,
+        start: u64,
+        piece: *const u8,
+        piece_len: usize,
+        pairs: *mut u32,
+        pairs_len: usize,
+    ) -> WatchFed;
+
+    /// Writes the matrix of a list: 0, or a refusal 1 to 3 or 8.
+    pub fn watch_fill_matrix(list: *const u8, list_len: usize, matrix: *mut u8, matrix_len: usize) -> u32;
+
+    /// The matrix feed: refusals 1 to 6 and 8.
+    pub fn watch_matrix_feed(
+        list: *const u8,
+        list_len: usize,
+        matrix: *const u8,
+        matrix_len: usize,
         flow: *mut u8,
         flow_len: usize,
         start: u64,

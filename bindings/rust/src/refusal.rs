@@ -114,7 +114,10 @@ impl fmt::Display for Refusal {
             Refusal::OtherStart => f.write_str("the piece's stated start differs from the flow's offset"),
             Refusal::TooLong => write!(f, "offset + piece length > {MOST_OFFSET}"),
             Refusal::Bound => write!(f, "bound not 1 to {MOST_BOUND}"),
-            Refusal::TableLists => write!(f, "a table list has the wrong length, or a class is over {MOST_CLASS}"),
+            Refusal::TableLists => write!(
+                f,
+                "a table list has the wrong length, a class is over {MOST_CLASS}, or the matrix has the wrong length"
+            ),
             Refusal::SplitRecord => f.write_str(
                 "a split has a used slot that names no part, a used slot after an unused one, slots not strictly rising, \
                  more than b used, or a set not greater (as byte strings) than the one before",

@@ -2,7 +2,7 @@
 //! is written so. `tools/sizes` in the repository holds them to the constants of the proved code.
 
 /// The version of the C face that this crate is written for. [`List::check`](crate::List::check) compares it with the archive's.
-pub const VERSION: u32 = 6;
+pub const VERSION: u32 = 7;
 
 /// States are the numbers below this one.
 pub const STATES: usize = 1024;
@@ -63,3 +63,9 @@ pub const UNUSED: u16 = 65_535;
 
 /// Bytes in a split: its set, then its slots of two bytes.
 pub const SPLIT_SIZE: usize = SET_SIZE + 2 * SLOTS;
+
+/// Bytes of a matrix for one state: a set for each byte.
+pub const ROW_SIZE: usize = BYTE_VALUES * SET_SIZE;
+
+/// Bytes of a matrix for all states.
+pub const MOST_MATRIX: usize = STATES * ROW_SIZE;

@@ -1,4 +1,4 @@
-//! Replays the outside vectors, `crates/vectors/stdin`, through the five functions of the archive and compares each line with
+//! Replays the outside vectors, `crates/vectors/stdin`, through the seven functions of the archive and compares each line with
 //! `crates/vectors/stdout`. `tools/second/README.md` says what the commands are. Every buffer is a heap block of exactly its length, so
 //! that a memory checker sees any step outside it. Under one, `WATCH_VECTORS` may name a smaller number of lines.
 
@@ -66,6 +66,7 @@ struct State {
     parts: Box<[u8]>,
     rows: Box<[u8]>,
     splits: Box<[u8]>,
+    matrix: Box<[u8]>,
     record: Box<[u8]>,
 }
 
@@ -84,6 +85,10 @@ impl State {
                 self.parts = reader.block();
                 self.rows = reader.block();
                 self.splits = reader.block();
+                return None;
+            }
+            'M' => {
+                self.matrix = reader.block();
                 return None;
             }
             'R' => {
@@ -174,6 +179,31 @@ impl State {
                 };
                 fed_line('s', fed, &words, &self.record)
             }
+            'm' => {
+                let refusal = unsafe { raw::watch_fill_matrix(l, n, self.matrix.as_mut_ptr(), self.matrix.len()) };
+                (refusal, format!("m {refusal} {}", digest(self.matrix.iter().copied())))
+            }
+            'x' => {
+                let start = reader.u64();
+                let mut words: Box<[u32]> = (0..reader.u32()).map(|i| WORD_FILL + i).collect();
+                let piece = reader.block();
+                let fed = unsafe {
+                    raw::watch_matrix_feed(
+                        l,
+                        n,
+                        self.matrix.as_ptr(),
+                        self.matrix.len(),
+                        self.record.as_mut_ptr(),
+                        self.record.len(),
+                        start,
+                        piece.as_ptr(),
+                        piece.len(),
+                        words.as_mut_ptr(),
+                        words.len(),
+                    )
+                };
+                fed_line('x', fed, &words, &self.record)
+            }
             _ => panic!("no such command: {name}"),
         };
         Some((name, refusal, line))
@@ -205,9 +235,15 @@ fn the_vectors_are_answered_line_by_line() {
         assert_eq!(expected.next(), None, "after line {lines}");
     }
     println!("vectors: {lines} lines, all equal");
-    for (entry, name) in
-        [('c', "list check"), ('o', "opening"), ('f', "plain feed"), ('k', "table check"), ('s', "split feed")]
-    {
+    for (entry, name) in [
+        ('c', "list check"),
+        ('o', "opening"),
+        ('f', "plain feed"),
+        ('k', "table check"),
+        ('s', "split feed"),
+        ('m', "filler"),
+        ('x', "matrix feed"),
+    ] {
         let of = counts.iter().filter(|((letter, _), _)| *letter == entry);
         let text: Vec<String> = of.clone().map(|((_, refusal), count)| format!("{refusal}:{count}")).collect();
         println!("  {entry}  {name:11} {:6}  {}", of.map(|(_, count)| count).sum::<usize>(), text.join(" "));

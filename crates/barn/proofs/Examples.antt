@@ -17,6 +17,7 @@ use Rattle.flows.specs.Flow.{flowBytes, badFlow}
 use Rattle.plain.specs.Plain.{openPairs}
 use Rattle.tables.specs.Table.{largest, part, row, splitSet, slots, usedSlots, takenSlots, allBelow, joined, badClasses, badCount, badRowsLength, badLengths, goodSlots, inOrder, unordered, badSplits, badRows, badUnion, noStartSplit, notClosed, tableRefusal, splitOf}
 use Rattle.splits.specs.Split.{taken, stuck, splitStep}
+use Rattle.matrix.specs.Matrix.{highestBy}
 use Rattle.barn.specs.Examples.{Row, Agree, feedRows, openRow, openedRow, acceptedRow, acceptedRow₁, acceptedRow₀, boundRow, closedRow, startRow, loudRow, orderRows, examples}
 
 -- rows are compared by computing; what computes as the same is the same
@@ -62,7 +63,7 @@ unfolding largest part row splitSet slots usedSlots takenSlots allBelow rising j
 checks = 0
 
 feeds : ℕ
-unfolding opening openPairs run costs due pairsAt told consumed ended feed recordAfter allTold flowBytes badFlow splitOf taken stuck splitStep
+unfolding opening openPairs run costs due pairsAt told consumed ended feed recordAfter allTold flowBytes badFlow splitOf taken stuck splitStep highestBy
 feeds = 0
 
 -- each row that runs the table check is computed by itself, and the feeds' rows together

@@ -11,7 +11,8 @@ use Rattle.rules.proofs.Rules.{stop}
 use Rattle.feeds.specs.Calls.{Bytes}
 use Rattle.plain.specs.Plain.{openFlow}
 use Rattle.tables.specs.Table.{tableRefusal}
-use Rattle.demands.specs.Calls.{Via, byList, byTable, Call, rulesOf}
+use Rattle.matrix.specs.Matrix.{filled}
+use Rattle.demands.specs.Calls.{Via, byList, byTable, byMatrix, Call, rulesOf}
 use Rattle.demands.specs.Demands.{InBytes, Demand2Opened, Demand3, Swapped}
 use Rattle.barn.specs.Examples.{L, L₀, T₃, T₁, a, b, room, full, begin, swaps}
 use Rattle.barn.proofs.Examples.{open-agrees, opened-agrees, accepted-agrees, accepted-agrees₁, accepted-agrees₀}
@@ -53,6 +54,7 @@ by-none : (P : Type 0) (via : Via) (R : List ℕ) (at : ℕ) (piece : List ℕ) 
 unfolding badLength
 by-none P byList R at piece v = absurd (omega (arith, sym (stop 1 _ refl) ∙ v))
 by-none P (byTable n T) R at piece v = absurd (omega (arith, sym (stop 1 _ refl) ∙ v))
+by-none P (byMatrix X) R at piece v = absurd (omega (arith, sym (stop 1 _ refl) ∙ v))
 
 pub plain-applies : Demand2Opened L₀ (begin full 5) (calls byList)
 plain-applies =
@@ -84,11 +86,13 @@ swapped-applies =
     swapped L full [] opens swaps (one a (lit< tt), (one b (lit< tt), (two, tt)))
     (λ v. (refl, tt), (λ v. (refl, accepts₂), (λ v. (refl, accepts₁), tt)))
 
--- four calls, the first plain and the last through a table, and between them the two that are refused
+-- five calls, the first plain, the fourth through a table and the last by the list's matrix, and between them the two that are refused
 abbrev mixed : List Call
-mixed = fed byList L₀ 0 (a ∷ b ∷ a ∷ []) ∷ fed byList L₀ 0 (b ∷ []) ∷ fed (byTable 2 T₃) [] 3 (b ∷ []) ∷ fed (byTable 2 T₃) L₀ 3 (b ∷ []) ∷ []
+mixed =
+    fed byList L₀ 0 (a ∷ b ∷ a ∷ []) ∷ fed byList L₀ 0 (b ∷ []) ∷ fed (byTable 2 T₃) [] 3 (b ∷ [])
+    ∷ fed (byTable 2 T₃) L₀ 3 (b ∷ []) ∷ fed (byMatrix (filled L₀)) L₀ 4 (b ∷ []) ∷ []
 
 pub mixed-applies : Swapped L₀ (begin full 5) mixed
 mixed-applies =
-    swapped L₀ full (replicate 5 9) passes mixed (three, (one b (lit< tt), (one b (lit< tt), (one b (lit< tt), tt))))
-    (λ v. (refl, tt), (λ v. (refl, tt), (λ v. by-none _ (byTable 2 T₃) _ 3 (b ∷ []) v, (λ v. (refl, accepts), tt))))
+    swapped L₀ full (replicate 5 9) passes mixed (three, (one b (lit< tt), (one b (lit< tt), (one b (lit< tt), (one b (lit< tt), tt)))))
+    (λ v. (refl, tt), (λ v. (refl, tt), (λ v. by-none _ (byTable 2 T₃) _ 3 (b ∷ []) v, (λ v. (refl, accepts), (λ v. (refl, refl), tt)))))

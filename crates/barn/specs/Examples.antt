@@ -6,13 +6,14 @@ use mathlib.Core.Path.{_≡_}
 use lib.ListN.{replicate}
 use Rattle.sets.specs.Set.{states, signatures, setSize, digits, setBytes}
 use Rattle.lists.specs.List.{mostRecords, listRefusal}
-use Rattle.lists.specs.Automaton.{edge}
+use Rattle.lists.specs.Automaton.{edge, step}
 use Rattle.feeds.specs.Engine.{Outcome, mostOffset}
 use Rattle.feeds.specs.Opening.{Opening}
 use Rattle.flows.specs.Flow.{flowSize, flowBytes, rowsOf}
 use Rattle.plain.specs.Plain.{opened, openFlow, pairsOf}
 use Rattle.tables.specs.Table.{Table, table, splitSize, mostClass, mostParts, mostSplits, mostBound, tableRefusal}
-use Rattle.demands.specs.Calls.{Via, byList, byTable, Call, outcome}
+use Rattle.matrix.specs.Matrix.{matrixLength, cellAt}
+use Rattle.demands.specs.Calls.{Via, byList, byTable, byMatrix, Call, outcome}
 use Rattle.demands.specs.Demands.{wordsOf, after}
 
 -- a row: what a definition gives, and what the example says
@@ -251,6 +252,13 @@ feedRows =
     -- "abab" with the engine swapped twice: the same words, and 1 + 2 + 1 + 1 rows
     ∷ (wordsOf (opened L) swaps, 7 ∷ 2 ∷ 7 ∷ 4 ∷ [])
     ∷ (rowsOf (after (opened L) swaps) ∷ [], 5 ∷ [])
+    -- the matrix of L has 3 × 256 sets, and that of `lone` 7 × 256; state 1 and byte "b" have index 354, and 128 bytes a set
+    ∷ (matrixLength L ∷ matrixLength lone ∷ cellAt 1 b ∷ [], 98304 ∷ 229376 ∷ 45312 ∷ [])
+    -- what the filler writes there for 0 and "a", 1 and "b", 2 and "b": {0,1}, {2}, {}
+    ∷ (step L (2 ^ 0) a ∷ step L (2 ^ 1) b ∷ step L (2 ^ 2) b ∷ [], 3 ∷ 4 ∷ 0 ∷ [])
+    -- a matrix of no bytes: 8, of the empty piece too, which is not all consumed; 5 comes before 8
+    ∷ (answered (fed (byMatrix []) (opened L) 0 (a ∷ []) 2) ++ answered (fed (byMatrix []) (opened L) 0 [] 2), 8 ∷ 0 ∷ 0 ∷ 0 ∷ 8 ∷ 0 ∷ 0 ∷ 0 ∷ [])
+    ∷ (answered (fed (byMatrix []) (opened L) 1 (a ∷ []) 2), 5 ∷ 0 ∷ 0 ∷ 0 ∷ [])
     -- T at bound 1, fed "abab": 14 at the second byte
     ∷ (answered (splitABAB 1 (s0 ++ (s01 ++ s02)) 4), 14 ∷ 1 ∷ 0 ∷ 0 ∷ [])
     ∷ []

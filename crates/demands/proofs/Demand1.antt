@@ -34,10 +34,13 @@ use Rattle.tables.proofs.Checked.{table-exactly, in-order-first, in-order-exact
 use Rattle.splits.specs.Split.{stuck, split, splitRules, splitFeed}
 use Rattle.splits.proofs.Halting.{stuck-exactly}
 use Rattle.splits.proofs.Rising.{rising-verdict, rising-as-before}
+use Rattle.matrix.specs.Matrix.{matrixed, fillRules, matrixRules}
+use Rattle.matrix.proofs.Feeding.{matrix-refusal}
+use Rattle.matrix.proofs.Exact.{matrix-is-plain, filled-left}
 use Rattle.demands.specs.Words.{First, InWords, tableWords, AllRise, splitWords}
 use Rattle.demands.specs.Demands.{Unchanged, Unopened, Same, Demand1}
 use Rattle.demands.proofs.Due.{begins}
-use Rattle.demands.proofs.Saying.{list-tells, open-tells, feed-tells, table-tells, split-tells}
+use Rattle.demands.proofs.Saying.{list-tells, open-tells, feed-tells, table-tells, split-tells, fill-tells, matrix-tells}
 
 -- a feed that a rule refuses changes nothing
 pub refused-unchanged : {C : Type 0} (E : Engine C) (K : Rattle.feeds.specs.Engine.Layout C) (R piece out : List ℕ) (rules : List Rule) → (verdict rules ≡ 0 → ⊥)
@@ -243,12 +246,14 @@ unfolding rising
 demand-1 =
     record {
       lowest =
-          λ L b T R at piece out. (
+          λ L b T X R at piece out. (
             rises 0 (listRules L) refl,
             rises 0 (openRules L R out) refl,
             rises 0 (feedRules L R at piece) refl,
             rises 0 (tableRules L b T) refl,
             rises 0 (splitRules L b T R at piece) refl,
+            rises 0 (fillRules L X) refl,
+            rises 0 (matrixRules L X R at piece) refl,
           );
       lists = list-refuses;
       lists-said = list-tells;
@@ -264,6 +269,13 @@ demand-1 =
       feeds = λ L R at piece out. rw (plain-refusal L R at piece out) (refuses (feedRules L R at piece) refl);
       feeds-said = λ L R at piece out. rw (plain-refusal L R at piece out) (feed-tells L R at piece);
       feeds-not = λ L R at piece out v. refused-unchanged (plain L) flowLayout R piece out (feedRules L R at piece) (rw (plain-refusal L R at piece out) at v);
+      fills-said = λ L X n left w. rw (w .refuses) (fill-tells L X);
+      fills-not = λ L X n left w v. w .wrote ∙ rw (ne-eqb (verdict (fillRules L X)) 0 (λ z. v (w .refuses ∙ z)));
+      fills-passes = filled-left;
+      matrices = λ L X R at piece out. rw (matrix-refusal L X R at piece out) (refuses (matrixRules L X R at piece) refl);
+      matrices-said = λ L X R at piece out. rw (matrix-refusal L X R at piece out) (matrix-tells L X R at piece);
+      matrices-not = λ L X R at piece out v. refused-unchanged (matrixed L X) flowLayout R piece out (matrixRules L X R at piece) (rw (matrix-refusal L X R at piece out) at v);
+      matrices-plain = matrix-is-plain;
       tables = table-exactly;
       tables-said = table-said;
       splits = by-rule;

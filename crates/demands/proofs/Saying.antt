@@ -12,14 +12,14 @@ use Rattle.sets.specs.Set.{signatures, members, within}
 use Rattle.sets.proofs.Members.{members-size}
 use Rattle.rules.specs.Scan.{rising}
 use Rattle.rules.specs.Rules.{Rule, verdict, applies}
-use Rattle.rules.proofs.Scanning.{choose, either-words, over-words, below-suc, rising-exactly}
+use Rattle.rules.proofs.Scanning.{choose, either-words, over-words, differ-words, below-suc, rising-exactly}
 use Rattle.rules.proofs.Rules.{distinct, passes-exactly}
 use Rattle.lists.specs.List.{records, isStart, goodRecord, badLength, badRecord, noStart, listRules}
 use Rattle.lists.proofs.Listed.{Edge-bytes, Start-bytes, Accept-bytes, bad-length, bad-record, record-exactly, no-start, kind-start}
 use Rattle.flows.specs.Flow.{frontierOf, badFlow, otherStart, tooLong, wrongSize, flowRules, feedRules}
 use Rattle.flows.proofs.Refused.{wrong-size, bad-flow, other-start, too-long}
 use Rattle.lists.specs.Automaton.{start, accepted, named}
-use Rattle.lists.proofs.Named.{named-bytes, outside-exactly}
+use Rattle.lists.proofs.Named.{names-bytes, named-bytes, outside-exactly}
 use Rattle.feeds.specs.Engine.{room}
 use Rattle.feeds.specs.Opening.{noRoom}
 use Rattle.plain.specs.Plain.{openPairs, openRules}
@@ -29,7 +29,9 @@ use Rattle.tables.proofs.Accepted.{Slots-good}
 use Rattle.tables.proofs.Joined.{below-exactly}
 use Rattle.tables.proofs.Checked.{bad-bound, bad-classes, bad-rows-length, bad-lengths, bad-splits, bad-rows, bad-union, no-start-split, not-closed, slots-exactly, in-order-first, in-order-exactly, unordered-exactly}
 use Rattle.splits.specs.Split.{splitRules}
-use Rattle.demands.specs.Words.{Row, None, First, InWords, listWords, openingRows, openWords, Foreign, flowWords, feedWords, SlotsGood, Rises, sizeWords, entryWords, tableWords, orderWords, splitWords}
+use Rattle.matrix.specs.Matrix.{highest, matrixLength, wrongMatrix, fillRules, matrixRules}
+use Rattle.matrix.proofs.Highest.{names-low, highest-is}
+use Rattle.demands.specs.Words.{Row, None, First, InWords, listWords, openingRows, openWords, Foreign, flowWords, feedWords, Highest, lengthWords, fillWords, matrixWords, SlotsGood, Rises, sizeWords, entryWords, tableWords, orderWords, splitWords}
 
 -- ---- a table of rules and a table of words
 
@@ -149,6 +151,31 @@ module _ (L : List ℕ) where
       says-append (listRules L) (flowRules (within (frontierOf R) (named L)) R at piece) (listWords L) (flowWords L R at piece) list-says
       (refl, either-words _ (Foreign L R) (badFlow R) (not (within (frontierOf R) (named L))) (bad-flow R) (foreign R), (refl, other-start R at, (refl, too-long R piece, tt)))
 
+  -- the highest state is one number, and it is the definition's
+  highest-words : Highest L (highest L)
+  highest-words =
+      record {
+        most = λ i s h n. names-low L i s h (names-bytes L i s .1 n);
+        named = choose (highest-is L (records L)) (λ z. inl z) (λ w. inr (w .0, w .1, names-bytes L (w .0) (highest L) .0 (w .2)));
+      }
+
+  highest-most : (m n : ℕ) → Highest L m → Highest L n → m ≤ n
+  highest-most m n p q = choose (p .named) (λ z. omega arith) (λ w. q .most (w .0) m (w .1) (w .2))
+
+  -- 8: the length is not that of the highest state
+  length-says : (X : List ℕ) → Says ((8, wrongMatrix L X) ∷ []) (lengthWords L X)
+  length-says X = (refl, via (differ-words (length X) (matrixLength L)) (λ f n h e. f (rw (one n h) e), λ g e. g (highest L) highest-words e), tt)
+    where
+      one : (n : ℕ) → Highest L n → highest L ≡ n
+      one n h = omega (arith, highest-most (highest L) n highest-words h, highest-most n (highest L) h highest-words)
+
+  fill-says : (X : List ℕ) → Says (fillRules L X) (fillWords L X)
+  fill-says X = says-append (listRules L) ((8, wrongMatrix L X) ∷ []) (listWords L) (lengthWords L X) list-says (length-says X)
+
+  matrix-says : (X R : List ℕ) (at : ℕ) (piece : List ℕ) → Says (matrixRules L X R at piece) (matrixWords L X R at piece)
+  matrix-says X R at piece =
+      says-append (feedRules L R at piece) ((8, wrongMatrix L X) ∷ []) (feedWords L R at piece) (lengthWords L X) (feed-says R at piece) (length-says X)
+
 -- the slots of a split in words
 slots-words : (n b : ℕ) (ss : List ℕ) → Slots-good n b ss ↔ SlotsGood n b ss
 slots-words n b ss = (there, back)
@@ -241,3 +268,9 @@ table-tells L b T = tells (tableRules L b T) (tableWords L b T) refl (table-says
 
 pub split-tells : (L : List ℕ) (b : ℕ) (T : Table) (R : List ℕ) (at : ℕ) (piece : List ℕ) → InWords (splitWords L b T R at piece) (verdict (splitRules L b T R at piece))
 split-tells L b T R at piece = tells (splitRules L b T R at piece) (splitWords L b T R at piece) refl (split-says b T L R at piece)
+
+pub fill-tells : (L X : List ℕ) → InWords (fillWords L X) (verdict (fillRules L X))
+fill-tells L X = tells (fillRules L X) (fillWords L X) refl (fill-says L X)
+
+pub matrix-tells : (L X R : List ℕ) (at : ℕ) (piece : List ℕ) → InWords (matrixWords L X R at piece) (verdict (matrixRules L X R at piece))
+matrix-tells L X R at piece = tells (matrixRules L X R at piece) (matrixWords L X R at piece) refl (matrix-says L X R at piece)

@@ -1,4 +1,4 @@
--- Calls of one flow that change between the plain feed and tables that the check accepts, from opening on: one theorem, and what follows from it. Assumes nothing.
+-- Calls of one flow that change between the plain feed, tables that the check accepts and the list's matrix, from opening on: one theorem, and what follows from it. Assumes nothing.
 use Prim.Native.Nat.{ℕ, zero, suc, _+_, _*_, _^_, _≤_, _<_}
 use mathlib.Core.Path.{_≡_, refl, sym, ap, _∙_}
 use mathlib.Core.Bool.{true}
@@ -25,9 +25,9 @@ use Rattle.plain.proofs.Plain.{plain-cheap}
 use Rattle.tables.specs.Table.{Table, isSplit, tableRefusal}
 use Rattle.tables.proofs.Accepted.{accepted}
 use Rattle.splits.proofs.Exact.{stays}
-use Rattle.demands.specs.Calls.{Via, byList, byTable, Checked, Call, engineOf, asked, allAsked, outcome}
+use Rattle.demands.specs.Calls.{Via, byList, byTable, byMatrix, Checked, Call, engineOf, asked, allAsked, outcome}
 use Rattle.demands.specs.Demands.{InBytes, Each, Plainly, Demand2Opened, activeParts, Fit, Swaps, eatenOf, counted, mostRows, NeverForeign, Swapped}
-use Rattle.demands.proofs.Engines.{call-passes, rows-few, cost-most, below-14, no-4, AtSplit, split-follows, split-few}
+use Rattle.demands.proofs.Engines.{call-passes, rows-few, cost-most, below-14, no-4, AtSplit, split-follows, split-few, filled-follows}
 use Rattle.demands.proofs.Demand2.{in-bytes, each-along, along-each, demand-2-from}
 use Rattle.demands.proofs.Due.{due-all, opened-frontier, opened-offset, opened-rows, begins}
 
@@ -83,6 +83,13 @@ module _ (L : List ℕ) where
         goes = λ F G r. f .goes F G (at F G r);
         stays = λ F G c l r. let e = f .stays F G c l (at F G r) .0 in (e, rw (e, ← r .0) (reached-next F c l (r .1)));
       }
+  checked-follows (byMatrix X) k =
+      let f = filled-follows L X k in
+      record {
+        same = λ F G c l r. f .same F G c l (r .0);
+        goes = λ F G r. f .goes F G (r .0);
+        stays = λ F G c l r. let e = f .stays F G c l (r .0) in (e, rw (e, ← r .0) (reached-next F c l (r .1)));
+      }
 
   pub sound : Sound flowLayout (Equal Reached) states
   sound = flow-sound (Equal Reached) (λ F G r. reached-lt F (r .1))
@@ -125,16 +132,19 @@ module _ (L : List ℕ) where
   counted-next : (v : Via) → counted v L .next ≡ plain L .next
   counted-next byList = refl
   counted-next (byTable b T) = refl
+  counted-next (byMatrix X) = refl
 
   counted-cost : (v : Via) (F : ℕ) → engineOf v L .cost F ≡ counted v L .cost F
   counted-cost byList F = refl
   counted-cost (byTable b T) F = refl
+  counted-cost (byMatrix X) F = refl
 
   -- at most its bound a byte
   counted-few : (v : Via) → Checked L v → (F : ℕ) → Reached F → (xs : List ℕ) → Bytes xs → costs (counted v L) F xs ≤ mostRows v * length xs
   counted-few byList k F r xs h = costs-most (plain L) Reached reached-next states (λ F p. plain-cheap L F) F xs r h
   counted-few (byTable b T) k F r xs h =
       costs-most (activeParts L T) Reached reached-next b (λ F p. split-few L b T k F F (refl, reached-split b T k F p, reached-lt F p)) F xs r h
+  counted-few (byMatrix X) k F r xs h = costs-most (plain L) Reached reached-next states (λ F p. plain-cheap L F) F xs r h
 
   rows-here : (Q : List ℕ) (c : Call) → Swaps L Q c → Meets Q c → rowsOf (outcome Q c .saved) ≡ rowsOf Q + costs (counted (c .via) L) (frontierOf Q) (eatenOf Q c)
   unfolding costs

@@ -9,16 +9,19 @@ use Rattle.feeds.specs.Calls.{Asked, answer}
 use Rattle.plain.specs.Plain.{plain}
 use Rattle.tables.specs.Table.{Table, tableRefusal}
 use Rattle.splits.specs.Split.{split, splitRules}
+use Rattle.matrix.specs.Matrix.{matrixed, filled, matrixRules}
 
--- the plain feed, or the split feed with a bound and a table
+-- the plain feed, the split feed with a bound and a table, or the matrix feed with a matrix
 pub data Via : Type 0 where
   byList : Via
   byTable : ℕ → Table → Via
+  byMatrix : List ℕ → Via
 
--- what it goes by is checked for the list L: nothing is asked of the plain feed; of a table that the check accepts it at its bound
+-- what it goes by is checked for the list L: nothing is asked of the plain feed; of a table that the check accepts it at its bound; of a matrix that the filler writes it
 abbrev pub Checked : List ℕ → Via → Type 0
 Checked L byList = Unit {0}
 Checked L (byTable b T) = tableRefusal L b T ≡ 0
+Checked L (byMatrix X) = X ≡ filled L
 
 pub record Call : Type 0 where
   pub list : List ℕ
@@ -31,11 +34,13 @@ pub record Call : Type 0 where
 abbrev pub engineOf : Via → List ℕ → Engine ℕ
 engineOf byList L = plain L
 engineOf (byTable b T) L = split L b T
+engineOf (byMatrix X) L = matrixed L X
 
--- the plain feed's rules, or the split feed's
+-- the plain feed's rules, the split feed's, or the matrix feed's
 abbrev pub rulesOf : Via → List ℕ → List ℕ → ℕ → List ℕ → List Rule
 rulesOf byList L R at piece = feedRules L R at piece
 rulesOf (byTable b T) L R at piece = splitRules L b T R at piece
+rulesOf (byMatrix X) L R at piece = matrixRules L X R at piece
 
 abbrev pub asked : Call → Asked ℕ
 asked c =

@@ -17,8 +17,9 @@ use Rattle.feeds.specs.Opening.{Opening}
 use Rattle.plain.specs.Plain.{plain, opened, openPairs, pairsOf, openRules, openFlow, plainFeed}
 use Rattle.tables.specs.Table.{Table, sizeRules, tableRules, tableRefusal}
 use Rattle.splits.specs.Split.{taken, stuck, split, splitRules, splitFeed}
-use Rattle.demands.specs.Words.{None, First, InWords, listWords, openWords, feedWords, tableWords, AllRise, splitWords, Stuck}
-use Rattle.demands.specs.Calls.{Via, byList, byTable, Checked, Call, asked, allAsked, outcome}
+use Rattle.matrix.specs.Matrix.{filled, fillRules, Fills, matrixRules, matrixFeed}
+use Rattle.demands.specs.Words.{None, First, InWords, listWords, openWords, feedWords, tableWords, AllRise, splitWords, Stuck, fillWords, matrixWords}
+use Rattle.demands.specs.Calls.{Via, byList, byTable, byMatrix, Checked, Call, asked, allAsked, outcome}
 
 -- ==== Demand 1: each refusal has a number, is given exactly when the rules say, and changes nothing in the buffers;
 -- ==== only 14, met by the split feed at some byte, keeps the bytes before it.
@@ -50,8 +51,9 @@ pub record Same (o p : Outcome) : Type 0 where
 
 pub record Demand1 : Type 0 where
   -- in the rules of each entry point the numbers rise: of those that apply, the lowest is given
-  pub lowest : (L : List ℕ) (b : ℕ) (T : Table) (R : List ℕ) (at : ℕ) (piece out : List ℕ)
+  pub lowest : (L : List ℕ) (b : ℕ) (T : Table) (X R : List ℕ) (at : ℕ) (piece out : List ℕ)
       → Rises (listRules L) × Rises (openRules L R out) × Rises (feedRules L R at piece) × Rises (tableRules L b T) × Rises (splitRules L b T R at piece)
+      × Rises (fillRules L X) × Rises (matrixRules L X R at piece)
   -- the list check: 1 to 3; and in words: each number exactly when its words hold and those of no row before it do
   pub lists : (L : List ℕ) → Refuses (listRules L) (listRefusal L)
   pub lists-said : (L : List ℕ) → InWords (listWords L) (listRefusal L)
@@ -72,6 +74,16 @@ pub record Demand1 : Type 0 where
   pub feeds : (L R : List ℕ) (at : ℕ) (piece out : List ℕ) → Refuses (feedRules L R at piece) (plainFeed L R at piece out .refusal)
   pub feeds-said : (L R : List ℕ) (at : ℕ) (piece out : List ℕ) → InWords (feedWords L R at piece) (plainFeed L R at piece out .refusal)
   pub feeds-not : (L R : List ℕ) (at : ℕ) (piece out : List ℕ) → (plainFeed L R at piece out .refusal ≡ 0 → ⊥) → Unchanged R out (plainFeed L R at piece out)
+  -- filling a matrix: 1 to 3, then 8; a refusal leaves the bytes as they were, else they are the list's matrix
+  pub fills-said : (L X : List ℕ) (refusal : ℕ) (left : List ℕ) → Fills L X refusal left → InWords (fillWords L X) refusal
+  pub fills-not : (L X : List ℕ) (refusal : ℕ) (left : List ℕ) → Fills L X refusal left → (refusal ≡ 0 → ⊥) → left ≡ X
+  pub fills-passes : (L X : List ℕ) (refusal : ℕ) (left : List ℕ) → Fills L X refusal left → refusal ≡ 0 → left ≡ filled L
+  -- the matrix feed: 1 to 6, then 8
+  pub matrices : (L X R : List ℕ) (at : ℕ) (piece out : List ℕ) → Refuses (matrixRules L X R at piece) (matrixFeed L X R at piece out .refusal)
+  pub matrices-said : (L X R : List ℕ) (at : ℕ) (piece out : List ℕ) → InWords (matrixWords L X R at piece) (matrixFeed L X R at piece out .refusal)
+  pub matrices-not : (L X R : List ℕ) (at : ℕ) (piece out : List ℕ) → (matrixFeed L X R at piece out .refusal ≡ 0 → ⊥) → Unchanged R out (matrixFeed L X R at piece out)
+  -- by the list's matrix it answers and leaves what the plain feed does, on every record, start, piece and buffer
+  pub matrices-plain : (L R : List ℕ) (at : ℕ) (piece out : List ℕ) → Bytes piece → matrixFeed L (filled L) R at piece out ≡ plainFeed L R at piece out
   -- the table check: 1 to 3 and 7 to 13
   pub tables : (L : List ℕ) (b : ℕ) (T : Table) → Refuses (tableRules L b T) (tableRefusal L b T)
   pub tables-said : (L : List ℕ) (b : ℕ) (T : Table) → InWords (tableWords L b T) (tableRefusal L b T)
@@ -226,10 +238,10 @@ pub record Demand3 (L : List ℕ) (b : ℕ) (T : Table) (o : Opening) (cs : List
   pub ceiling : rowsOf (after (o .saved) cs) ≤ b * length (bytesOf (o .saved) cs)
 
 -- ==== Changing tables in mid-flow: for one list a flow from opening may change at any piece between any tables that the check accepts, each
--- ==== at its own bound, and the plain feed: pairs and frontier are as if nothing was swapped, and each split call adds at most its own bound
--- ==== times the bytes that it consumed. Such a flow holds no state that the list does not name, so none of these calls is refused with 4.
+-- ==== at its own bound, the plain feed, and the matrix that the filler writes: pairs and frontier are as if nothing was swapped, and each split
+-- ==== call adds at most its own bound times the bytes that it consumed. Such a flow holds no state that the list does not name, so none of these calls is refused with 4.
 
--- a call that no rule refuses is on L, by the plain feed or through a table that the check accepts at the call's bound; one that is refused may hold anything
+-- a call that no rule refuses is on L, by the plain feed, through a table that the check accepts at the call's bound, or by the list's matrix; one that is refused may hold anything
 abbrev pub Swaps : List ℕ → List ℕ → Call → Type 0
 Swaps L R c = verdict (asked c .rules R) ≡ 0 → (c .list ≡ L) × Checked L (c .via)
 
@@ -237,15 +249,17 @@ Swaps L R c = verdict (asked c .rules R) ≡ 0 → (c .list ≡ L) × Checked L 
 abbrev pub eatenOf : List ℕ → Call → List ℕ
 eatenOf R c = take (outcome R c .bytes) (c .piece)
 
--- the automaton of L, where a byte costs what a call counts at the frontier before it: plain its states, through a table the slots taken
+-- the automaton of L, where a byte costs what a call counts at the frontier before it: plain and by a matrix its states, through a table the slots taken
 abbrev pub counted : Via → List ℕ → Engine ℕ
 counted byList L = plain L
 counted (byTable b T) L = activeParts L T
+counted (byMatrix X) L = plain L
 
--- the most that a byte may cost: plain all states, through a table the call's bound
+-- the most that a byte may cost: plain and by a matrix all states, through a table the call's bound
 abbrev pub mostRows : Via → ℕ
 mostRows byList = states
 mostRows (byTable b T) = b
+mostRows (byMatrix X) = states
 
 -- of the opening o and the calls that follow: none on L that goes by what is checked is refused with 4
 abbrev pub NeverForeign : List ℕ → Opening → List Call → Type 0

@@ -71,6 +71,23 @@ flowWords L R k piece =
 abbrev pub feedWords : List ℕ → List ℕ → ℕ → List ℕ → List Row
 feedWords L R k piece = listWords L ++ flowWords L R k piece
 
+-- ---- the matrix: 8
+
+-- no record names a state above n, and one names n; of records that name none, n is 0
+pub record Highest (L : List ℕ) (n : ℕ) : Type 0 where
+  pub most : (i s : ℕ) → i < records L → Names-bytes L i s → s ≤ n
+  pub named : (n ≡ 0) ⊎ ((i : ℕ) × (i < records L) × Names-bytes L i n)
+
+-- not a set for each state up to the highest and each byte
+abbrev pub lengthWords : List ℕ → List ℕ → List Row
+lengthWords L X = (8, (n : ℕ) → Highest L n → length X ≡ setSize * (byteValues * suc n) → ⊥) ∷ []
+
+abbrev pub fillWords : List ℕ → List ℕ → List Row
+fillWords L X = listWords L ++ lengthWords L X
+
+abbrev pub matrixWords : List ℕ → List ℕ → List ℕ → ℕ → List ℕ → List Row
+matrixWords L X R k piece = feedWords L R k piece ++ lengthWords L X
+
 -- ---- the table: 7 to 13
 
 -- a list of entries is empty, has more than the most, or a broken one

@@ -6,6 +6,7 @@ ghost use Rattle.lists.specs.List.{listRefusal};
 ghost use Rattle.plain.specs.Plain.{openFlow, plainFeed};
 ghost use Rattle.tables.specs.Table.{table, tableRefusal};
 ghost use Rattle.splits.specs.Split.{splitFeed};
+ghost use Rattle.matrix.specs.Matrix.{Fills, matrixFeed};
 ghost use Rattle.watch_c.specs.Face.{version};
 ghost use Rattle.faces.specs.Faced.{held, heldOpen};
 
@@ -75,5 +76,34 @@ fn drive_faces(
         opened: opened,
         fed: fed,
         split: split,
+    }
+}
+
+// What the filler and a feed by what it left answered.
+struct DroveMatrix {
+    filled: u32,
+    fed: WatchFed,
+}
+
+// Fills a matrix and feeds a piece by it. Where the filler refuses nothing, that is the plain feed.
+fn drive_matrix(
+    list: &[u8],
+    matrix: &mut [u8],
+    flow: &mut [u8],
+    start: u64,
+    piece: &[u8],
+    pairs: &mut [u32],
+) -> DroveMatrix
+    ensures fills { λ r. ⌜ Fills (now (list .entry)) (now (matrix .entry)) (r .filled) (now (matrix .exit)) ⌝ }
+    ensures feeds { λ r. ⌜ held (r .fed) (now (pairs .exit)) (now (flow .exit))
+        ≡ matrixFeed (now (list .entry)) (now (matrix .exit)) (now (flow .entry)) start (now (piece .entry)) (now (pairs .entry)) ⌝ }
+    ensures plainly { λ r. ⌜ (r .filled ≡ 0 → held (r .fed) (now (pairs .exit)) (now (flow .exit))
+        ≡ plainFeed (now (list .entry)) (now (flow .entry)) start (now (piece .entry)) (now (pairs .entry))) ⌝ }
+{
+    let filled = watch_c::watch_fill_matrix(list, matrix);
+    let fed = watch_c::watch_matrix_feed(list, matrix, flow, start, piece, pairs);
+    DroveMatrix {
+        filled: filled,
+        fed: fed,
     }
 }

@@ -1,6 +1,7 @@
 pub mod Runs
 pub mod Told
 pub mod Follows
+pub mod Alike
 pub mod Going
 pub mod Moves
 pub mod Whole

@@ -8,10 +8,11 @@ use native.Mathlib.Omega.{arith}
 use native.Mathlib.Decide.{ℕ-discrete}
 use lib.ListN.{length, getD, take, drop, length-append, length-drop}
 use lib.Seq.{length-take-le, getD-append-add, getD-drop}
+use lib.Dec.{ltb}
 use borrow.Author.Tests.{eq-eqb, lt-ltb}
 use Rattle.sets.specs.Set.{signatures}
 use Rattle.rules.specs.Rules.{Rule, verdict}
-use Rattle.rules.proofs.Scanning.{equal-words}
+use Rattle.rules.proofs.Scanning.{and-false, equal-words}
 use Rattle.feeds.specs.Engine.{Engine, Layout, Outcome, room, run, told, consumed, ended, feed}
 use Rattle.feeds.proofs.Runs.{told-length, consumed-most, consumed-fits, moves}
 use Rattle.feeds.proofs.Going.{unfed}
@@ -103,6 +104,17 @@ module _ {C : Type 0} (E : Engine C) (K : Layout C) (R : List ℕ) where
     -- where one does, the refusal is its number
     pub feed-refused : (verdict rules ≡ 0 → ⊥) → feed rules E K R piece out .refusal ≡ verdict rules
     feed-refused v = rw (unfed E K R piece out rules v)
+
+    -- where nothing halts, a feed refuses by its rules alone
+    pub rules-alone : ((x : C) → E .halts x ≡ false) → feed rules E K R piece out .refusal ≡ verdict rules
+    unfolding ended
+    rules-alone f = elim (ℕ-discrete (verdict rules) 0) [ yes v ↦ free v | no n ↦ feed-refused n ]
+      where
+        front : List ℕ
+        front = take (consumed E (K .config R) (room out) piece) piece
+
+        free : verdict rules ≡ 0 → feed rules E K R piece out .refusal ≡ verdict rules
+        free v = rw (feed-ends v, f (run E (K .config R) front), and-false (ltb (length front) (length piece)), v)
 
     -- no refusal: no rule applies
     pub no-refusal : feed rules E K R piece out .refusal ≡ 0 → verdict rules ≡ 0

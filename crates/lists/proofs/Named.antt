@@ -74,7 +74,7 @@ Names-bytes L i s =
     ⊎ (((getD L (8 * i) 0 ≡ 2) × (getD L (8 * i + 6) 0 + 256 * getD L (8 * i + 7) 0 ≡ s))
     ⊎ ((getD L (8 * i) 0 ≡ 3) × (getD L (8 * i + 4) 0 + 256 * getD L (8 * i + 5) 0 ≡ s)))
 
-names-bytes : (L : List ℕ) (i s : ℕ) → Names L i s ↔ Names-bytes L i s
+pub names-bytes : (L : List ℕ) (i s : ℕ) → Names L i s ↔ Names-bytes L i s
 names-bytes L i s =
     rw (from-bytes L i, target-bytes L i) (
       λ n. choose n (λ e. inl (kind-edge L i .0 (e .0), e .1)) (λ m. inr (choose m (λ e. inl (kind-start L i .0 (e .0), e .1)) (λ e. inr (kind-accept L i .0 (e .0), e .1)))),

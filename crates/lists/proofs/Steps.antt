@@ -125,7 +125,7 @@ step-lt L F c = gather-lt states (leaves L F (edge L c)) (target L) (records L)
 
 -- ---- in a list that the check passes every record's numbers are in range, so the limit above says nothing more
 
-good-at : (L : List ℕ) → listRefusal L ≡ 0 → (i : ℕ) → i < records L → goodRecord L i ≡ true
+pub good-at : (L : List ℕ) → listRefusal L ≡ 0 → (i : ℕ) → i < records L → goodRecord L i ≡ true
 unfolding badRecord
 good-at L e i h =
     let r1 = passes 0 _ _ e in

@@ -51,7 +51,7 @@ pub fn byte_at(b: &[u8], at: usize) -> u8
 }
 
 // How many records the list has.
-fn records(list: &[u8]) -> usize
+pub fn records(list: &[u8]) -> usize
     ensures { λ r. ⌜ r ≡ records (now (list .entry)) ⌝ }
 {
     list.len() / RECORD_SIZE
@@ -74,7 +74,7 @@ fn word_of(list: &[u8], i: usize, k: usize) -> usize
 }
 
 // Says whether record i is an edge.
-fn is_edge(list: &[u8], i: usize) -> bool
+pub fn is_edge(list: &[u8], i: usize) -> bool
     requires { ⌜ i < records (now list) ⌝ }
     ensures { λ r. ⌜ r ≡ isEdge (now (list .entry)) i ⌝ }
 {
@@ -82,7 +82,7 @@ fn is_edge(list: &[u8], i: usize) -> bool
 }
 
 // Says whether record i is a start.
-fn is_start(list: &[u8], i: usize) -> bool
+pub fn is_start(list: &[u8], i: usize) -> bool
     requires { ⌜ i < records (now list) ⌝ }
     ensures { λ r. ⌜ r ≡ isStart (now (list .entry)) i ⌝ }
 {
@@ -90,7 +90,7 @@ fn is_start(list: &[u8], i: usize) -> bool
 }
 
 // Says whether record i is an accept.
-fn is_accept(list: &[u8], i: usize) -> bool
+pub fn is_accept(list: &[u8], i: usize) -> bool
     requires { ⌜ i < records (now list) ⌝ }
     ensures { λ r. ⌜ r ≡ isAccept (now (list .entry)) i ⌝ }
 {
@@ -98,7 +98,7 @@ fn is_accept(list: &[u8], i: usize) -> bool
 }
 
 // The state that record i leaves or names.
-fn from(list: &[u8], i: usize) -> usize
+pub fn from(list: &[u8], i: usize) -> usize
     requires { ⌜ i < records (now list) ⌝ }
     ensures { λ r. ⌜ r ≡ from (now (list .entry)) i ⌝ }
 {
@@ -106,7 +106,7 @@ fn from(list: &[u8], i: usize) -> usize
 }
 
 // The state that record i leads to, or the signature that it gives.
-fn target(list: &[u8], i: usize) -> usize
+pub fn target(list: &[u8], i: usize) -> usize
     requires { ⌜ i < records (now list) ⌝ }
     ensures { λ r. ⌜ r ≡ target (now (list .entry)) i ⌝ }
 {
@@ -250,7 +250,7 @@ pub fn start_set(list: &[u8]) -> StateSet
 }
 
 // The byte with ASCII letter case exchanged.
-fn exchanged(c: u8) -> u8
+pub fn exchanged(c: u8) -> u8
     ensures { λ r. ⌜ r ≡ exchanged c ⌝ }
 {
     if (65 <= c) & (c <= 90) {
@@ -304,7 +304,7 @@ fn ranges(list: &[u8], c: u8, d: u8, i: usize) -> bool
 }
 
 // Says whether record i is an edge that byte c takes; d is c with its case exchanged.
-fn edge(list: &[u8], c: u8, d: u8, i: usize) -> bool
+pub fn edge(list: &[u8], c: u8, d: u8, i: usize) -> bool
     requires { ⌜ (i < records (now list)) × (d ≡ exchanged c) ⌝ }
     ensures { λ r. ⌜ r ≡ edge (now (list .entry)) c i ⌝ }
 {

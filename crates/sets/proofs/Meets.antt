@@ -34,7 +34,7 @@ min-one (suc (suc x)) y hx hy = absurd (omega arith)
 min-one zero (suc (suc y)) hx hy = absurd (omega arith)
 min-one (suc zero) (suc (suc y)) hx hy = absurd (omega arith)
 
-holds-and : (a b s : ℕ) → holds (bitAnd a b) s ≡ (holds a s && holds b s)
+pub holds-and : (a b s : ℕ) → holds (bitAnd a b) s ≡ (holds a s && holds b s)
 unfolding holds
 holds-and a b s = rw (bit-and a b s) (min-one (bit a s) (bit b s) (mod-lt (a / 2 ^ s) two-pos) (mod-lt (b / 2 ^ s) two-pos))
 

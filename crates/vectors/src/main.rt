@@ -26,6 +26,7 @@ struct Sizes {
     parts: usize,
     rows: usize,
     splits: usize,
+    matrix: usize,
     record: usize,
 }
 
@@ -48,6 +49,13 @@ fn long_buffer() -> [u8; 557312]
     ensures { λ r. ⌜ 557312 ≡ length r ⌝ }
 {
     [0; 557312]
+}
+
+// Zeros for a matrix: 8 states, and 256 bytes more.
+fn matrix_buffer() -> [u8; 262400]
+    ensures { λ r. ⌜ 262400 ≡ length r ⌝ }
+{
+    [0; 262400]
 }
 
 // Zeros for a piece.
@@ -352,7 +360,42 @@ fn split_feed(
     );
 }
 
-// Replays a command that answers, on the list, the table and the record in use.
+// Replays a filling of the matrix.
+fn fill_matrix(list: &[u8], matrix: &mut [u8]) {
+    let n = matrix::fill(list, matrix);
+    io::write_all(1, b"m");
+    put(n as u64);
+    put(digest(matrix));
+    end();
+}
+
+// Replays a matrix feed into words.
+fn matrix_words(
+    list: &[u8],
+    matrix: &[u8],
+    record: &mut [u8],
+    at: u64,
+    piece: &[u8],
+    out: &mut [u32],
+) {
+    fill(out);
+    let fed = matrix::feed(list, matrix, record, at, piece, out);
+    io::write_all(1, b"x");
+    put_feed(fed, out, record);
+}
+
+// Replays a matrix feed.
+fn matrix_feed(list: &[u8], matrix: &[u8], record: &mut [u8]) {
+    let at = read_number(8);
+    let words = read_number(4) as usize;
+    let mut piece = piece_buffer();
+    let n = read_field(&mut piece);
+    let mut out = word_buffer();
+    let k = within_words(&out, words);
+    matrix_words(list, matrix, record, at, front(&piece, n), &mut out[..k]);
+}
+
+// Replays a command that answers, on the list, the table, the matrix and the record in use.
 fn answer(
     command: u8,
     list: &[u8],
@@ -360,6 +403,7 @@ fn answer(
     parts: &[u8],
     rows: &[u8],
     splits: &[u8],
+    matrix: &mut [u8],
     record: &mut [u8],
 ) {
     if command == b'c' {
@@ -372,6 +416,10 @@ fn answer(
         check_table(list, classes, parts, rows, splits);
     } else if command == b's' {
         split_feed(list, classes, parts, rows, splits, record);
+    } else if command == b'm' {
+        fill_matrix(list, matrix);
+    } else if command == b'x' {
+        matrix_feed(list, matrix, record);
     }
 }
 
@@ -396,6 +444,12 @@ fn load_table(
     s
 }
 
+// Reads a matrix.
+fn load_matrix(matrix: &mut [u8], mut s: Sizes) -> Sizes {
+    s.matrix = read_field(matrix);
+    s
+}
+
 // Reads a record.
 fn load_record(record: &mut [u8], mut s: Sizes) -> Sizes {
     s.record = read_field(record);
@@ -415,6 +469,7 @@ fn replay_one(
     parts: &mut [u8],
     rows: &mut [u8],
     splits: &mut [u8],
+    matrix: &mut [u8],
     record: &mut [u8],
     s: Sizes,
 ) -> Sizes {
@@ -431,6 +486,10 @@ fn replay_one(
     if command == b'R' {
         return load_record(record, s);
     }
+    if command == b'M' {
+        return load_matrix(matrix, s);
+    }
+    let m = within(matrix, s.matrix);
     let k = within(record, s.record);
     answer(
         command,
@@ -439,6 +498,7 @@ fn replay_one(
         front(parts, s.parts),
         front(rows, s.rows),
         front(splits, s.splits),
+        &mut matrix[..m],
         &mut record[..k],
     );
     s
@@ -451,6 +511,7 @@ fn replay(
     parts: &mut [u8],
     rows: &mut [u8],
     splits: &mut [u8],
+    matrix: &mut [u8],
     record: &mut [u8],
 ) {
     let mut s = Sizes {
@@ -460,10 +521,11 @@ fn replay(
         parts: 0,
         rows: 0,
         splits: 0,
+        matrix: 0,
         record: 0,
     };
     for _ in 0..MOST_COMMANDS {
-        s = replay_one(list, classes, parts, rows, splits, record, s);
+        s = replay_one(list, classes, parts, rows, splits, matrix, record, s);
         if !s.more {
             return;
         }
@@ -477,6 +539,7 @@ fn main() {
     let mut parts = parts_buffer();
     let mut rows = long_buffer();
     let mut splits = long_buffer();
+    let mut matrix = matrix_buffer();
     let mut record = short_buffer();
     replay(
         &mut list,
@@ -484,6 +547,7 @@ fn main() {
         &mut parts,
         &mut rows,
         &mut splits,
+        &mut matrix,
         &mut record,
     );
 }

@@ -1,14 +1,15 @@
-// The C face: the library's five functions under names of their own, over numbers and slices, and the face's version. Nothing else is here.
+// The C face: the library's seven functions under names of their own, over numbers and slices, and the face's version. Nothing else is here.
 use feeds::Fed;
 ghost use mathlib.Core.Path.{_≡_};
 ghost use Rattle.lists.specs.List.{listRefusal};
 ghost use Rattle.plain.specs.Plain.{openFlow, plainFeed};
 ghost use Rattle.tables.specs.Table.{table, tableRefusal};
 ghost use Rattle.splits.specs.Split.{splitFeed};
+ghost use Rattle.matrix.specs.Matrix.{Fills, matrixFeed};
 ghost use Rattle.watch_c.specs.Face.{version, Faces, FaceAnswers, FaceOpens};
 
 // The version of the face, by which a caller compares its header with the archive.
-pub const VERSION: u32 = 6;
+pub const VERSION: u32 = 7;
 
 // What a feed answers, as C lays it out.
 #[repr(C)]
@@ -127,5 +128,29 @@ pub extern "C" fn watch_split_feed(
         piece,
         pairs,
     );
+    face(f)
+}
+
+// Writes the matrix of a list: 0, or the number of the refusal, which leaves the matrix as it is.
+#[no_mangle]
+pub extern "C" fn watch_fill_matrix(list: &[u8], matrix: &mut [u8]) -> u32
+    ensures { λ r. ⌜ Fills (now (list .entry)) (now (matrix .entry)) r (now (matrix .exit)) ⌝ }
+{
+    matrix::fill(list, matrix)
+}
+
+// The matrix feed of a piece that begins at `start`.
+#[no_mangle]
+pub extern "C" fn watch_matrix_feed(
+    list: &[u8],
+    matrix: &[u8],
+    flow: &mut [u8],
+    start: u64,
+    piece: &[u8],
+    pairs: &mut [u32],
+) -> WatchFed
+    ensures { λ r. ⌜ FaceAnswers (matrixFeed (now (list .entry)) (now (matrix .entry)) (now (flow .entry)) start (now (piece .entry)) (now (pairs .entry))) r (now (pairs .exit)) (now (flow .exit)) ⌝ }
+{
+    let f = matrix::feed(list, matrix, flow, start, piece, pairs);
     face(f)
 }

@@ -1,0 +1,42 @@
+-- Two feeds that answer and leave the same: one engine follows the other at the same costs and saves alike, and the rules give the same. Assumes nothing.
+use Prim.Native.Nat.{ℕ, _+_}
+use mathlib.Core.Path.{_≡_, refl}
+use mathlib.Core.List.{List}
+use lib.ListN.{length, take}
+use Rattle.rules.specs.Rules.{Rule, verdict}
+use Rattle.feeds.specs.Engine.{Engine, Layout, ended, feed, run, costs, told, consumed, room}
+use Rattle.feeds.specs.Calls.{Bytes, Follows}
+use Rattle.feeds.proofs.Runs.{bytes-take}
+use Rattle.feeds.proofs.Follows.{run-related, told-same, consumed-same, costs-same}
+
+module _ {C D : Type 0} (E : Engine C) (G : Engine D) (K : Layout C) (H : Layout D) (R : List ℕ) where
+  -- equal verdicts, equal fronts, equal ends
+  same-end : (rules others : List Rule) → verdict rules ≡ verdict others → (piece out : List ℕ) (n : ℕ)
+      → consumed E (K .config R) (room out) piece ≡ n → consumed G (H .config R) (room out) piece ≡ n
+      → ended E K R (take n piece) (length piece) out ≡ ended G H R (take n piece) (length piece) out
+      → feed rules E K R piece out ≡ feed others G H R piece out
+  unfolding feed
+  same-end rules others v piece out n e g q = rw (v, e, g, q)
+
+  module _ (offset : K .offset R ≡ H .offset R) (rows : K .rows R ≡ H .rows R) (Rel : C → D → Type 0) (f : Follows E G Rel)
+      (cost : (x : C) (y : D) → Rel x y → E .cost x ≡ G .cost y) (save : (x : C) (y : D) (k n : ℕ) → Rel x y → K .save x k n ≡ H .save y k n)
+      (r : Rel (K .config R) (H .config R)) where
+    ended-same : (front : List ℕ) (len : ℕ) (out : List ℕ) → Bytes front → ended E K R front len out ≡ ended G H R front len out
+    unfolding ended
+    ended-same front len out h =
+        let z : Rel (run E (K .config R) front) (run G (H .config R) front) = run-related E G Rel f (K .config R) (H .config R) front r h in
+        rw (
+          f .goes (run E (K .config R) front) (run G (H .config R) front) z,
+          told-same E G Rel f (K .config R) (H .config R) (K .offset R) front r h,
+          costs-same E G Rel f G refl cost (K .config R) (H .config R) front r h,
+          save (run E (K .config R) front) (run G (H .config R) front) (K .offset R + length front) (K .rows R + costs G (H .config R) front) z,
+          offset,
+          rows,
+        )
+
+    pub feed-same : (rules others : List Rule) → verdict rules ≡ verdict others → (piece out : List ℕ) → Bytes piece
+        → feed rules E K R piece out ≡ feed others G H R piece out
+    feed-same rules others v piece out h =
+        let n = consumed G (H .config R) (room out) piece in
+        same-end rules others v piece out n (consumed-same E G Rel f (K .config R) (H .config R) (room out) piece r h) refl
+        (ended-same (take n piece) (length piece) out (bytes-take n piece h))

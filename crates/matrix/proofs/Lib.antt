@@ -1,0 +1,12 @@
+pub mod Lowest
+pub mod Unions
+pub mod Stepping
+pub mod Cells
+pub mod Filling
+pub mod Writing
+pub mod Watching
+pub mod Highest
+pub mod Feeding
+pub mod Exact
+pub mod Joining
+pub mod Unique
