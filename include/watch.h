@@ -55,6 +55,18 @@
  * to, or that starts or accepts), and each byte, a set. The set of state s and byte c is number s x WATCH_BYTE_VALUES + c, so that a matrix
  * has WATCH_ROW_SIZE bytes for each state: at most WATCH_MOST_MATRIX.
  *
+ * The index of a table is what the prepared feed runs: WATCH_INDEX_SIZE(n) bytes where there are n splits. First the set of the states that
+ * some record of the list names; then WATCH_ENTRY_SIZE bytes for each split:
+ *
+ *     0-127       64 split numbers of 2 bytes, counted from 0: where each class leads; 0 for a class that the table does not have
+ *     128-159     the signatures told on reaching the split: signature g is bit g mod 8 of byte g div 8
+ *     160         the rows that a byte at the split costs: the slots that it takes
+ *     161         1 where there are signatures to tell, else 0
+ *     162-191     zeros
+ *
+ * watch_fill_index writes it. It holds for the list, the bound and the table that it was filled for, byte by byte as they were; fill it again
+ * where one of them changes. An index of another table with as many splits is not told from a good one: it is run as it stands.
+ *
  *
  * REFUSALS
  *
@@ -70,8 +82,8 @@
  *      5   the piece's stated start is not the flow's offset
  *      6   offset + piece length is over WATCH_MOST_OFFSET
  *      7   the bound is not 1 to WATCH_MOST_BOUND
- *      8   a list of the table has the wrong length, or a class is over WATCH_MOST_CLASS; or the matrix has not WATCH_ROW_SIZE bytes for each
- *          state up to the highest that the list names
+ *      8   a list of the table, or its index, has the wrong length, or a class is over WATCH_MOST_CLASS; or the matrix has not WATCH_ROW_SIZE
+ *          bytes for each state up to the highest that the list names
  *      9   a split has a used slot that names no part, a used slot after an unused one, slots that do not strictly rise, more used
  *          slots than the bound, or a set that is not greater, as a string of bytes, than the one before; the split feed looks at the
  *          sets alone
@@ -79,13 +91,15 @@
  *     11   the set of a split is not the union of its parts
  *     12   the start set is no split
  *     13   for some split and some byte, the automaton's step of the split's set is no split
- *     14   at a byte of a split feed: the frontier is no split, or the slots taken name no part or are more than the bound
+ *     14   at a byte of a split feed: the frontier is no split, or the slots taken name no part or are more than the bound; at a byte of a
+ *          prepared feed: the frontier is not found among the splits, or the byte before led to a number that names no split
  *     15   at opening: the pairs of offset 0 are more than pairs_len div 2
  *
  * Each has a name, WATCH_REFUSED_ and some words, and a sentence that watch_refusal_text gives.
  *
  * The list check gives 1 to 3; opening 1 to 4 and 15; the plain feed 1 to 6; the table check 1 to 3 and 7 to 13; the split feed 1 to 9,
- * and 14 per byte; the filler of a matrix 1 to 3 and 8; the matrix feed 1 to 6 and 8. A refusal other than 14 changes no buffer.
+ * and 14 per byte; the filler of a matrix 1 to 3 and 8; the matrix feed 1 to 6 and 8; the filler of an index 1 to 3 and 7 to 13; the prepared
+ * feed 4 to 6 and 8, and 14 per byte. A refusal other than 14 changes no buffer.
  *
  *
  * WHAT THE CALLER OWES
@@ -93,12 +107,12 @@
  * There is no wrong content: every byte in every buffer, and every length, start and bound, has an answer. The rest is the
  * caller's, and a call that breaks it has no promise at all:
  *
- *   - Each pointer is good for its length, as C means it: x_len bytes can be read at x, and the flow_len bytes, the
- *     pairs_len words and the matrix_len bytes that are filled can also be written. pairs is aligned as a uint32_t; nothing else has to be aligned.
+ *   - Each pointer is good for its length, as C means it: x_len bytes can be read at x, and the flow_len bytes, the pairs_len words and
+ *     the bytes of a matrix or an index that is filled can also be written. pairs is aligned as a uint32_t; nothing else has to be aligned.
  *   - Through a pointer with length 0 nothing is read or written, so it may point anywhere. Give one that is not NULL, as the
  *     address of any object: the code takes NULL with length 0 today, and that is tested, but it is no part of what is proved. NULL
  *     with another length is an error.
- *   - flow and pairs are written, and by the filler its matrix, so none overlaps another buffer of the call. The buffers that are only
+ *   - flow and pairs are written, and by a filler its matrix or index, so none overlaps another buffer of the call. The buffers that are only
  *     read may overlap one another, or be the same.
  *   - Nobody else writes any buffer of a call, or reads flow or pairs, while the call runs. Calls in several threads may share lists and
  *     tables; each has its own flow and pairs.
@@ -138,10 +152,10 @@ extern "C" {
 #endif
 
 /* The version of the face that this header describes. */
-#define WATCH_VERSION 7
+#define WATCH_VERSION 8
 
 /* Bytes of stack that a call takes at most. */
-#define WATCH_MOST_STACK 1216
+#define WATCH_MOST_STACK 1600
 
 /* States are the numbers below this one. */
 #define WATCH_STATES 1024
@@ -190,6 +204,11 @@ extern "C" {
 /* Bytes of a matrix for one state, and of one for all states. */
 #define WATCH_ROW_SIZE (WATCH_BYTE_VALUES * WATCH_SET_SIZE)
 #define WATCH_MOST_MATRIX (WATCH_STATES * WATCH_ROW_SIZE)
+
+/* Bytes in the entry of a split in an index; of an index of so many splits; and of the largest. */
+#define WATCH_ENTRY_SIZE 192
+#define WATCH_INDEX_SIZE(splits) (WATCH_SET_SIZE + WATCH_ENTRY_SIZE * (splits))
+#define WATCH_MOST_INDEX (WATCH_SET_SIZE + WATCH_ENTRY_SIZE * WATCH_MOST_SPLITS)
 
 /* The refusals by name, and what is answered where there is none. The functions answer them as numbers. */
 enum watch_refusal {
@@ -310,6 +329,33 @@ watch_fed watch_matrix_feed(const uint8_t *list, size_t list_len,
                             const uint8_t *piece, size_t piece_len,
                             uint32_t *pairs, size_t pairs_len);
 
+/* Fills the index of a table: 0 exactly when the table check passes the table on this list at this bound and index_len is
+ * WATCH_INDEX_SIZE(splits); or a refusal 1 to 3 or 7 to 13, which changes nothing. It runs the table check, and then looks a split up for each
+ * split and class. */
+uint32_t watch_fill_index(const uint8_t *list, size_t list_len,
+                          uint64_t bound,
+                          const uint8_t *classes, size_t classes_len,
+                          const uint8_t *parts, size_t parts_len,
+                          const uint8_t *rows, size_t rows_len,
+                          const uint8_t *splits, size_t splits_len,
+                          uint8_t *index, size_t index_len);
+
+/* The prepared feed: as the split feed, but each byte is one look into the index. With the classes and the splits of a table, and the index
+ * that watch_fill_index wrote for it, it answers and leaves what watch_split_feed does with that list, bound and table, on every record, start,
+ * piece and buffer. It needs neither the list nor the parts, the rows and the bound, and walks none of them. The split of the record's frontier is
+ * sought by halving, once in a call. Any other index is run as it stands: each byte leads to the split whose number stands there, tells the
+ * signatures and costs the rows that stand there, and the frontier saved is that split's set; a number that names no split stands for the empty set,
+ * tells nothing, and halts the next byte with 14. Refusals 4 to 6 and 8 answer 0 bytes and 0 pairs and change nothing; 4 is given as well where the
+ * record's frontier holds a state that is not in the set which the index begins with, but not where the index is shorter than that set. A refusal 14
+ * is as in the split feed. */
+watch_fed watch_prepared_feed(const uint8_t *classes, size_t classes_len,
+                              const uint8_t *splits, size_t splits_len,
+                              const uint8_t *index, size_t index_len,
+                              uint8_t *flow, size_t flow_len,
+                              uint64_t start,
+                              const uint8_t *piece, size_t piece_len,
+                              uint32_t *pairs, size_t pairs_len);
+
 /* A size as text within a sentence. */
 #define WATCH_TEXT_OF(tokens) #tokens
 #define WATCH_TEXT(size) WATCH_TEXT_OF(size)
@@ -338,7 +384,7 @@ static inline const char *watch_refusal_text(uint32_t n)
     case WATCH_REFUSED_BOUND:
         return "the bound is not 1 to " WATCH_TEXT(WATCH_MOST_BOUND);
     case WATCH_REFUSED_TABLE_LISTS:
-        return "a list of the table has the wrong length, a class is over " WATCH_TEXT(WATCH_MOST_CLASS) ", or the matrix has the wrong length";
+        return "a list of the table, or its index, has the wrong length, a class is over " WATCH_TEXT(WATCH_MOST_CLASS) ", or the matrix has the wrong length";
     case WATCH_REFUSED_SPLIT_RECORD:
         return "a split has a used slot that names no part, a used slot after an unused one, slots that do not strictly rise, more used "
                "slots than the bound, or a set that is not greater, as a string of bytes, than the one before";
@@ -351,7 +397,7 @@ static inline const char *watch_refusal_text(uint32_t n)
     case WATCH_REFUSED_NOT_CLOSED:
         return "for some split and some byte, the automaton's step of the split's set is no split";
     case WATCH_REFUSED_NO_SPLIT:
-        return "at a byte of a split feed, the frontier is no split, or the slots taken name no part or are more than the bound";
+        return "at a byte of a split or a prepared feed, the frontier is no split, or the slots taken name no part or are more than the bound";
     case WATCH_REFUSED_NO_ROOM:
         return "at opening, the pairs of offset 0 are more than there is room for";
     default:

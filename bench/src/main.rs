@@ -19,7 +19,8 @@ use inputs::{Bytes, Table};
 use later::black_box;
 use ordinary::Fed;
 use sizes::{
-    FLOW_BYTES, MOST_PARTS, MOST_RECORDS, MOST_SPLITS, ROW_BYTES, SLOTS, SPLIT_BYTES, STATES,
+    ENTRY_BYTES, FLOW_BYTES, MOST_PARTS, MOST_RECORDS, MOST_SPLITS, ROW_BYTES, SET_BYTES, SLOTS,
+    SPLIT_BYTES, STATES,
 };
 use std::io::{BufRead, BufReader, Write};
 use std::process::{Child, ChildStdin, ChildStdout, Command, Stdio};
@@ -34,7 +35,7 @@ const RUNS: usize = 21;
 /// The nanoseconds of processor time that one run of one side takes, where a call is shorter.
 const RUN: f64 = 25e6;
 
-/// One side's seven functions.
+/// One side's functions.
 struct Side {
     check_list: fn(&[u8]) -> u32,
     open: fn(&[u8], &mut [u8], &mut [u32]) -> Fed,
@@ -43,6 +44,8 @@ struct Side {
     split_feed: fn(&[u8], u64, &ordinary::Table, &mut [u8], u64, &[u8], &mut [u32]) -> Fed,
     fill_matrix: fn(&[u8], &mut [u8]) -> u32,
     matrix_feed: fn(&[u8], &[u8], &mut [u8], u64, &[u8], &mut [u32]) -> Fed,
+    fill_index: fn(&[u8], u64, &ordinary::Table, &mut [u8]) -> u32,
+    prepared_feed: fn(&[u8], &[u8], &[u8], &mut [u8], u64, &[u8], &mut [u32]) -> Fed,
 }
 
 const PROVED: Side = Side {
@@ -53,6 +56,8 @@ const PROVED: Side = Side {
     split_feed: proved::split_feed,
     fill_matrix: proved::fill_matrix,
     matrix_feed: proved::matrix_feed,
+    fill_index: proved::fill_index,
+    prepared_feed: proved::prepared_feed,
 };
 
 const ORDINARY: Side = Side {
@@ -63,6 +68,8 @@ const ORDINARY: Side = Side {
     split_feed: ordinary::split_feed,
     fill_matrix: ordinary::fill_matrix,
     matrix_feed: ordinary::matrix_feed,
+    fill_index: ordinary::fill_index,
+    prepared_feed: ordinary::prepared_feed,
 };
 
 /// What a row calls, and on what.
@@ -88,6 +95,16 @@ enum Call {
     },
     MatrixFeed {
         matrix: Vec<u8>,
+        flow: [u8; FLOW_BYTES],
+        piece: Vec<u8>,
+    },
+    FillIndex {
+        bound: u64,
+        table: Table,
+    },
+    PreparedFeed {
+        table: Table,
+        index: Vec<u8>,
         flow: [u8; FLOW_BYTES],
         piece: Vec<u8>,
     },
@@ -118,12 +135,13 @@ impl Row {
     }
 }
 
-/// The buffers that a call writes to: a flow record, the pairs, and a matrix.
+/// The buffers that a call writes to: a flow record, the pairs, a matrix, and an index.
 #[derive(Clone, PartialEq)]
 struct Buffers {
     flow: [u8; FLOW_BYTES],
     pairs: Vec<u32>,
     matrix: Vec<u8>,
+    index: Vec<u8>,
 }
 
 impl Buffers {
@@ -132,6 +150,7 @@ impl Buffers {
             flow: [0xAA; FLOW_BYTES],
             pairs: vec![0xAAAA_AAAA; 8192],
             matrix: Vec::new(),
+            index: Vec::new(),
         }
     }
 }
@@ -162,6 +181,26 @@ impl Work {
             }
             Call::CheckTable { bound, table } => {
                 checked((side.check_table)(&self.list, *bound, &lent(table)))
+            }
+            Call::FillIndex { bound, table } => {
+                buffers.index.resize(index_bytes(table), 0xAA);
+                checked((side.fill_index)(
+                    &self.list,
+                    *bound,
+                    &lent(table),
+                    &mut buffers.index,
+                ))
+            }
+            Call::PreparedFeed {
+                table,
+                index,
+                flow,
+                piece,
+            } => {
+                buffers.flow = *flow;
+                let (classes, splits) = (&table.classes, &table.splits);
+                let (record, pairs) = (&mut buffers.flow, &mut buffers.pairs);
+                (side.prepared_feed)(classes, splits, index, record, 0, piece, pairs)
             }
             Call::SplitFeed {
                 bound,
@@ -226,7 +265,8 @@ impl Work {
         match &self.call {
             Call::Feed { piece, .. }
             | Call::SplitFeed { piece, .. }
-            | Call::MatrixFeed { piece, .. } => Some(piece.len()),
+            | Call::MatrixFeed { piece, .. }
+            | Call::PreparedFeed { piece, .. } => Some(piece.len()),
             _ => None,
         }
     }
@@ -304,6 +344,24 @@ fn number(n: usize) -> String {
     match n {
         0..=999 => n.to_string(),
         _ => format!("{},{:03}", n / 1000, n % 1000),
+    }
+}
+
+/// The bytes of a table's index.
+fn index_bytes(table: &Table) -> usize {
+    SET_BYTES + ENTRY_BYTES * (table.splits.len() / SPLIT_BYTES)
+}
+
+/// A prepared feed from a frontier, with the index of a table for a list, which ordinary Rust fills.
+fn prepared_fed(list: &[u8], bound: u64, table: Table, first: Bytes, piece: Vec<u8>) -> Call {
+    let mut index = vec![0; index_bytes(&table)];
+    let refusal = ordinary::fill_index(list, bound, &lent(&table), &mut index);
+    assert_eq!(refusal, 0, "the index is filled");
+    Call::PreparedFeed {
+        table,
+        index,
+        flow: inputs::flow_at(first),
+        piece,
     }
 }
 
@@ -403,8 +461,10 @@ fn rows() -> Vec<Row> {
             );
         }
     }
-    let busy: [(&str, fn(usize) -> Vec<u8>); 2] =
-        [(QUIET, inputs::quiet_bytes), (TELLING, inputs::busy_telling)];
+    let busy: [(&str, fn(usize) -> Vec<u8>); 2] = [
+        (QUIET, inputs::quiet_bytes),
+        (TELLING, inputs::busy_telling),
+    ];
     for splits in [16, 256, MOST_SPLITS] {
         for bound in [1, SLOTS as u64] {
             for (bytes, turn) in [(1, 16), (64, 8), (4096, 2)] {
@@ -469,6 +529,56 @@ fn rows() -> Vec<Row> {
                 }),
             );
         }
+    }
+    for splits in [16, 256, MOST_SPLITS] {
+        for (bytes, turn) in [(1, 64), (64, 32), (4096, 8)] {
+            for (kind, make) in busy {
+                let pieces = match bytes {
+                    1 => "1 byte".into(),
+                    _ => format!("{} bytes", number(bytes)),
+                };
+                row(
+                    format!(
+                        "prepared feed, {} splits, pieces of {pieces}, {kind}",
+                        number(splits)
+                    ),
+                    turn,
+                    Box::new(move || {
+                        let (list, bound) = (inputs::busy_list(), SLOTS as u64);
+                        let table = inputs::busy_table(splits, bound);
+                        let first = inputs::busy_start();
+                        let call = prepared_fed(&list, bound, table, first, make(bytes));
+                        (list, call)
+                    }),
+                );
+            }
+        }
+    }
+    for (kind, bytes) in traffic {
+        let (splits, bound) = (inputs::ORDERS_SPLITS, inputs::ORDERS_BOUND);
+        row(
+            format!("prepared feed, {splits} splits, bound {bound}, {full} records, {kind}"),
+            8,
+            Box::new(move || {
+                let (list, table) = (
+                    inputs::orders_list(MOST_RECORDS),
+                    inputs::orders_table(MOST_RECORDS),
+                );
+                let call = prepared_fed(&list, bound, table, first(1), bytes(4096));
+                (list, call)
+            }),
+        );
+    }
+    for splits in [16, MOST_SPLITS] {
+        row(
+            format!("filling an index, {} splits, 34 records", number(splits)),
+            1,
+            Box::new(move || {
+                let bound = SLOTS as u64;
+                let table = inputs::busy_table(splits, bound);
+                (inputs::busy_list(), Call::FillIndex { bound, table })
+            }),
+        );
     }
     row(
         "matrix feed, 5 records, 3 states, frontier 1".into(),

@@ -83,6 +83,36 @@ extern "C" {
         pairs: *mut u32,
         pairs_len: usize,
     ) -> WatchFed;
+    fn watch_fill_index(
+        list: *const u8,
+        list_len: usize,
+        bound: u64,
+        classes: *const u8,
+        classes_len: usize,
+        parts: *const u8,
+        parts_len: usize,
+        rows: *const u8,
+        rows_len: usize,
+        splits: *const u8,
+        splits_len: usize,
+        index: *mut u8,
+        index_len: usize,
+    ) -> u32;
+    fn watch_prepared_feed(
+        classes: *const u8,
+        classes_len: usize,
+        splits: *const u8,
+        splits_len: usize,
+        index: *const u8,
+        index_len: usize,
+        flow: *mut u8,
+        flow_len: usize,
+        start: u64,
+        piece: *const u8,
+        piece_len: usize,
+        pairs: *mut u32,
+        pairs_len: usize,
+    ) -> WatchFed;
 }
 
 fn fed(answer: WatchFed) -> Fed {
@@ -221,4 +251,52 @@ pub fn matrix_feed(
         pairs: fed.pairs as usize,
         all: fed.all,
     }
+}
+
+pub fn fill_index(list: &[u8], bound: u64, table: &Table, index: &mut [u8]) -> u32 {
+    unsafe {
+        watch_fill_index(
+            list.as_ptr(),
+            list.len(),
+            bound,
+            table.classes.as_ptr(),
+            table.classes.len(),
+            table.parts.as_ptr(),
+            table.parts.len(),
+            table.rows.as_ptr(),
+            table.rows.len(),
+            table.splits.as_ptr(),
+            table.splits.len(),
+            index.as_mut_ptr(),
+            index.len(),
+        )
+    }
+}
+
+pub fn prepared_feed(
+    classes: &[u8],
+    splits: &[u8],
+    index: &[u8],
+    flow: &mut [u8],
+    start: u64,
+    piece: &[u8],
+    pairs: &mut [u32],
+) -> Fed {
+    fed(unsafe {
+        watch_prepared_feed(
+            classes.as_ptr(),
+            classes.len(),
+            splits.as_ptr(),
+            splits.len(),
+            index.as_ptr(),
+            index.len(),
+            flow.as_mut_ptr(),
+            flow.len(),
+            start,
+            piece.as_ptr(),
+            piece.len(),
+            pairs.as_mut_ptr(),
+            pairs.len(),
+        )
+    })
 }

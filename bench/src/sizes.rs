@@ -32,3 +32,9 @@ pub const CLASSES: usize = 64;
 
 /// A matrix has a set for each byte and each of its states: so many bytes for a state.
 pub const ROW_BYTES: usize = BYTE_VALUES * SET_BYTES;
+
+/// The entry of a split in an index: a split number of 2 bytes for each class, a set of signatures, and as many bytes for a note, whose first
+/// byte is a byte's rows and whose second is 0 where nothing is told.
+pub const TOLD_AT: usize = 2 * CLASSES;
+pub const NOTE_AT: usize = TOLD_AT + SIGNATURES / 8;
+pub const ENTRY_BYTES: usize = NOTE_AT + SIGNATURES / 8;

@@ -3,6 +3,7 @@
 import builders
 import examples
 import faults
+import index_cases
 import model
 import orders
 from builders import (Sample, a_piece, accept, any_flow, any_frontier, any_list, broken_list,
@@ -1534,7 +1535,7 @@ GROUPS = [worked, lists, longest_lists, list_limits, openings, record_limits, pl
           harmless_tables, wild_tables, long_pieces, set_sizes, largest_tables,
           split_order, slots_taken, fed_order, low_and_high, lengths_of_splits, no_split,
           zero_records, old_content, long_pauses, capitals, first_pairs, foreign, swaps,
-          matrices]
+          matrices, *index_cases.GROUPS]
 
 
 def make(tape, dice):

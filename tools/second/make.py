@@ -20,21 +20,24 @@ NEEDED = {
     "s": [0, 1, 2, 3, 4, 5, 6, 7, 8, 9, 14],
     "m": [0, 1, 2, 3, 8],
     "x": [0, 1, 2, 3, 4, 5, 6, 8],
+    "i": [0, 1, 2, 3, 7, 8, 9, 10, 11, 12, 13],
+    "p": [0, 4, 5, 6, 8, 14],
 }
 NAMES = {"c": "list check", "o": "opening", "f": "plain feed", "k": "table check",
-         "s": "split feed", "m": "filler", "x": "matrix feed"}
+         "s": "split feed", "m": "matrix filler", "x": "matrix feed", "i": "index filler",
+         "p": "prepared feed"}
 
 
 def counts_text(counts, groups):
-    lines = ["entry point     total  refusal:count"]
+    lines = ["entry point       total  refusal:count"]
     for name, numbers in NEEDED.items():
         found = {number: times for (key, number), times in counts.items() if key == name}
         assert sorted(found) == numbers, (name, found)
         assert min(found.values()) >= 50, (name, found)
-        lines.append("%-2s %-11s %6d  %s" % (
+        lines.append("%-2s %-13s %6d  %s" % (
             name, NAMES[name], sum(found.values()),
             " ".join("%d:%d" % (number, found[number]) for number in numbers)))
-    lines.append("all            %6d" % sum(counts.values()))
+    lines.append("all              %6d" % sum(counts.values()))
     lines += ["", "group              lines"]
     lines += ["%-17s %6d" % (name, count) for name, count in groups]
     return "\n".join(lines) + "\n"

@@ -31,6 +31,8 @@ UNUSED = 65535  # the number in a slot that is not in use
 SPLIT_SIZE = SET_SIZE + 2 * SLOTS  # bytes in a split
 ROW_SIZE = BYTE_VALUES * SET_SIZE  # bytes of a matrix for one state
 MOST_MATRIX = STATES * ROW_SIZE  # and for all states
+ENTRY_SIZE = 192  # bytes of a split in an index
+MOST_INDEX = SET_SIZE + ENTRY_SIZE * MOST_SPLITS  # bytes of the longest index
 
 Accept = namedtuple("Accept", "state signature")
 Flow = namedtuple("Flow", "frontier offset rows")

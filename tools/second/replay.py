@@ -64,6 +64,11 @@ def replay(data, tape):
             bound, start, words, piece = (reader.number(8), reader.number(8), reader.number(4),
                                           reader.block())
             tape.split_feed(bound, start, words, piece)
+        elif command == b"i":
+            tape.fill(reader.number(8))
+        elif command == b"p":
+            start, words, piece = reader.number(8), reader.number(4), reader.block()
+            tape.prepared_feed(start, words, piece)
         else:
             raise ValueError("no such command: %r" % command)
 

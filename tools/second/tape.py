@@ -1,10 +1,11 @@
 """The stream of commands and the lines expected for them.
 
 A tape holds the same state as the program that replays the stream: the
-current list, table, matrix and record. Each method writes one command, and where the
+current list, table, matrix or index, and record. Each method writes one command, and where the
 command answers, works out its line with the model.
 """
 
+import indexes
 import model
 
 # Word i of a lent buffer holds this number plus i before each opening and each feed.
@@ -22,6 +23,7 @@ MOST_TABLE = model.Table(model.BYTE_VALUES, model.MOST_PARTS * model.SET_SIZE,
                          model.MOST_SPLITS * model.SPLIT_SIZE)
 # The most states of a matrix.
 MOST_MATRIX_STATES = 8
+MOST_MATRIX = MOST_MATRIX_STATES * model.ROW_SIZE + BEYOND
 
 
 def digest(data):
@@ -86,7 +88,8 @@ class Tape:
             self.commands.append(b"T" + b"".join(block(data) for data in table))
 
     def load_matrix(self, matrix):
-        assert len(matrix) <= MOST_MATRIX_STATES * model.ROW_SIZE + BEYOND
+        """The bytes that are filled and that a matrix feed or a prepared feed goes by: a matrix, or an index."""
+        assert len(matrix) <= MOST_MATRIX
         if matrix != self.matrix:
             self.matrix = matrix
             self.commands.append(b"M" + block(matrix))
@@ -165,6 +168,17 @@ class Tape:
         buffer = [WORD_FILL + i for i in range(words)]
         answer = model.matrix_feed(self.list, self.matrix, self.record, start, buffer, piece)
         return self._fed(b"x" + u64(start) + u32(words) + block(piece), "x", answer)
+
+    def fill(self, bound):
+        refusal, self.matrix = indexes.fill(self.list, self.table, bound, self.matrix)
+        return self._answer(b"i" + u64(bound), "i", [refusal, digest(self.matrix)])
+
+    def prepared_feed(self, start, words, piece):
+        assert words <= MOST_WORDS and len(piece) <= MOST_PIECE
+        buffer = [WORD_FILL + i for i in range(words)]
+        answer = indexes.prepared_feed(self.table.classes, self.table.splits, self.matrix,
+                                       self.record, start, buffer, piece)
+        return self._fed(b"p" + u64(start) + u32(words) + block(piece), "p", answer)
 
     # The two files.
 

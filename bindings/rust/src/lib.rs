@@ -68,6 +68,9 @@
 //! A [`Table`] is an automaton worked out beforehand, with at most [`MOST_BOUND`] rows read a byte. One that passes [`Table::check`] tells the same
 //! pairs as the plain feed.
 //!
+//! An [`Index`] is that table worked out once more: where each class of byte leads from each split, and what is told there. [`Flow::prepared_feed`]
+//! runs it, one look a byte, and tells and saves what [`Flow::split_feed`] does with the table.
+//!
 //! # Bit matrices
 //!
 //! A [`Matrix`] has a set for each state and byte, which [`Matrix::fill`] writes from a list into a buffer of [`List::matrix_size`] bytes. Fed by it,
@@ -85,8 +88,8 @@
 //! The archive says which version of the face it has, and [`List::check`] compares it with [`VERSION`]: everything else begins with a list,
 //! so nothing runs over an archive that this crate is not written for.
 //!
-//! This wrapper is not proved. All that is unsafe in it is eight calls: seven in which slices are handed on as pointers and lengths, and one
-//! that takes nothing.
+//! This wrapper is not proved. All that is unsafe in it is its calls of the archive: one of them takes nothing, and in the others slices are
+//! handed on as pointers and lengths.
 //!
 //! # Features
 //!
@@ -106,9 +109,9 @@ mod sizes;
 
 pub use refusal::{Refusal, SplitError};
 pub use sizes::{
-    BYTE_VALUES, ENOUGH_WORDS, FLOW_SIZE, MOST_BOUND, MOST_CLASS, MOST_LIST, MOST_MATRIX, MOST_OFFSET, MOST_PARTS, MOST_RECORDS,
-    MOST_SPLITS, OFFSET_AT, RECORD_SIZE, RESERVED_AT, ROWS_AT, ROW_SIZE, SET_SIZE, SIGNATURES, SLOTS, SPLIT_SIZE, STATES, UNUSED,
-    VERSION,
+    BYTE_VALUES, ENOUGH_WORDS, ENTRY_SIZE, FLOW_SIZE, MOST_BOUND, MOST_CLASS, MOST_INDEX, MOST_LIST, MOST_MATRIX, MOST_OFFSET,
+    MOST_PARTS, MOST_RECORDS, MOST_SPLITS, OFFSET_AT, RECORD_SIZE, RESERVED_AT, ROWS_AT, ROW_SIZE, SET_SIZE, SIGNATURES, SLOTS,
+    SPLIT_SIZE, STATES, UNUSED, VERSION,
 };
 
 use core::fmt;
@@ -463,14 +466,58 @@ impl Flow {
                 pairs.len(),
             )
         };
-        match Refusal::verdict(fed.refusal) {
-            Ok(()) => Ok(Fed::from_raw(fed)),
-            Err(Refusal::NoSplit) => {
-                let before = Fed::from_raw(fed);
-                Err(SplitError::Halted { bytes: before.bytes, pairs: before.pairs })
-            }
-            Err(refusal) => Err(SplitError::Refused(refusal)),
-        }
+        split_fed(fed)
+    }
+
+    /// The prepared feed of a piece that begins at offset `start` of the flow, by an index: refusals 4 to 6 and 8, which change nothing, and
+    /// 14 at a byte. With an index that [`Index::fill`] gave it is [`split_feed`](Flow::split_feed) with that index's table, on every flow, start,
+    /// piece and buffer.
+    ///
+    /// ```
+    /// # use watch::{Flow, Index, List, SplitError, Table, TableLists, BYTE_VALUES, SET_SIZE};
+    /// # let bytes = *b"\x01\x00\xFF\0\0\0\0\0\x02\0\0\0\0\0\0\0\x03\0\0\0\0\0\x09\0";
+    /// # let list = List::check(&bytes)?;
+    /// # let classes = [0; BYTE_VALUES];
+    /// # let mut set = [0; SET_SIZE];
+    /// # set[0] = 1;
+    /// # let splits = [&set[..], &[0, 0, 255, 255, 255, 255, 255, 255]].concat();
+    /// // Signature 9 at opening and at every byte, by state 0:
+    /// let table = Table::check(&list, 1, TableLists { classes: &classes, parts: &set, rows: &set, splits: &splits })?;
+    /// let index = Index::fill(&table, vec![0; table.index_size()])?;
+    ///
+    /// let mut words = [0; 4];
+    /// let mut flow = Flow::open(&list, &mut words)?.flow;
+    /// let fed = flow.prepared_feed(&index, 0, b"xyz", &mut words)?;
+    /// assert_eq!((fed.bytes, fed.all, words), (2, false, [9, 1, 9, 2])); // paused before the third pair
+    /// # Ok::<(), SplitError>(())
+    /// ```
+    pub fn prepared_feed<B: AsRef<[u8]>>(
+        &mut self,
+        index: &Index<'_, B>,
+        start: u64,
+        piece: &[u8],
+        pairs: &mut [u32],
+    ) -> Result<Fed, SplitError> {
+        let bytes = index.bytes.as_ref();
+        // SAFETY: as in `feed`.
+        let fed = unsafe {
+            raw::watch_prepared_feed(
+                index.classes.as_ptr(),
+                index.classes.len(),
+                index.splits.as_ptr(),
+                index.splits.len(),
+                bytes.as_ptr(),
+                bytes.len(),
+                self.bytes.as_mut_ptr(),
+                FLOW_SIZE,
+                start,
+                piece.as_ptr(),
+                piece.len(),
+                pairs.as_mut_ptr(),
+                pairs.len(),
+            )
+        };
+        split_fed(fed)
     }
 
     /// The matrix feed of a piece that begins at offset `start` of the flow: as [`feed`](Flow::feed), but each byte's new frontier is the union of
@@ -617,6 +664,18 @@ impl Flow {
     ) -> Result<FedAll, SplitError> {
         feed_whole(start, piece, told, |start, rest, words| self.split_feed(table, start, rest, words))
     }
+
+    /// The prepared feed of a whole piece that begins at offset `start` of the flow, as [`split_feed_all`](Flow::split_feed_all) is the split
+    /// feed.
+    pub fn prepared_feed_all<B: AsRef<[u8]>>(
+        &mut self,
+        index: &Index<'_, B>,
+        start: u64,
+        piece: &[u8],
+        told: impl FnMut(Pair),
+    ) -> Result<FedAll, SplitError> {
+        feed_whole(start, piece, told, |start, rest, words| self.prepared_feed(index, start, rest, words))
+    }
 }
 
 impl From<[u8; FLOW_SIZE]> for Flow {
@@ -731,6 +790,18 @@ pub struct FedAll {
     pub bytes: usize,
     /// Pairs handed to the callback.
     pub pairs: usize,
+}
+
+/// What a split or a prepared feed did, of its answer.
+fn split_fed(fed: raw::WatchFed) -> Result<Fed, SplitError> {
+    match Refusal::verdict(fed.refusal) {
+        Ok(()) => Ok(Fed::from_raw(fed)),
+        Err(Refusal::NoSplit) => {
+            let before = Fed::from_raw(fed);
+            Err(SplitError::Halted { bytes: before.bytes, pairs: before.pairs })
+        }
+        Err(refusal) => Err(SplitError::Refused(refusal)),
+    }
 }
 
 /// Feeds a whole piece, from its middle after each pause, and hands on each pair. `feed` is the feed of what is left.
@@ -877,6 +948,74 @@ impl<'a> Table<'a> {
     pub fn lists(&self) -> TableLists<'a> {
         self.lists
     }
+
+    /// The bytes of the table's index: a set of states, then an entry for each split.
+    pub fn index_size(&self) -> usize {
+        SET_SIZE + ENTRY_SIZE * (self.lists.splits.len() / SPLIT_SIZE)
+    }
+}
+
+/// The index of a split table: what [`Flow::prepared_feed`] runs, with the table's classes and splits.
+///
+/// It owns its bytes, or borrows them, as `B` does: `Vec<u8>`, `Box<[u8]>`, an array, or a lent `&mut [u8]`.
+#[derive(Clone, Copy, PartialEq, Eq)]
+pub struct Index<'a, B> {
+    classes: &'a [u8],
+    splits: &'a [u8],
+    bytes: B,
+}
+
+impl<'a, B: AsRef<[u8]>> Index<'a, B> {
+    /// Fills the index of a table into bytes, [`Table::index_size`] of them. Refusals 7 to 13 as in [`Table::check`], which it runs; 8 also
+    /// where the bytes are more or fewer. A table that has passed, and so many bytes, are not refused.
+    pub fn fill(table: &Table<'a>, mut bytes: B) -> Result<Index<'a, B>, Refusal>
+    where
+        B: AsMut<[u8]>,
+    {
+        let (list, lists, index) = (table.list.bytes, table.lists, bytes.as_mut());
+        // SAFETY: each pointer and length is that of a slice that is borrowed over the call, and the index is borrowed as mutable.
+        let number = unsafe {
+            raw::watch_fill_index(
+                list.as_ptr(),
+                list.len(),
+                table.bound,
+                lists.classes.as_ptr(),
+                lists.classes.len(),
+                lists.parts.as_ptr(),
+                lists.parts.len(),
+                lists.rows.as_ptr(),
+                lists.rows.len(),
+                lists.splits.as_ptr(),
+                lists.splits.len(),
+                index.as_mut_ptr(),
+                index.len(),
+            )
+        };
+        Refusal::verdict(number)?;
+        Ok(Index { classes: lists.classes, splits: lists.splits, bytes })
+    }
+
+    /// An index that was filled before, with the classes and the splits of its table. Nothing is unsafe about a wrong one, but a prepared feed may
+    /// then refuse it (8), halt (14), or tell other pairs than the split feed.
+    pub fn unchecked(classes: &'a [u8], splits: &'a [u8], bytes: B) -> Index<'a, B> {
+        Index { classes, splits, bytes }
+    }
+
+    /// The index's bytes, to be saved.
+    pub fn as_bytes(&self) -> &[u8] {
+        self.bytes.as_ref()
+    }
+
+    /// What the index was filled into.
+    pub fn into_bytes(self) -> B {
+        self.bytes
+    }
+}
+
+impl<B: AsRef<[u8]>> fmt::Debug for Index<'_, B> {
+    fn fmt(&self, f: &mut fmt::Formatter<'_>) -> fmt::Result {
+        write!(f, "Index({} splits)", self.splits.len() / SPLIT_SIZE)
+    }
 }
 
 /// A bit matrix with the list that it is for: a set of [`SET_SIZE`] bytes for each state up to the highest that the list names and each byte, that of
@@ -955,6 +1094,7 @@ const _: () = {
     send_and_sync::<Table<'static>>();
     send_and_sync::<TableLists<'static>>();
     send_and_sync::<Matrix<'static, &[u8]>>();
+    send_and_sync::<Index<'static, &'static [u8]>>();
     send_and_sync::<Flow>();
     send_and_sync::<Opened>();
     send_and_sync::<Fed>();

@@ -116,4 +116,38 @@ extern "C" {
         pairs: *mut u32,
         pairs_len: usize,
     ) -> WatchFed;
+
+    /// Fills the index of a table: 0, or a refusal 1 to 3 or 7 to 13. `index` is written, so it overlaps nothing else of the call.
+    pub fn watch_fill_index(
+        list: *const u8,
+        list_len: usize,
+        bound: u64,
+        classes: *const u8,
+        classes_len: usize,
+        parts: *const u8,
+        parts_len: usize,
+        rows: *const u8,
+        rows_len: usize,
+        splits: *const u8,
+        splits_len: usize,
+        index: *mut u8,
+        index_len: usize,
+    ) -> u32;
+
+    /// The prepared feed: refusals 4 to 6 and 8, and 14.
+    pub fn watch_prepared_feed(
+        classes: *const u8,
+        classes_len: usize,
+        splits: *const u8,
+        splits_len: usize,
+        index: *const u8,
+        index_len: usize,
+        flow: *mut u8,
+        flow_len: usize,
+        start: u64,
+        piece: *const u8,
+        piece_len: usize,
+        pairs: *mut u32,
+        pairs_len: usize,
+    ) -> WatchFed;
 }

@@ -31,7 +31,7 @@ pub enum Refusal {
     TooLong = 6,
     /// 7: bound not 1 to [`MOST_BOUND`].
     Bound = 7,
-    /// 8: a table list has the wrong length, or a class is over [`MOST_CLASS`].
+    /// 8: a table list or an index has the wrong length, or a class is over [`MOST_CLASS`].
     TableLists = 8,
     /// 9: a split has a used slot that names no part, a used slot after an unused one, slots not strictly rising, more
     /// than b used, or a set not greater (as byte strings) than the one before. The split feed looks at the sets alone.
@@ -116,7 +116,7 @@ impl fmt::Display for Refusal {
             Refusal::Bound => write!(f, "bound not 1 to {MOST_BOUND}"),
             Refusal::TableLists => write!(
                 f,
-                "a table list has the wrong length, a class is over {MOST_CLASS}, or the matrix has the wrong length"
+                "a table list or an index has the wrong length, a class is over {MOST_CLASS}, or the matrix has the wrong length"
             ),
             Refusal::SplitRecord => f.write_str(
                 "a split has a used slot that names no part, a used slot after an unused one, slots not strictly rising, \

@@ -2,7 +2,7 @@
 //! is written so. `tools/sizes` in the repository holds them to the constants of the proved code.
 
 /// The version of the C face that this crate is written for. [`List::check`](crate::List::check) compares it with the archive's.
-pub const VERSION: u32 = 7;
+pub const VERSION: u32 = 8;
 
 /// States are the numbers below this one.
 pub const STATES: usize = 1024;
@@ -69,3 +69,9 @@ pub const ROW_SIZE: usize = BYTE_VALUES * SET_SIZE;
 
 /// Bytes of a matrix for all states.
 pub const MOST_MATRIX: usize = STATES * ROW_SIZE;
+
+/// Bytes in the entry of a split in an index.
+pub const ENTRY_SIZE: usize = 192;
+
+/// Bytes in the index of the most splits: a set of states, then an entry for each.
+pub const MOST_INDEX: usize = SET_SIZE + ENTRY_SIZE * MOST_SPLITS;

@@ -66,6 +66,7 @@ struct State {
     parts: Box<[u8]>,
     rows: Box<[u8]>,
     splits: Box<[u8]>,
+    /// A matrix, or an index.
     matrix: Box<[u8]>,
     record: Box<[u8]>,
 }
@@ -204,6 +205,50 @@ impl State {
                 };
                 fed_line('x', fed, &words, &self.record)
             }
+            'i' => {
+                let bound = reader.u64();
+                let refusal = unsafe {
+                    raw::watch_fill_index(
+                        l,
+                        n,
+                        bound,
+                        self.classes.as_ptr(),
+                        self.classes.len(),
+                        self.parts.as_ptr(),
+                        self.parts.len(),
+                        self.rows.as_ptr(),
+                        self.rows.len(),
+                        self.splits.as_ptr(),
+                        self.splits.len(),
+                        self.matrix.as_mut_ptr(),
+                        self.matrix.len(),
+                    )
+                };
+                (refusal, format!("i {refusal} {}", digest(self.matrix.iter().copied())))
+            }
+            'p' => {
+                let start = reader.u64();
+                let mut words: Box<[u32]> = (0..reader.u32()).map(|i| WORD_FILL + i).collect();
+                let piece = reader.block();
+                let fed = unsafe {
+                    raw::watch_prepared_feed(
+                        self.classes.as_ptr(),
+                        self.classes.len(),
+                        self.splits.as_ptr(),
+                        self.splits.len(),
+                        self.matrix.as_ptr(),
+                        self.matrix.len(),
+                        self.record.as_mut_ptr(),
+                        self.record.len(),
+                        start,
+                        piece.as_ptr(),
+                        piece.len(),
+                        words.as_mut_ptr(),
+                        words.len(),
+                    )
+                };
+                fed_line('p', fed, &words, &self.record)
+            }
             _ => panic!("no such command: {name}"),
         };
         Some((name, refusal, line))
@@ -241,11 +286,13 @@ fn the_vectors_are_answered_line_by_line() {
         ('f', "plain feed"),
         ('k', "table check"),
         ('s', "split feed"),
-        ('m', "filler"),
+        ('m', "matrix filler"),
         ('x', "matrix feed"),
+        ('i', "index filler"),
+        ('p', "prepared feed"),
     ] {
         let of = counts.iter().filter(|((letter, _), _)| *letter == entry);
         let text: Vec<String> = of.clone().map(|((_, refusal), count)| format!("{refusal}:{count}")).collect();
-        println!("  {entry}  {name:11} {:6}  {}", of.map(|(_, count)| count).sum::<usize>(), text.join(" "));
+        println!("  {entry}  {name:13} {:6}  {}", of.map(|(_, count)| count).sum::<usize>(), text.join(" "));
     }
 }

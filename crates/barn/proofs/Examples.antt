@@ -5,8 +5,8 @@ use mathlib.Core.Bool.{Bool, true, false, _&&_}
 use mathlib.Core.List.{List, [], _∷_, _++_}
 use lib.Count.{onesIn}
 use lib.Dec.{T, eqb, eqb→eq}
-use Rattle.sets.specs.Set.{num, digits, holds, join, within, insert, size, members, setAt, before}
-use Rattle.rules.specs.Scan.{some, every, first, gather, rising}
+use Rattle.sets.specs.Set.{num, digits, holds, join, within, insert, size, members, setAt, sigsAt, before}
+use Rattle.rules.specs.Scan.{some, every, first, gather, rising, stack}
 use Rattle.rules.specs.Rules.{verdict}
 use Rattle.lists.specs.List.{goodRecord, badLength, badRecord, noStart}
 use Rattle.lists.specs.Automaton.{start, step, accepted, namedBy}
@@ -18,7 +18,9 @@ use Rattle.plain.specs.Plain.{openPairs}
 use Rattle.tables.specs.Table.{largest, part, row, splitSet, slots, usedSlots, takenSlots, allBelow, joined, badClasses, badCount, badRowsLength, badLengths, goodSlots, inOrder, unordered, badSplits, badRows, badUnion, noStartSplit, notClosed, tableRefusal, splitOf}
 use Rattle.splits.specs.Split.{taken, stuck, splitStep}
 use Rattle.matrix.specs.Matrix.{highestBy}
-use Rattle.barn.specs.Examples.{Row, Agree, feedRows, openRow, openedRow, acceptedRow, acceptedRow₁, acceptedRow₀, boundRow, closedRow, startRow, loudRow, orderRows, examples}
+use Rattle.indexes.specs.Index.{knownIn, toldAt, rowsOf, leadsTo, spent, tells, moves, entry, entries}
+use Rattle.prepared.specs.Prepared.{halved, soughtOf, badIndex}
+use Rattle.barn.specs.Examples.{Row, Agree, feedRows, openRow, openedRow, acceptedRow, acceptedRow₁, acceptedRow₀, boundRow, closedRow, startRow, loudRow, indexRow, orderRows, indexRows, examples}
 
 -- rows are compared by computing; what computes as the same is the same
 abbrev same : List ℕ → List ℕ → Bool
@@ -103,6 +105,19 @@ orders-hold : T (agree orderRows)
 unfolding steps checks feeds
 orders-hold = tt
 
+-- what the index's rows compute with, beside those
+indexing : ℕ
+unfolding sigsAt knownIn toldAt stack rowsOf leadsTo spent tells moves entry entries halved soughtOf badIndex
+indexing = 0
+
+index-holds : T (same (indexRow .0) (indexRow .1))
+unfolding steps checks feeds indexing
+index-holds = tt
+
+indexes-hold : T (agree indexRows)
+unfolding steps checks feeds indexing
+indexes-hold = tt
+
 opened-holds : T (same (openedRow .0) (openedRow .1))
 unfolding steps feeds
 opened-holds = tt
@@ -143,7 +158,14 @@ examples-hold = (
               same-sound (closedRow .0) (closedRow .1) closed-holds,
               (
                 same-sound (startRow .0) (startRow .1) start-holds,
-                (same-sound (loudRow .0) (loudRow .1) loud-holds, agree-append feedRows orderRows (agree-sound feedRows feeds-hold) (agree-sound orderRows orders-hold)),
+                (
+                  same-sound (loudRow .0) (loudRow .1) loud-holds,
+                  (
+                    same-sound (indexRow .0) (indexRow .1) index-holds,
+                    agree-append feedRows (orderRows ++ indexRows) (agree-sound feedRows feeds-hold)
+                        (agree-append orderRows indexRows (agree-sound orderRows orders-hold) (agree-sound indexRows indexes-hold)),
+                  ),
+                ),
               ),
             ),
           ),

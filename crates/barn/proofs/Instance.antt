@@ -1,23 +1,30 @@
 -- The demands are no empty promises: openings, and calls that follow, to which the theorems apply. Assumes nothing.
-use Prim.Native.Nat.{ℕ, zero, suc, _<_}
+use Prim.Native.Nat.{ℕ, zero, suc, _/_, _^_, _<_}
 use mathlib.Core.Path.{_≡_, refl, sym, _∙_}
-use mathlib.Core.List.{List, [], _∷_}
+use mathlib.Core.List.{List, [], _∷_, _++_}
 use native.Mathlib.Omega.{arith}
 use lib.ListN.{replicate}
 use lib.Dec.{lit<}
+use Rattle.sets.specs.Set.{digits, setBytes}
 use Rattle.lists.specs.List.{badLength}
 use Rattle.rules.specs.Rules.{verdict}
 use Rattle.rules.proofs.Rules.{stop}
 use Rattle.feeds.specs.Calls.{Bytes}
+use Rattle.feeds.proofs.Runs.{bytes-append}
 use Rattle.plain.specs.Plain.{openFlow}
-use Rattle.tables.specs.Table.{tableRefusal}
+use Rattle.tables.specs.Table.{Table, tableRefusal}
 use Rattle.matrix.specs.Matrix.{filled}
+use Rattle.indexes.specs.Index.{filledIndex}
+use Rattle.prepared.specs.Prepared.{preparedRules}
+use Rattle.prepared.proofs.Feeding.{lists-said, prepared-passes}
 use Rattle.demands.specs.Calls.{Via, byList, byTable, byMatrix, Call, rulesOf}
+use Rattle.demands.specs.Prepared.{Step, called, byIndex, Demand3Steps, SwappedSteps}
 use Rattle.demands.specs.Demands.{InBytes, Demand2Opened, Demand3, Swapped}
-use Rattle.barn.specs.Examples.{L, L₀, T₃, T₁, a, b, room, full, begin, swaps}
+use Rattle.barn.specs.Examples.{L, L₀, splitOf₂, s0, s01, s02, T₃, T₁, a, b, room, full, begin, swaps}
 use Rattle.barn.proofs.Examples.{open-agrees, opened-agrees, accepted-agrees, accepted-agrees₁, accepted-agrees₀}
 use Rattle.demands.proofs.Demand3.{demand-3}
 use Rattle.demands.proofs.Swapping.{demand-2-opened, swapped}
+use Rattle.demands.proofs.Prepared.{swapped-steps, demand-3-steps}
 
 -- four calls: "aba"; start 0 again, which is refused with 5; an empty list, which is refused with 1; then "b" from 3
 abbrev fed : Via → List ℕ → ℕ → List ℕ → Call
@@ -96,3 +103,49 @@ pub mixed-applies : Swapped L₀ (begin full 5) mixed
 mixed-applies =
     swapped L₀ full (replicate 5 9) passes mixed (three, (one b (lit< tt), (one b (lit< tt), (one b (lit< tt), (one b (lit< tt), tt)))))
     (λ v. (refl, tt), (λ v. (refl, tt), (λ v. by-none _ (byTable 2 T₃) _ 3 (b ∷ []) v, (λ v. (refl, accepts), (λ v. (refl, refl), tt)))))
+
+-- five steps of "abab": "a" plain; "b" by the index of T; an index of no bytes, which is refused with 8; "a" by the index of the table of bound 1, and "b" by the list's matrix
+abbrev byIndexOf : ℕ → Table → List ℕ → ℕ → List ℕ → Step
+byIndexOf n T X at piece = byIndex L n T X at piece (room 1)
+
+abbrev stepped : List Step
+stepped =
+    called (record { list = L; via = byList; at = 0; piece = a ∷ []; out = room 1 }) ∷ byIndexOf 2 T₃ (filledIndex L T₃) 1 (b ∷ []) ∷ byIndexOf 2 T₃ [] 2 (a ∷ [])
+    ∷ byIndexOf 1 T₁ (filledIndex L T₁) 2 (a ∷ []) ∷ called (record { list = L; via = byMatrix (filled L); at = 3; piece = b ∷ []; out = room 1 }) ∷ []
+
+-- an index of no bytes is refused
+no-index : (P : Type 0) (R : List ℕ) → verdict (preparedRules (T₃ .classes) (T₃ .splits) [] R 2 (a ∷ [])) ≡ 0 → P
+no-index P R v = absurd (omega (arith, lists-said (T₃ .classes) (T₃ .splits) [] (prepared-passes (T₃ .classes) (T₃ .splits) [] R 2 (a ∷ []) v .3) .index))
+
+-- the splits of both tables are bytes
+digits-bytes : (m n : ℕ) → Bytes (digits 8 m n)
+unfolding digits
+digits-bytes zero n i = lit< tt
+digits-bytes (suc m) n zero = omega arith
+digits-bytes (suc m) n (suc i) = digits-bytes m (n / 2 ^ 8) i
+
+split-bytes : (n p q : ℕ) → Bytes (splitOf₂ n p q)
+split-bytes n p q =
+    bytes-append (setBytes n) (digits 8 2 p ++ (digits 8 2 q ++ digits 8 4 0xFFFFFFFF)) (digits-bytes 128 n)
+    (bytes-append (digits 8 2 p) (digits 8 2 q ++ digits 8 4 0xFFFFFFFF) (digits-bytes 2 p) (bytes-append (digits 8 2 q) (digits 8 4 0xFFFFFFFF) (digits-bytes 2 q) (digits-bytes 4 0xFFFFFFFF)))
+
+splits-bytes : (x y z : List ℕ) → Bytes x → Bytes y → Bytes z → Bytes (x ++ (y ++ z))
+splits-bytes x y z p q r = bytes-append x (y ++ z) p (bytes-append y z q r)
+
+bytes₃ : Bytes (T₃ .splits)
+bytes₃ = splits-bytes s0 s01 s02 (split-bytes 1 0 65535) (split-bytes 3 0 1) (split-bytes 5 0 2)
+
+bytes₁ : Bytes (T₁ .splits)
+bytes₁ = splits-bytes (splitOf₂ 1 0 65535) (splitOf₂ 3 1 65535) (splitOf₂ 5 2 65535) (split-bytes 1 0 65535) (split-bytes 3 1 65535) (split-bytes 5 2 65535)
+
+pub stepped-applies : SwappedSteps L (openFlow L full []) stepped
+stepped-applies =
+    swapped-steps L full [] opens stepped
+    (one a (lit< tt), ((one b (lit< tt), bytes₃), ((one a (lit< tt), bytes₃), ((one a (lit< tt), bytes₁), (one b (lit< tt), tt)))))
+    (λ v. (refl, tt), (λ v. (refl, (accepts₂, refl)), (λ v. no-index _ _ v, (λ v. (refl, (accepts₁, refl)), (λ v. (refl, refl), tt)))))
+
+-- two steps through T at 2, split and then prepared
+pub through-applies : Demand3Steps L 2 T₃ (openFlow L full []) (called (record { list = L; via = byTable 2 T₃; at = 0; piece = a ∷ []; out = room 1 }) ∷ byIndexOf 2 T₃ (filledIndex L T₃) 1 (b ∷ []) ∷ [])
+through-applies =
+    demand-3-steps L full [] opens _ (one a (lit< tt), ((one b (lit< tt), bytes₃), tt)) 2 T₃ accepts₂
+    (λ v. (refl, refl), (λ v. (refl, (refl, (refl, refl))), tt))

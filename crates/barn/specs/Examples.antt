@@ -13,6 +13,8 @@ use Rattle.flows.specs.Flow.{flowSize, flowBytes, rowsOf}
 use Rattle.plain.specs.Plain.{opened, openFlow, pairsOf}
 use Rattle.tables.specs.Table.{Table, table, splitSize, mostClass, mostParts, mostSplits, mostBound, tableRefusal}
 use Rattle.matrix.specs.Matrix.{matrixLength, cellAt}
+use Rattle.indexes.specs.Index.{entrySize, sigsPlace, notePlace, entryPlace, filledIndex}
+use Rattle.prepared.specs.Prepared.{preparedFeed}
 use Rattle.demands.specs.Calls.{Via, byList, byTable, byMatrix, Call, outcome}
 use Rattle.demands.specs.Demands.{wordsOf, after}
 
@@ -273,6 +275,42 @@ wild = setBytes 1 ++ (digits 8 2 7 ++ (digits 8 2 3 ++ (digits 8 2 900 ++ digits
 abbrev pub s8 : List ℕ
 s8 = splitOf₂ 256 0 65535
 
+-- ---- the index of T for L
+
+-- an entry by hand: where the classes of T lead, the signatures told as a number, the rows of a byte, and whether any are told
+abbrev pub entryBy : ℕ → ℕ → ℕ → ℕ → ℕ → ℕ → List ℕ
+entryBy other toA toB sigs n some = other ∷ 0 ∷ toA ∷ 0 ∷ toB ∷ 0 ∷ (replicate 122 0 ++ (digits 8 32 sigs ++ (n ∷ some ∷ replicate 30 0)))
+
+-- L names {0,1,2}; by "a" {0} leads to `toA`; {0,1} by "b" to {0,2}, which tells 7; one slot is taken at {0}, and two at the others
+abbrev pub indexBy : ℕ → List ℕ
+indexBy toA = setBytes 7 ++ (entryBy 0 toA 0 0 1 0 ++ (entryBy 0 1 2 0 2 0 ++ entryBy 0 1 0 128 2 1))
+
+-- a prepared feed by T's classes and splits and an index, from a record
+abbrev pub preparedBy : List ℕ → List ℕ → ℕ → List ℕ → ℕ → Outcome
+preparedBy X R at piece n = preparedFeed (T₃ .classes) (T₃ .splits) X R at piece (room n)
+
+-- what the filler writes for T is the index by hand
+abbrev pub indexRow : Row
+indexRow = (filledIndex L T₃, indexBy 1)
+
+abbrev pub indexRows : List Row
+indexRows =
+    -- bytes of an entry, the places of its signatures and its note, and bytes of an index of 3 splits and of the most
+    (entrySize ∷ sigsPlace ∷ notePlace ∷ entryPlace 3 ∷ entryPlace mostSplits ∷ [], 192 ∷ 128 ∷ 160 ∷ 704 ∷ 786560 ∷ [])
+    -- "abab" by the index: the words and the 7 rows of the split feed
+    ∷ (answered (preparedBy (indexBy 1) (opened L) 0 (a ∷ b ∷ a ∷ b ∷ []) 2), 0 ∷ 4 ∷ 2 ∷ 1 ∷ [])
+    ∷ (preparedBy (indexBy 1) (opened L) 0 (a ∷ b ∷ a ∷ b ∷ []) 2 .words, 7 ∷ 2 ∷ 7 ∷ 4 ∷ [])
+    ∷ (preparedBy (indexBy 1) (opened L) 0 (a ∷ b ∷ a ∷ b ∷ []) 2 .saved, flowBytes 5 4 7)
+    -- "a" leads to number 3, which names no split: it is consumed, tells nothing and costs one row; "b" halts with 14, and the frontier between them is empty
+    ∷ (answered (preparedBy (indexBy 3) (opened L) 0 (a ∷ b ∷ []) 2), 14 ∷ 1 ∷ 0 ∷ 0 ∷ [])
+    ∷ (preparedBy (indexBy 3) (opened L) 0 (a ∷ b ∷ []) 2 .saved, flowBytes 0 1 1)
+    -- a frontier that is no split, {0,1,2}: 14 at the first byte; of an empty piece nothing, and it stays
+    ∷ (answered (preparedBy (indexBy 1) (flowBytes 7 0 0) 0 (a ∷ []) 2) ++ answered (preparedBy (indexBy 1) (flowBytes 7 0 0) 0 [] 2), 14 ∷ 0 ∷ 0 ∷ 0 ∷ 0 ∷ 0 ∷ 0 ∷ 1 ∷ [])
+    -- {3}, which the index does not name: 4; an index of no bytes names none, so that 8 is given, of the empty piece too; 5 comes before 8
+    ∷ (answered (preparedBy (indexBy 1) (flowBytes 8 0 0) 0 (a ∷ []) 2), 4 ∷ 0 ∷ 0 ∷ 0 ∷ [])
+    ∷ (answered (preparedBy [] (flowBytes 8 0 0) 0 [] 2) ++ answered (preparedBy [] (opened L) 1 (a ∷ []) 2), 8 ∷ 0 ∷ 0 ∷ 0 ∷ 5 ∷ 0 ∷ 0 ∷ 0 ∷ [])
+    ∷ []
+
 -- the order of the splits, tested at the start of each split feed
 abbrev pub orderRows : List Row
 orderRows =
@@ -327,4 +365,4 @@ loudRow = (tableRefusal loud 2 T₃ ∷ [], 10 ∷ [])
 
 -- the one table
 abbrev pub examples : List Row
-examples = openRow ∷ openedRow ∷ acceptedRow ∷ acceptedRow₁ ∷ acceptedRow₀ ∷ boundRow ∷ closedRow ∷ startRow ∷ loudRow ∷ (feedRows ++ orderRows)
+examples = openRow ∷ openedRow ∷ acceptedRow ∷ acceptedRow₁ ∷ acceptedRow₀ ∷ boundRow ∷ closedRow ∷ startRow ∷ loudRow ∷ indexRow ∷ (feedRows ++ (orderRows ++ indexRows))

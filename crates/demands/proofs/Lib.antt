@@ -1,4 +1,5 @@
 pub mod Engines
+pub mod Halts
 pub mod Demand1
 pub mod Due
 pub mod Demand2
@@ -9,3 +10,4 @@ pub mod Saying
 pub mod Made
 pub mod Driving
 pub mod Turns
+pub mod Prepared

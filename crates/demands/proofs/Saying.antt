@@ -1,18 +1,19 @@
 -- Every rule of every entry point in words, and so each refusal: exactly when its words hold and those of no earlier row do. Assumes nothing.
 use Prim.Native.Nat.{ℕ, zero, suc, _+_, _*_, _/_, _≤_, _<_}
 use mathlib.Core.Path.{_≡_, refl, sym, ap, _∙_}
-use mathlib.Core.Bool.{Bool, true, false, cond, not, true≢false}
+use mathlib.Core.Bool.{Bool, true, false, _||_, cond, not, true≢false}
 use mathlib.Core.List.{List, [], _∷_, _++_}
 use mathlib.Core.Logic.{_⊎_, inl, inr, _↔_}
 use native.Mathlib.Omega.{arith}
 use native.Mathlib.Decide.{ℕ-discrete}
 use lib.ListN.{length, getD}
-use borrow.Author.Tests.{eqb-true}
-use Rattle.sets.specs.Set.{signatures, members, within}
+use lib.Dec.{ltb}
+use borrow.Author.Tests.{eqb-true, ltb-false, le-ltb, not-true}
+use Rattle.sets.specs.Set.{signatures, setSize, members, within, setAt}
 use Rattle.sets.proofs.Members.{members-size}
 use Rattle.rules.specs.Scan.{rising}
 use Rattle.rules.specs.Rules.{Rule, verdict, applies}
-use Rattle.rules.proofs.Scanning.{choose, either-words, over-words, differ-words, below-suc, rising-exactly}
+use Rattle.rules.proofs.Scanning.{choose, neither, either-words, over-words, differ-words, below-suc, rising-exactly}
 use Rattle.rules.proofs.Rules.{distinct, passes-exactly}
 use Rattle.lists.specs.List.{records, isStart, goodRecord, badLength, badRecord, noStart, listRules}
 use Rattle.lists.proofs.Listed.{Edge-bytes, Start-bytes, Accept-bytes, bad-length, bad-record, record-exactly, no-start, kind-start}
@@ -24,14 +25,16 @@ use Rattle.feeds.specs.Engine.{room}
 use Rattle.feeds.specs.Opening.{noRoom}
 use Rattle.plain.specs.Plain.{openPairs, openRules}
 use Rattle.plain.proofs.Opening.{openPairs-long}
-use Rattle.tables.specs.Table.{Table, partCount, splitCount, slots, usedSlots, takenSlots, goodSlots, inOrder, unordered, badSplits, badRows, badUnion, noStartSplit, notClosed, sizeRules, risingRules, tableRules}
+use Rattle.tables.specs.Table.{Table, mostSplits, mostBound, splitSize, partCount, splitCount, slots, usedSlots, takenSlots, goodSlots, inOrder, unordered, badBound, badClasses, badCount, badLengths, badSplits, badRows, badUnion, noStartSplit, notClosed, sizeRules, risingRules, tableRules}
 use Rattle.tables.proofs.Accepted.{Slots-good}
 use Rattle.tables.proofs.Joined.{below-exactly}
-use Rattle.tables.proofs.Checked.{bad-bound, bad-classes, bad-rows-length, bad-lengths, bad-splits, bad-rows, bad-union, no-start-split, not-closed, slots-exactly, in-order-first, in-order-exactly, unordered-exactly}
+use Rattle.tables.proofs.Checked.{bad-bound, bad-classes, bad-count, bad-rows-length, bad-lengths, bad-splits, bad-rows, bad-union, no-start-split, not-closed, slots-exactly, in-order-first, in-order-exactly, unordered-exactly}
 use Rattle.splits.specs.Split.{splitRules}
 use Rattle.matrix.specs.Matrix.{highest, matrixLength, wrongMatrix, fillRules, matrixRules}
 use Rattle.matrix.proofs.Highest.{names-low, highest-is}
-use Rattle.demands.specs.Words.{Row, None, First, InWords, listWords, openingRows, openWords, Foreign, flowWords, feedWords, Highest, lengthWords, fillWords, matrixWords, SlotsGood, Rises, sizeWords, entryWords, tableWords, orderWords, splitWords}
+use Rattle.indexes.specs.Index.{entryPlace, knownIn, wrongIndex, indexRules}
+use Rattle.prepared.specs.Prepared.{badIndex, preparedRules}
+use Rattle.demands.specs.Words.{Row, None, First, InWords, listWords, openingRows, openWords, Foreign, flowWords, feedWords, Highest, lengthWords, fillWords, matrixWords, Miscounted, Misclassed, Mislisted, SlotsGood, Rises, sizeWords, entryWords, tableWords, orderWords, splitWords, Misindexed, indexWords, Unnamed, preparedWords}
 
 -- ---- a table of rules and a table of words
 
@@ -203,9 +206,17 @@ order-words S =
     via (unordered-exactly S)
     (λ w. (w .0, w .1, order-fails S (w .0) (w .1) .0 (w .2)), λ w. (w .0, w .1, order-fails S (w .0) (w .1) .1 (w .2)))
 
+-- 8 of an index
+index-words : (S X : List ℕ) → wrongIndex S X ≡ true ↔ Misindexed S X
+index-words S X = differ-words (length X) (entryPlace (splitCount S))
+
 module _ (b : ℕ) (T : Table) where
+  -- 8 of the table's lists
+  lists-words : badLengths T ≡ true ↔ Mislisted T
+  lists-words = via (bad-lengths T) (sides (sides (sides (bad-classes (T .classes)) same) same) (bad-rows-length T))
+
   size-says : Says (sizeRules b T) (sizeWords b T)
-  size-says = (refl, bad-bound b, (refl, via (bad-lengths T) (sides (sides (sides (bad-classes (T .classes)) same) same) (bad-rows-length T)), tt))
+  size-says = (refl, bad-bound b, (refl, lists-words, tt))
 
   -- some split's slots are not good, or it does not come after the one before
   splits-words : badSplits b T ≡ true
@@ -237,20 +248,60 @@ module _ (b : ℕ) (T : Table) where
       back : Bad → (i : ℕ) × (i < splitCount (T .splits)) × ((goodSlots (partCount (T .parts)) b (slots (T .splits) i) ≡ false) ⊎ (inOrder (T .splits) i ≡ false))
       back s = choose s (λ w. (w .0, w .1, inl (slots-fail (w .0) .1 (w .2)))) (λ w. (suc (w .0), w .1, inr (order-fails (T .splits) (w .0) (w .1) .1 (w .2))))
 
+  -- 9 to 13
+  abbrev entryRules : List ℕ → List Rule
+  entryRules L = (9, badSplits b T) ∷ (10, badRows L T) ∷ (11, badUnion T) ∷ (12, noStartSplit L T) ∷ (13, notClosed L T) ∷ []
+
+  entry-says : (L : List ℕ) → Says (entryRules L) (entryWords L b T)
+  entry-says L = (refl, splits-words, (refl, bad-rows L T, (refl, bad-union L T, (refl, no-start-split L T, (refl, not-closed L T, tt)))))
+
   table-says : (L : List ℕ) → Says (tableRules L b T) (tableWords L b T)
   table-says L =
-      says-append (listRules L) (sizeRules b T ++ entries) (listWords L) (sizeWords b T ++ entryWords L b T) (list-says L)
-      (says-append (sizeRules b T) entries (sizeWords b T) (entryWords L b T) size-says
-      (refl, splits-words, (refl, bad-rows L T, (refl, bad-union L T, (refl, no-start-split L T, (refl, not-closed L T, tt))))))
-    where
-      entries : List Rule
-      entries = (9, badSplits b T) ∷ (10, badRows L T) ∷ (11, badUnion T) ∷ (12, noStartSplit L T) ∷ (13, notClosed L T) ∷ []
+      says-append (listRules L) (sizeRules b T ++ entryRules L) (listWords L) (sizeWords b T ++ entryWords L b T) (list-says L)
+      (says-append (sizeRules b T) (entryRules L) (sizeWords b T) (entryWords L b T) size-says (entry-says L))
 
   rising-says : Says (risingRules b T) (sizeWords b T ++ orderWords T)
   rising-says = says-append (sizeRules b T) ((9, unordered (T .splits)) ∷ []) (sizeWords b T) (orderWords T) size-says (refl, order-words (T .splits), tt)
 
   split-says : (L R : List ℕ) (at : ℕ) (piece : List ℕ) → Says (splitRules L b T R at piece) (splitWords L b T R at piece)
   split-says L R at piece = says-append (feedRules L R at piece) (risingRules b T) (feedWords L R at piece) (sizeWords b T ++ orderWords T) (feed-says L R at piece) rising-says
+
+  index-says : (L X : List ℕ) → Says (indexRules L b T X) (indexWords L b T X)
+  index-says L X =
+      says-append (listRules L) ((7, badBound b) ∷ (8, badLengths T || wrongIndex (T .splits) X) ∷ entryRules L) (listWords L) ((7, (b ≡ 0) ⊎ (mostBound < b)) ∷ (8, Mislisted T ⊎ Misindexed (T .splits) X) ∷ entryWords L b T) (list-says L) (
+        refl,
+        bad-bound b,
+        (refl, either-words (Mislisted T) (Misindexed (T .splits) X) (badLengths T) (wrongIndex (T .splits) X) lists-words (index-words (T .splits) X), entry-says L),
+      )
+
+-- ---- the prepared feed
+
+module _ (C S X : List ℕ) where
+  -- some state of the frontier is not among those that the index names
+  unnamed : (R : List ℕ) → not (knownIn X (frontierOf R)) ≡ true ↔ Unnamed X R
+  unfolding knownIn
+  unnamed R =
+      let o = outside-exactly (frontierOf R) (setAt X 0) in (
+        λ e.
+            let n = neither (ltb (length X) setSize) (within (frontierOf R) (setAt X 0)) (not-true (ltb (length X) setSize || within (frontierOf R) (setAt X 0)) e) in
+            (ltb-false (length X) setSize (n .0), o .0 (ap not (n .1))),
+        λ w. rw (le-ltb (length X) setSize (w .0)) (o .1 (w .1)),
+      )
+
+  -- 8 of its lists
+  index-lists : badIndex C S X ≡ true ↔ ((Misclassed C ⊎ Miscounted splitSize mostSplits S) ⊎ Misindexed S X)
+  unfolding badIndex
+  index-lists =
+      either-words (Misclassed C ⊎ Miscounted splitSize mostSplits S) (Misindexed S X) (badClasses C || badCount splitSize mostSplits S) (wrongIndex S X)
+      (either-words (Misclassed C) (Miscounted splitSize mostSplits S) (badClasses C) (badCount splitSize mostSplits S) (bad-classes C) (bad-count splitSize mostSplits S))
+      (index-words S X)
+
+  prepared-says : (R : List ℕ) (at : ℕ) (piece : List ℕ) → Says (preparedRules C S X R at piece) (preparedWords C S X R at piece)
+  prepared-says R at piece = (
+    refl,
+    either-words _ (Unnamed X R) (badFlow R) (not (knownIn X (frontierOf R))) (bad-flow R) (unnamed R),
+    (refl, other-start R at, (refl, too-long R piece, (refl, index-lists, tt))),
+  )
 
 -- ---- each entry point
 
@@ -274,3 +325,9 @@ fill-tells L X = tells (fillRules L X) (fillWords L X) refl (fill-says L X)
 
 pub matrix-tells : (L X R : List ℕ) (at : ℕ) (piece : List ℕ) → InWords (matrixWords L X R at piece) (verdict (matrixRules L X R at piece))
 matrix-tells L X R at piece = tells (matrixRules L X R at piece) (matrixWords L X R at piece) refl (matrix-says L X R at piece)
+
+pub index-tells : (L : List ℕ) (b : ℕ) (T : Table) (X : List ℕ) → InWords (indexWords L b T X) (verdict (indexRules L b T X))
+index-tells L b T X = tells (indexRules L b T X) (indexWords L b T X) refl (index-says b T L X)
+
+pub prepared-tells : (C S X R : List ℕ) (at : ℕ) (piece : List ℕ) → InWords (preparedWords C S X R at piece) (verdict (preparedRules C S X R at piece))
+prepared-tells C S X R at piece = tells (preparedRules C S X R at piece) (preparedWords C S X R at piece) refl (prepared-says C S X R at piece)

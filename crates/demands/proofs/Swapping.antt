@@ -175,7 +175,7 @@ module _ (L : List ℕ) where
   each-map P Q f R [] p = tt
   each-map P Q f R (c ∷ cs) p = (f R c (p .0), each-map P Q f (outcome R c .saved) cs (p .1))
 
-  each-both : (P Q S : List ℕ → Call → Type 0) → ((R : List ℕ) (c : Call) → P R c → Q R c → S R c) → (R : List ℕ) (cs : List Call) → Each P R cs → Each Q R cs → Each S R cs
+  pub each-both : (P Q S : List ℕ → Call → Type 0) → ((R : List ℕ) (c : Call) → P R c → Q R c → S R c) → (R : List ℕ) (cs : List Call) → Each P R cs → Each Q R cs → Each S R cs
   each-both P Q S f R [] p q = tt
   each-both P Q S f R (c ∷ cs) p q = (f R c (p .0) (q .0), each-both P Q S f (outcome R c .saved) cs (p .1) (q .1))
 
@@ -214,6 +214,18 @@ module _ (L : List ℕ) where
     where
       Ruled : List ℕ → Call → Type 0
       Ruled Q c = outcome Q c .refusal ≡ verdict (asked c .rules Q)
+
+  -- 4 takes the record that each call meets
+  pub fits : (R out : List ℕ) → openFlow L R out .refusal ≡ 0 → (cs : List Call) → InBytes cs → Each (Swaps L) (openFlow L R out .saved) cs
+      → Each (λ Q c. Fit L Q) (openFlow L R out .saved) cs
+  fits R out z cs hb given =
+      let B = opened L in
+      let q = begins L R out z in
+      let h : Each (Swaps L) (opened L) cs = rw (q .1) at given in
+      rw (q .1)
+      (each-map Meets (λ Q c. Fit L Q) fit B cs
+      (along-each Meets (Met flowLayout (plain L) (Equal Reached) states) (λ Q c m. m) B cs
+      (met flowLayout (plain L) (Equal Reached) states sound (allAsked cs) B (start L) (fair cs h) (in-bytes B cs hb) at-start begins-written begins-within)))
 
   -- ---- what follows from it
 

@@ -15,10 +15,12 @@ use Rattle.flows.specs.Flow.{flowLayout, frontierOf, offsetOf, rowsOf, badFlow,
 use Rattle.feeds.specs.Calls.{Bytes, recordAfter, allTold, allBytes}
 use Rattle.feeds.specs.Opening.{Opening}
 use Rattle.plain.specs.Plain.{plain, opened, openPairs, pairsOf, openRules, openFlow, plainFeed}
-use Rattle.tables.specs.Table.{Table, sizeRules, tableRules, tableRefusal}
+use Rattle.tables.specs.Table.{Table, splitCount, sizeRules, tableRules, tableRefusal}
 use Rattle.splits.specs.Split.{taken, stuck, split, splitRules, splitFeed}
 use Rattle.matrix.specs.Matrix.{filled, fillRules, Fills, matrixRules, matrixFeed}
-use Rattle.demands.specs.Words.{None, First, InWords, listWords, openWords, feedWords, tableWords, AllRise, splitWords, Stuck, fillWords, matrixWords}
+use Rattle.indexes.specs.Index.{filledIndex, indexRules, FillsIndex}
+use Rattle.prepared.specs.Prepared.{placeOf, prepared, preparedRules, preparedFeed}
+use Rattle.demands.specs.Words.{None, First, InWords, listWords, openWords, feedWords, tableWords, AllRise, splitWords, Stuck, fillWords, matrixWords, indexWords, preparedWords}
 use Rattle.demands.specs.Calls.{Via, byList, byTable, byMatrix, Checked, Call, asked, allAsked, outcome}
 
 -- ==== Demand 1: each refusal has a number, is given exactly when the rules say, and changes nothing in the buffers;
@@ -53,7 +55,7 @@ pub record Demand1 : Type 0 where
   -- in the rules of each entry point the numbers rise: of those that apply, the lowest is given
   pub lowest : (L : List ℕ) (b : ℕ) (T : Table) (X R : List ℕ) (at : ℕ) (piece out : List ℕ)
       → Rises (listRules L) × Rises (openRules L R out) × Rises (feedRules L R at piece) × Rises (tableRules L b T) × Rises (splitRules L b T R at piece)
-      × Rises (fillRules L X) × Rises (matrixRules L X R at piece)
+      × Rises (fillRules L X) × Rises (matrixRules L X R at piece) × Rises (indexRules L b T X) × Rises (preparedRules (T .classes) (T .splits) X R at piece)
   -- the list check: 1 to 3; and in words: each number exactly when its words hold and those of no row before it do
   pub lists : (L : List ℕ) → Refuses (listRules L) (listRefusal L)
   pub lists-said : (L : List ℕ) → InWords (listWords L) (listRefusal L)
@@ -118,6 +120,26 @@ pub record Demand1 : Type 0 where
   pub halts-kept : (L : List ℕ) (b : ℕ) (T : Table) (R : List ℕ) (at : ℕ) (piece out : List ℕ)
       → splitFeed L b T R at piece out .refusal ≡ 14
       → Same (splitFeed L b T R at piece out) (splitFeed L b T R at (take (splitFeed L b T R at piece out .bytes) piece) out)
+  -- filling an index: 1 to 3 and 7 to 13, where 8 covers the index's length; a refusal leaves the bytes as they were, else they are the table's index
+  pub indexes-said : (L : List ℕ) (b : ℕ) (T : Table) (X : List ℕ) (refusal : ℕ) (left : List ℕ) → FillsIndex L b T X refusal left → InWords (indexWords L b T X) refusal
+  pub indexes-not : (L : List ℕ) (b : ℕ) (T : Table) (X : List ℕ) (refusal : ℕ) (left : List ℕ) → FillsIndex L b T X refusal left → (refusal ≡ 0 → ⊥) → left ≡ X
+  pub indexes-passes : (L : List ℕ) (b : ℕ) (T : Table) (X : List ℕ) (refusal : ℕ) (left : List ℕ) → FillsIndex L b T X refusal left → refusal ≡ 0
+      → (tableRefusal L b T ≡ 0) × (left ≡ filledIndex L T)
+  -- the prepared feed: 4 to 6 and 8, which change nothing
+  pub prepares-said : (C S X R : List ℕ) (at : ℕ) (piece out : List ℕ) (n : ℕ) → (n ≡ 0 → ⊥) → (n ≡ 14 → ⊥)
+      → (preparedFeed C S X R at piece out .refusal ≡ n) ↔ First (preparedWords C S X R at piece) n
+  pub prepares-none : (C S X R : List ℕ) (at : ℕ) (piece : List ℕ) → (verdict (preparedRules C S X R at piece) ≡ 0) ↔ None (preparedWords C S X R at piece)
+  pub prepares-not : (C S X R : List ℕ) (at : ℕ) (piece out : List ℕ)
+      → (preparedFeed C S X R at piece out .refusal ≡ 0 → ⊥) → (preparedFeed C S X R at piece out .refusal ≡ 14 → ⊥) → Unchanged R out (preparedFeed C S X R at piece out)
+  -- and 14: no other rule applies, bytes are left, and after those consumed it stands at a number that names no split
+  pub prepares-halts : (C S X R : List ℕ) (at : ℕ) (piece out : List ℕ)
+      → (preparedFeed C S X R at piece out .refusal ≡ 14)
+      ↔ ((verdict (preparedRules C S X R at piece) ≡ 0)
+      × (preparedFeed C S X R at piece out .bytes < length piece)
+      × (splitCount S ≤ run (prepared C S X) (placeOf S (frontierOf R)) (take (preparedFeed C S X R at piece out .bytes) piece) .split))
+  -- by the index of a table that the check accepts it answers and leaves what the split feed does, on every record, start, piece and buffer
+  pub prepares-split : (L : List ℕ) (b : ℕ) (T : Table) (R : List ℕ) (at : ℕ) (piece out : List ℕ) → tableRefusal L b T ≡ 0 → Bytes (T .splits) → Bytes piece
+      → preparedFeed (T .classes) (T .splits) (filledIndex L T) R at piece out ≡ splitFeed L b T R at piece out
 
 -- ==== Demand 2: the plain feed reports exactly the pairs that the automaton's definition gives for the bytes consumed, going on from
 -- ==== the flow's saved frontier, each once, by offset and then signature. It consumes as many bytes as have room for their pairs.

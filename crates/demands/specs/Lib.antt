@@ -3,3 +3,4 @@ pub mod Words
 pub mod Demands
 pub mod Made
 pub mod Drivers
+pub mod Prepared

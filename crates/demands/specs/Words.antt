@@ -5,7 +5,7 @@ use mathlib.Core.Bool.{true}
 use mathlib.Core.List.{List, [], _∷_, _++_}
 use mathlib.Core.Logic.{_⊎_, _↔_}
 use lib.ListN.{length, getD}
-use Rattle.sets.specs.Set.{states, signatures, setSize, holds, members}
+use Rattle.sets.specs.Set.{states, signatures, setSize, holds, members, setAt}
 use Rattle.lists.specs.List.{recordSize, mostRecords, records}
 use Rattle.lists.specs.Automaton.{start, step, accepted}
 use Rattle.lists.proofs.Listed.{Edge-bytes, Start-bytes, Accept-bytes}
@@ -113,16 +113,18 @@ AllRise S = (i : ℕ) → suc i < splitCount S → Rises S i
 abbrev pub NoSplit : List ℕ → ℕ → Type 0
 NoSplit S F = (j : ℕ) → j < splitCount S → splitSet S j ≡ F → ⊥
 
+-- not a class for each byte, or one over the largest
+abbrev pub Misclassed : List ℕ → Type 0
+Misclassed C = (length C ≡ byteValues → ⊥) ⊎ ((i : ℕ) × (i < length C) × (mostClass < getD C i 0))
+
+-- a list of the table has the wrong length
+abbrev pub Mislisted : Table → Type 0
+Mislisted T =
+    ((Misclassed (T .classes) ⊎ Miscounted setSize mostParts (T .parts)) ⊎ Miscounted splitSize mostSplits (T .splits))
+    ⊎ (length (T .rows) ≡ setSize * (partCount (T .parts) * classCount (T .classes)) → ⊥)
+
 abbrev pub sizeWords : ℕ → Table → List Row
-sizeWords b T =
-    (7, (b ≡ 0) ⊎ (mostBound < b))
-    ∷ (
-      8,
-      ((((length (T .classes) ≡ byteValues → ⊥) ⊎ ((i : ℕ) × (i < length (T .classes)) × (mostClass < getD (T .classes) i 0))) ⊎ Miscounted setSize mostParts (T .parts))
-          ⊎ Miscounted splitSize mostSplits (T .splits))
-          ⊎ (length (T .rows) ≡ setSize * (partCount (T .parts) * classCount (T .classes)) → ⊥),
-    )
-    ∷ []
+sizeWords b T = (7, (b ≡ 0) ⊎ (mostBound < b)) ∷ (8, Mislisted T) ∷ []
 
 abbrev pub entryWords : List ℕ → ℕ → Table → List Row
 entryWords L b T = (
@@ -152,3 +154,24 @@ abbrev pub Stuck : ℕ → Table → ℕ → Type 0
 Stuck b T F =
     (NoSplit (T .splits) F ⊎ ((i : ℕ) × (i < length (taken T F)) × (partCount (T .parts) ≤ getD (taken T F) i 0)))
     ⊎ (b < length (taken T F))
+
+-- ---- the index of a table: its filler 1 to 3 and 7 to 13, its feed 4 to 6 and 8; and 14 at a number that names no split
+
+-- not a set of states, and 192 bytes for each split
+abbrev pub Misindexed : List ℕ → List ℕ → Type 0
+Misindexed S X = length X ≡ setSize + 192 * splitCount S → ⊥
+
+abbrev pub indexWords : List ℕ → ℕ → Table → List ℕ → List Row
+indexWords L b T X = listWords L ++ ((7, (b ≡ 0) ⊎ (mostBound < b)) ∷ (8, Mislisted T ⊎ Misindexed (T .splits) X) ∷ entryWords L b T)
+
+-- some state of the frontier is not in the set that the index begins with, where it is long enough to hold one
+abbrev pub Unnamed : List ℕ → List ℕ → Type 0
+Unnamed X R = (setSize ≤ length X) × ((s : ℕ) × (holds (frontierOf R) s ≡ true) × (holds (setAt X 0) s ≡ true → ⊥))
+
+abbrev pub preparedWords : List ℕ → List ℕ → List ℕ → List ℕ → ℕ → List ℕ → List Row
+preparedWords C S X R k piece =
+    (4, (((length R ≡ flowSize → ⊥) ⊎ (reservedOf R ≡ 0 → ⊥)) ⊎ (states * offsetOf R < rowsOf R)) ⊎ Unnamed X R)
+    ∷ (5, k ≡ offsetOf R → ⊥)
+    ∷ (6, mostOffset < offsetOf R + length piece)
+    ∷ (8, (Misclassed C ⊎ Miscounted splitSize mostSplits S) ⊎ Misindexed S X)
+    ∷ []

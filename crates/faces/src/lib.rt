@@ -7,6 +7,8 @@ ghost use Rattle.plain.specs.Plain.{openFlow, plainFeed};
 ghost use Rattle.tables.specs.Table.{table, tableRefusal};
 ghost use Rattle.splits.specs.Split.{splitFeed};
 ghost use Rattle.matrix.specs.Matrix.{Fills, matrixFeed};
+ghost use Rattle.indexes.specs.Index.{FillsIndex};
+ghost use Rattle.prepared.specs.Prepared.{preparedFeed};
 ghost use Rattle.watch_c.specs.Face.{version};
 ghost use Rattle.faces.specs.Faced.{held, heldOpen};
 
@@ -26,7 +28,7 @@ fn drive_version() -> u32
     watch_c::watch_version()
 }
 
-// Calls each other exported name once, each on buffers of its own.
+// Calls each exported name of a list and of a table once, each on buffers of its own.
 fn drive_faces(
     list: &[u8],
     bound: u64,
@@ -79,8 +81,8 @@ fn drive_faces(
     }
 }
 
-// What the filler and a feed by what it left answered.
-struct DroveMatrix {
+// What a filler and a feed by what it left answered.
+struct DroveFilled {
     filled: u32,
     fed: WatchFed,
 }
@@ -93,7 +95,7 @@ fn drive_matrix(
     start: u64,
     piece: &[u8],
     pairs: &mut [u32],
-) -> DroveMatrix
+) -> DroveFilled
     ensures fills { λ r. ⌜ Fills (now (list .entry)) (now (matrix .entry)) (r .filled) (now (matrix .exit)) ⌝ }
     ensures feeds { λ r. ⌜ held (r .fed) (now (pairs .exit)) (now (flow .exit))
         ≡ matrixFeed (now (list .entry)) (now (matrix .exit)) (now (flow .entry)) start (now (piece .entry)) (now (pairs .entry)) ⌝ }
@@ -102,7 +104,37 @@ fn drive_matrix(
 {
     let filled = watch_c::watch_fill_matrix(list, matrix);
     let fed = watch_c::watch_matrix_feed(list, matrix, flow, start, piece, pairs);
-    DroveMatrix {
+    DroveFilled {
+        filled: filled,
+        fed: fed,
+    }
+}
+
+// Fills an index and feeds a piece by it. Where the filler refuses nothing, that is the split feed.
+fn drive_index(
+    list: &[u8],
+    bound: u64,
+    classes: &[u8],
+    parts: &[u8],
+    rows: &[u8],
+    splits: &[u8],
+    index: &mut [u8],
+    flow: &mut [u8],
+    start: u64,
+    piece: &[u8],
+    pairs: &mut [u32],
+) -> DroveFilled
+    ensures fills { λ r. ⌜ FillsIndex (now (list .entry)) bound (table (now (classes .entry)) (now (parts .entry)) (now (rows .entry)) (now (splits .entry)))
+        (now (index .entry)) (r .filled) (now (index .exit)) ⌝ }
+    ensures feeds { λ r. ⌜ held (r .fed) (now (pairs .exit)) (now (flow .exit))
+        ≡ preparedFeed (now (classes .entry)) (now (splits .entry)) (now (index .exit)) (now (flow .entry)) start (now (piece .entry)) (now (pairs .entry)) ⌝ }
+    ensures splitly { λ r. ⌜ (r .filled ≡ 0 → held (r .fed) (now (pairs .exit)) (now (flow .exit))
+        ≡ splitFeed (now (list .entry)) bound (table (now (classes .entry)) (now (parts .entry)) (now (rows .entry)) (now (splits .entry)))
+        (now (flow .entry)) start (now (piece .entry)) (now (pairs .entry))) ⌝ }
+{
+    let filled = watch_c::watch_fill_index(list, bound, classes, parts, rows, splits, index);
+    let fed = watch_c::watch_prepared_feed(classes, splits, index, flow, start, piece, pairs);
+    DroveFilled {
         filled: filled,
         fed: fed,
     }

@@ -1,7 +1,8 @@
--- Two feeds that answer and leave the same: one engine follows the other at the same costs and saves alike, and the rules give the same. Assumes nothing.
+-- Two feeds that answer and leave the same, where the rules give the same: one engine follows the other at the same costs and saves alike, or both halt at the first byte. Assumes nothing.
 use Prim.Native.Nat.{ℕ, _+_}
 use mathlib.Core.Path.{_≡_, refl}
-use mathlib.Core.List.{List}
+use mathlib.Core.Bool.{true}
+use mathlib.Core.List.{List, [], _∷_}
 use lib.ListN.{length, take}
 use Rattle.rules.specs.Rules.{Rule, verdict}
 use Rattle.feeds.specs.Engine.{Engine, Layout, ended, feed, run, costs, told, consumed, room}
@@ -40,3 +41,20 @@ module _ {C D : Type 0} (E : Engine C) (G : Engine D) (K : Layout C) (H : Layout
         let n = consumed G (H .config R) (room out) piece in
         same-end rules others v piece out n (consumed-same E G Rel f (K .config R) (H .config R) (room out) piece r h) refl
         (ended-same (take n piece) (length piece) out (bytes-take n piece h))
+
+  module _ (offset : K .offset R ≡ H .offset R) (rows : K .rows R ≡ H .rows R) (e : E .halts (K .config R) ≡ true) (g : G .halts (H .config R) ≡ true)
+      (save : (k n : ℕ) → K .save (K .config R) k n ≡ H .save (H .config R) k n) where
+    none-consumed : {A : Type 0} (F : Engine A) (x : A) (m : ℕ) (cs : List ℕ) → F .halts x ≡ true → consumed F x m cs ≡ 0
+    unfolding consumed
+    none-consumed F x m [] q = refl
+    none-consumed F x m (c ∷ cs) q = rw q
+
+    ended-none : (len : ℕ) (out : List ℕ) → ended E K R [] len out ≡ ended G H R [] len out
+    unfolding ended told run costs
+    ended-none len out = rw (e, g, save (K .offset R + 0) (K .rows R + 0), offset, rows)
+
+    pub feed-stuck : (rules others : List Rule) → verdict rules ≡ verdict others → (piece out : List ℕ)
+        → feed rules E K R piece out ≡ feed others G H R piece out
+    feed-stuck rules others v piece out =
+        same-end rules others v piece out 0 (none-consumed E (K .config R) (room out) piece e) (none-consumed G (H .config R) (room out) piece g)
+        (ended-none (length piece) out)

@@ -220,3 +220,10 @@ module _ (L : List ℕ) (F : ℕ) (s : Survey) where
 
   pub surveys-all : listRefusal L ≡ 0 → s .refusal ≡ 0 → s .known ≡ within F (named L) → Surveys L F s
   surveys-all l e k = record { refusal = e ∙ sym l; known = k ∙ rw (eq-eqb (listRefusal L) 0 l) }
+
+-- ---- any record, in words
+
+pub words-put : (L : List ℕ) (i : ℕ) (w v u : List ℕ) (x y z : Bool) → x ≡ isEdge L i → y ≡ isAccept L i → z ≡ isStart L i → length v ≡ length w
+    → num 64 v ≡ cond (x || y) (insert (64 * length w) (num 64 w) (from L i)) (num 64 w) → num 64 u ≡ cond (x || z) (insert (64 * length v) (num 64 v) (target L i)) (num 64 v)
+    → num 64 u ≡ withNamed (64 * length w) L i (num 64 w)
+words-put L i w v u x y z p q r l e f = f ∙ rw (p, r, l, e, q, p)

@@ -9,7 +9,7 @@ use Rattle.sets.specs.declared.SigSet.{SigSet}
 use Rattle.sets.specs.Set.{setWords, sigWords, setOf, sigsOf}
 use Rattle.sets.proofs.Sets.{Words, set-one, sigs-one}
 use Rattle.lists.specs.List.{listRefusal}
-use Rattle.lists.specs.Automaton.{start, step, accepted, accepting}
+use Rattle.lists.specs.Automaton.{start, step, accepted, accepting, named}
 use Rattle.lists.specs.Survey.{Surveys}
 use Rattle.lists.specs.declared.Survey.{Survey}
 
@@ -28,6 +28,9 @@ unique-survey-list L F s t p q =
 module _ (x y : StateSet) (vx : Words setWords (x .words)) (vy : Words setWords (y .words)) where
   pub unique-start-set : (L : List ℕ) → setOf x ≡ start L → setOf y ≡ start L → x ≡ y
   unique-start-set L p q = set-one x y vx vy (p ∙ sym q)
+
+  pub unique-names : (L : List ℕ) → setOf x ≡ named L → setOf y ≡ named L → x ≡ y
+  unique-names L p q = set-one x y vx vy (p ∙ sym q)
 
   pub unique-accepting : (L : List ℕ) → setOf x ≡ accepting L → setOf y ≡ accepting L → x ≡ y
   unique-accepting L p q = set-one x y vx vy (p ∙ sym q)

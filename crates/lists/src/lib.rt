@@ -10,7 +10,7 @@ ghost use Rattle.sets.specs.Set.{setWords, setSize, num, setOf, sigsOf, holds, 
 ghost use Rattle.rules.specs.Scan.{some, every};
 ghost use Rattle.lists.specs.List.{recordSize, records, word, byteOf, wordOf, isEdge, isStart, isAccept, low, high, eitherCase, from};
 ghost use Rattle.lists.specs.List.{target, zeros, goodEdge, goodStart, goodAccept, goodRecord, badLength, badRecord, noStart, listRefusal};
-ghost use Rattle.lists.specs.Automaton.{exchanged, between, edge, leaves, start, step, accepted, accepting, withNamed, namedBy};
+ghost use Rattle.lists.specs.Automaton.{exchanged, between, edge, leaves, start, step, accepted, accepting, withNamed, namedBy, named};
 ghost use Rattle.lists.specs.Survey.{Surveys};
 
 // The states that a list names are sought in blocks of so many records.
@@ -500,4 +500,27 @@ pub fn survey_list(list: &[u8], flow: &[u8]) -> Survey
         refusal: rules::PASSED,
         known: known,
     }
+}
+
+// Puts the states that record i names into the words of a set.
+fn put_named(list: &[u8], i: usize, w: &mut [u64])
+    requires { ⌜ i < records (now list) ⌝ }
+    ensures { λ r. ⌜ num 64 (now (w .exit)) ≡ withNamed (64 * length (now (w .entry))) (now (list .entry)) i (num 64 (now (w .entry))) ⌝ }
+{
+    let linked = is_edge(list, i);
+    put_word(list, i, FROM, linked | is_accept(list, i), w);
+    put_word(list, i, TARGET, linked | is_start(list, i), w);
+}
+
+// The states that some record of the list names.
+pub fn names(list: &[u8]) -> StateSet
+    ensures { λ r. ⌜ setOf r ≡ named (now (list .entry)) ⌝ }
+{
+    let n = records(list);
+    let none = StateSet::EMPTY;
+    let mut w = none.words;
+    for i in 0..n {
+        put_named(list, i, &mut w);
+    }
+    StateSet::of_words(w)
 }

@@ -6,6 +6,7 @@ use mathlib.Core.Path.{_≡_}
 use lib.ListN.{length}
 use lib.Dec.{eqb}
 use Rattle.sets.specs.Set.{states, setSize, holds, join, size, setBytes, setAt}
+use Rattle.rules.specs.Scan.{stack}
 use Rattle.rules.specs.Rules.{Rule, verdict}
 use Rattle.lists.specs.List.{listRules, records, from, target}
 use Rattle.lists.specs.Automaton.{step, accepted, namesFrom, namesTarget}
@@ -65,11 +66,6 @@ matrixed L X =
     }
 
 -- ---- what the filler writes
-
--- entries one after the other
-unfoldable pub stack : (ℕ → List ℕ) → ℕ → List ℕ
-stack f zero = []
-stack f (suc n) = stack f n ++ f n
 
 -- the bytes of the sets f s c, for each state s below n and each byte c, in the order of their indexes
 abbrev pub cells : (ℕ → ℕ → ℕ) → ℕ → List ℕ

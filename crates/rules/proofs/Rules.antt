@@ -214,3 +214,11 @@ pub number-lt : (n : ℕ) (rs : List Rule) → numbersBelow n rs ≡ true → (i
 number-lt n [] e i h = absurd (omega arith)
 number-lt n (r ∷ rs) e zero h = ltb-true (r .0) n (both (ltb (r .0) n) (numbersBelow n rs) e .0)
 number-lt n (r ∷ rs) e (suc i) h = number-lt n rs (both (ltb (r .0) n) (numbersBelow n rs) e .1) i (omega arith)
+
+-- rules that do not refuse may stand behind any others
+pub verdict-front : (xs ys : List Rule) → distinct xs ≡ true → verdict ys ≡ 0 → verdict (xs ++ ys) ≡ verdict xs
+verdict-front xs ys d e = go (verdict xs) refl
+  where
+    go : (n : ℕ) → verdict xs ≡ n → verdict (xs ++ ys) ≡ verdict xs
+    go zero q = verdict-then xs ys d q ∙ e ∙ sym q
+    go (suc k) q = verdict-first xs ys k q ∙ sym q

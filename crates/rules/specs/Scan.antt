@@ -1,7 +1,7 @@
--- The words in which every rule scans: some, every, first, rising, gather.
+-- The words in which every rule scans: some, every, first, rising, gather; and stack, in which what is written is said.
 use Prim.Native.Nat.{ℕ, zero, suc}
 use mathlib.Core.Bool.{Bool, true, false, _&&_, _||_, cond}
-use mathlib.Core.List.{List, [], _∷_}
+use mathlib.Core.List.{List, [], _∷_, _++_}
 use lib.Dec.{leb}
 use Rattle.sets.specs.Set.{insert}
 
@@ -29,3 +29,8 @@ rising least (x ∷ xs) = leb least x && rising (suc x) xs
 unfoldable pub gather : ℕ → (ℕ → Bool) → (ℕ → ℕ) → ℕ → ℕ
 gather m p to zero = 0
 gather m p to (suc n) = cond (p n) (insert m (gather m p to n) (to n)) (gather m p to n)
+
+-- f 0 to f (n - 1), one after the other
+unfoldable pub stack : (ℕ → List ℕ) → ℕ → List ℕ
+stack f zero = []
+stack f (suc n) = stack f n ++ f n

@@ -87,7 +87,7 @@ fn part_set(parts: &[u8], p: usize) -> StateSet
 }
 
 // The set of split i; past the list's end that is the empty set.
-fn split_set(splits: &[u8], i: usize) -> StateSet
+pub fn split_set(splits: &[u8], i: usize) -> StateSet
     ensures { λ r. ⌜ setOf r ≡ splitSet (now (splits .entry)) i ⌝ }
 {
     if i <= split_count(splits) {
@@ -123,14 +123,14 @@ fn row_set(classes: &[u8], rows: &[u8], k: usize, p: usize, c: u8) -> StateSet
 }
 
 // Says whether the list of classes has the wrong length, or a class is too large.
-fn bad_classes(classes: &[u8]) -> bool
+pub fn bad_classes(classes: &[u8]) -> bool
     ensures { λ r. ⌜ r ≡ badClasses (now (classes .entry)) ⌝ }
 {
     (classes.len() != BYTE_VALUES) | (MOST_CLASS < largest(classes) as usize)
 }
 
 // Says whether a list of entries is empty, too long, or has a broken entry.
-fn bad_count(entry: usize, most: usize, xs: &[u8]) -> bool
+pub fn bad_count(entry: usize, most: usize, xs: &[u8]) -> bool
     requires { ⌜ (0 < entry) × (entry * most < 2 ^ 32) ⌝ }
     ensures { λ r. ⌜ r ≡ badCount entry most (now (xs .entry)) ⌝ }
 {
@@ -162,7 +162,7 @@ fn bad_lengths(classes: &[u8], parts: &[u8], rows: &[u8], splits: &[u8]) -> bool
 }
 
 // The size rules: 7 where the bound refuses, 8 where a list does, 0 where neither does.
-fn size_refusal(bound: u64, classes: &[u8], parts: &[u8], rows: &[u8], splits: &[u8]) -> u32
+pub fn size_refusal(bound: u64, classes: &[u8], parts: &[u8], rows: &[u8], splits: &[u8]) -> u32
     ensures { λ r. ⌜ r ≡ verdict (sizeRules bound (table (now (classes .entry)) (now (parts .entry)) (now (rows .entry)) (now (splits .entry)))) ⌝ }
 {
     if (bound == 0) | (MOST_BOUND < bound) {

@@ -395,7 +395,52 @@ fn matrix_feed(list: &[u8], matrix: &[u8], record: &mut [u8]) {
     matrix_words(list, matrix, record, at, front(&piece, n), &mut out[..k]);
 }
 
-// Replays a command that answers, on the list, the table, the matrix and the record in use.
+// Replays a filling of the index.
+fn fill_index(
+    list: &[u8],
+    classes: &[u8],
+    parts: &[u8],
+    rows: &[u8],
+    splits: &[u8],
+    index: &mut [u8],
+) {
+    let bound = read_number(8);
+    let n = indexes::fill(list, bound, classes, parts, rows, splits, index);
+    io::write_all(1, b"i");
+    put(n as u64);
+    put(digest(index));
+    end();
+}
+
+// Replays a prepared feed into words.
+fn prepared_words(
+    classes: &[u8],
+    splits: &[u8],
+    index: &[u8],
+    record: &mut [u8],
+    at: u64,
+    piece: &[u8],
+    out: &mut [u32],
+) {
+    fill(out);
+    let fed = prepared::feed(classes, splits, index, record, at, piece, out);
+    io::write_all(1, b"p");
+    put_feed(fed, out, record);
+}
+
+// Replays a prepared feed.
+fn prepared_feed(classes: &[u8], splits: &[u8], index: &[u8], record: &mut [u8]) {
+    let at = read_number(8);
+    let words = read_number(4) as usize;
+    let mut piece = piece_buffer();
+    let n = read_field(&mut piece);
+    let mut out = word_buffer();
+    let k = within_words(&out, words);
+    let p = front(&piece, n);
+    prepared_words(classes, splits, index, record, at, p, &mut out[..k]);
+}
+
+// Replays a command that answers, on the list, the table, the matrix or index and the record in use.
 fn answer(
     command: u8,
     list: &[u8],
@@ -420,6 +465,10 @@ fn answer(
         fill_matrix(list, matrix);
     } else if command == b'x' {
         matrix_feed(list, matrix, record);
+    } else if command == b'i' {
+        fill_index(list, classes, parts, rows, splits, matrix);
+    } else if command == b'p' {
+        prepared_feed(classes, splits, matrix, record);
     }
 }
 

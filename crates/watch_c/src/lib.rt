@@ -1,4 +1,4 @@
-// The C face: the library's seven functions under names of their own, over numbers and slices, and the face's version. Nothing else is here.
+// The C face: the library's nine functions under names of their own, over numbers and slices, and the face's version. Nothing else is here.
 use feeds::Fed;
 ghost use mathlib.Core.Path.{_≡_};
 ghost use Rattle.lists.specs.List.{listRefusal};
@@ -6,10 +6,12 @@ ghost use Rattle.plain.specs.Plain.{openFlow, plainFeed};
 ghost use Rattle.tables.specs.Table.{table, tableRefusal};
 ghost use Rattle.splits.specs.Split.{splitFeed};
 ghost use Rattle.matrix.specs.Matrix.{Fills, matrixFeed};
+ghost use Rattle.indexes.specs.Index.{FillsIndex};
+ghost use Rattle.prepared.specs.Prepared.{preparedFeed};
 ghost use Rattle.watch_c.specs.Face.{version, Faces, FaceAnswers, FaceOpens};
 
 // The version of the face, by which a caller compares its header with the archive.
-pub const VERSION: u32 = 7;
+pub const VERSION: u32 = 8;
 
 // What a feed answers, as C lays it out.
 #[repr(C)]
@@ -152,5 +154,40 @@ pub extern "C" fn watch_matrix_feed(
     ensures { λ r. ⌜ FaceAnswers (matrixFeed (now (list .entry)) (now (matrix .entry)) (now (flow .entry)) start (now (piece .entry)) (now (pairs .entry))) r (now (pairs .exit)) (now (flow .exit)) ⌝ }
 {
     let f = matrix::feed(list, matrix, flow, start, piece, pairs);
+    face(f)
+}
+
+// Fills the index of a table that the check accepts: 0, or the number of the refusal, which leaves the index as it is.
+#[no_mangle]
+pub extern "C" fn watch_fill_index(
+    list: &[u8],
+    bound: u64,
+    classes: &[u8],
+    parts: &[u8],
+    rows: &[u8],
+    splits: &[u8],
+    index: &mut [u8],
+) -> u32
+    ensures { λ r. ⌜ FillsIndex (now (list .entry)) bound (table (now (classes .entry)) (now (parts .entry)) (now (rows .entry)) (now (splits .entry)))
+        (now (index .entry)) r (now (index .exit)) ⌝ }
+{
+    indexes::fill(list, bound, classes, parts, rows, splits, index)
+}
+
+// The prepared feed of a piece that begins at `start`.
+#[no_mangle]
+pub extern "C" fn watch_prepared_feed(
+    classes: &[u8],
+    splits: &[u8],
+    index: &[u8],
+    flow: &mut [u8],
+    start: u64,
+    piece: &[u8],
+    pairs: &mut [u32],
+) -> WatchFed
+    ensures { λ r. ⌜ FaceAnswers (preparedFeed (now (classes .entry)) (now (splits .entry)) (now (index .entry)) (now (flow .entry)) start
+        (now (piece .entry)) (now (pairs .entry))) r (now (pairs .exit)) (now (flow .exit)) ⌝ }
+{
+    let f = prepared::feed(classes, splits, index, flow, start, piece, pairs);
     face(f)
 }

@@ -1,0 +1,4 @@
+pub mod Reading
+pub mod Sizes
+pub mod Filling
+pub mod Unique

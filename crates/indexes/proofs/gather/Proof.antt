@@ -1,0 +1,89 @@
+-- `gather` goes through the slots up to the first unused one; the union so far, with the rest, is the whole. Assumes nothing.
+use borrow.Author.Needs.{needs}
+use borrow.Author.Tests.{eq-eqb, ne-eqb}
+use mathlib.Core.Path.{_≡_, ap, _∙_}
+use mathlib.Core.List.{_∷_}
+use Prim.Native.Nat.{_+_, _-_, _≤_, _<_}
+use native.Mathlib.Omega.{arith}
+use lib.ListN.{drop}
+use Rattle.sets.specs.Set.{setWords, setOf, join}
+use Rattle.sets.proofs.Sets.{empty-words}
+use Rattle.tables.specs.Table.{rowAt, slots}
+use Rattle.tables.proofs.Entries.{slots-cons, slots-end, row-inside}
+use Rattle.splits.proofs.Taking.{Taking, taking-start, taking-more}
+use Rattle.indexes.specs.Index.{rowsOf, spent}
+use Rattle.indexes.proofs.Filling.{taking-done, taking-named, rest-unused, rest-none}
+use Rattle.indexes.proofs.gather.Statement.{statement}
+use Rattle.indexes.proofs.gather.Tie as tie
+
+abbrev Inv-loop : tie.InvT-loop
+Inv-loop rows splits k n i q all₀ j₀ all j = (j ≤ 4) × Taking (λ p. rowAt rows k p q) n (slots splits i) (setOf all) j
+
+abbrev μ-loop : tie.MeasureT-loop
+μ-loop rows splits k n i q all₀ j₀ all j = 4 - j
+
+abbrev entry : tie.At-loop Inv-loop μ-loop → tie.Start Inv-loop μ-loop
+entry c = c .before .before .before
+
+-- the slot that is read is the next of the rest
+here : (c : tie.After-slot Inv-loop μ-loop)
+    → let l = c .before .before .loop in
+    let ss = slots (entry (c .before .before) .args .splits .now) (entry (c .before .before) .args .i) in
+    drop (l .j) ss ≡ c .slot .result ∷ drop (l .j + 1) ss
+here c =
+    let a = entry (c .before .before) .args in
+    slots-cons (a .splits .now) (a .i) (c .before .before .loop .j) (c .slot .result) (omega arith) (c .slot .ensures)
+
+-- it names a part
+named : (c : tie.Else1 Inv-loop μ-loop) → c .before .slot .result < entry (c .before .before .before) .args .n
+named c =
+    let head = c .before .before .before in
+    let l = head .loop in
+    taking-named _ (entry head .args .n) _ (setOf (l .all)) (l .j) (c .before .slot .result) (l .inv .1) (here (c .before)) (ne-eqb _ _ (c .if1 .left)) (entry head .pre .3)
+
+loop-holds : tie.Need-loop-holds Inv-loop μ-loop
+loop-holds c = (search needs, taking-start _ _ _ _ (empty-words setWords))
+
+slot-requires : tie.Need-slot-requires Inv-loop μ-loop
+slot-requires c κs = search needs
+
+returns : tie.Need-returns Inv-loop μ-loop
+unfolding rowsOf spent
+returns c =
+    let l = c .before .before .before .loop in
+    taking-done _ _ _ _ (l .j) (l .inv .1) (rest-unused _ (l .j) (c .before .slot .result) (here (c .before)) (eq-eqb _ _ (c .if1 .taken)))
+
+whole-row-requires : tie.Need-whole-row-requires Inv-loop μ-loop
+whole-row-requires c κs =
+    let s = entry (c .before .before .before) in
+    omega (arith, row-inside (s .args .n) (s .args .k) (c .before .slot .result) (s .args .q) (named c) (s .pre .1), s .pre .0)
+
+union-requires : tie.Need-union-requires Inv-loop μ-loop
+union-requires c κs = search needs
+
+add-j : tie.Need-add-j Inv-loop μ-loop
+add-j c = search needs
+
+loop-less : tie.Need-loop-less Inv-loop μ-loop
+loop-less c = search needs
+
+loop-again : tie.Need-loop-again Inv-loop μ-loop
+loop-again c =
+    let used = c .before .before in
+    let l = used .before .before .before .loop in (
+      search needs,
+      taking-more _ _ _ (setOf (l .all)) (l .j) (used .before .slot .result) (l .inv .1) (here (used .before)) (ne-eqb _ _ (used .if1 .left)) (named used) _
+          (c .union .ensures ∙ ap (join (setOf (l .all))) (c .before .whole-row .ensures)),
+    )
+
+returns-2 : tie.Need-returns-2 Inv-loop μ-loop
+unfolding rowsOf spent
+returns-2 c =
+    let a = entry (c .before) .args in
+    let l = c .before .loop in
+    let d = taking-done _ _ _ _ (l .j) (l .inv .1) (rest-none _ (l .j) (slots-end (a .splits .now) (a .i) (l .j) (omega arith))) in
+    (omega (arith, d .0), d .1)
+
+pub gather-spec : {M : Type 1} → statement M
+gather-spec =
+    tie.close (tie.spec Inv-loop μ-loop loop-holds slot-requires returns whole-row-requires union-requires add-j loop-less loop-again returns-2)

@@ -1,0 +1,6 @@
+pub mod Halving
+pub mod Exact
+pub mod TellingSplits
+pub mod Feeding
+pub mod InWords
+pub mod Ready

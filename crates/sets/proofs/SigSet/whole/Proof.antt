@@ -1,0 +1,18 @@
+-- `whole` meets its promise: it reads the words. Assumes nothing.
+use borrow.Author.Needs.{needs}
+use Rattle.sets.specs.Set.{sigsAt}
+use Rattle.sets.proofs.SigSet.whole.Statement.{statement}
+use Rattle.sets.proofs.SigSet.whole.Tie as tie
+
+slice-aggregate-read-words : tie.Need-slice-aggregate-read-words
+slice-aggregate-read-words c = search needs
+
+read-words-requires : tie.Need-read-words-requires
+read-words-requires c κs = search needs
+
+returns : tie.Need-returns
+unfolding sigsAt
+returns c = c .before .read-words .ensures
+
+pub whole-spec : {M : Type 1} → statement M
+whole-spec = tie.close (tie.spec slice-aggregate-read-words read-words-requires returns)
