@@ -1,6 +1,5 @@
 // The record of a list's flow, read, checked and written.
 use feeds::Fed;
-use sets::SigSet;
 use sets::StateSet;
 ghost use mathlib.Core.Path.{_≡_};
 ghost use mathlib.Core.Bool.{true, cond};
@@ -8,7 +7,7 @@ ghost use mathlib.Core.List.{[], _∷_, _++_};
 ghost use Prim.Native.Nat.{_+_, _^_, _<_, _≤_};
 ghost use lib.ListN.{length};
 ghost use lib.Dec.{eqb};
-ghost use Rattle.sets.specs.Set.{setOf, sigsOf};
+ghost use Rattle.sets.specs.Set.{setOf};
 ghost use Rattle.rules.specs.Rules.{verdict};
 ghost use Rattle.flows.specs.Flow.{flowSize, offsetOf, reservedOf, rowsOf, flowBytes, badFlow, flowRules, feedRules};
 ghost use Rattle.lists.specs.List.{listRules};
@@ -130,11 +129,12 @@ pub fn save(flow: &mut [u8], f: StateSet, offset: u64, rows: u64)
     }
 }
 
-// Tells a set of signatures behind the words that are written: all of it, or nothing where it does not fit.
-pub fn tell_set(g: SigSet, pairs: &mut [u32], words: usize, offset: u32) -> Told
+// Tells what a frontier accepts, behind the words that are written: all of it, or nothing where it does not fit.
+pub fn tell_accepted(list: &[u8], f: StateSet, pairs: &mut [u32], words: usize, offset: u32) -> Told
     requires { ⌜ words ≤ length (now pairs) ⌝ }
-    ensures { λ t. ⌜ TellsAll (sigsOf g) (now (pairs .entry)) words offset t (now (pairs .exit)) ⌝ }
+    ensures { λ t. ⌜ TellsAll (accepted (now (list .entry)) (setOf f)) (now (pairs .entry)) words offset t (now (pairs .exit)) ⌝ }
 {
+    let g = lists::accepted(list, f);
     let n = g.count() as usize;
     if (pairs.len() - words) / 2 < n {
         return Told {
@@ -147,14 +147,6 @@ pub fn tell_set(g: SigSet, pairs: &mut [u32], words: usize, offset: u32) -> Told
         fits: true,
         words: words + 2 * n,
     }
-}
-
-// Tells what a frontier accepts, behind the words that are written: all of it, or nothing where it does not fit.
-pub fn tell_accepted(list: &[u8], f: StateSet, pairs: &mut [u32], words: usize, offset: u32) -> Told
-    requires { ⌜ words ≤ length (now pairs) ⌝ }
-    ensures { λ t. ⌜ TellsAll (accepted (now (list .entry)) (setOf f)) (now (pairs .entry)) words offset t (now (pairs .exit)) ⌝ }
-{
-    tell_set(lists::accepted(list, f), pairs, words, offset)
 }
 
 // The end of a feed of a piece of `len` bytes: what its loop leaves is saved and answered.

@@ -9,7 +9,7 @@ ghost use mathlib.Core.Bool.{false, _&&_, cond};
 ghost use Prim.Native.Nat.{ℕ, _+_, _≤_, _<_};
 ghost use lib.ListN.{length};
 ghost use lib.Dec.{leb, ltb, eqb};
-ghost use Rattle.sets.specs.Set.{setOf};
+ghost use Rattle.sets.specs.Set.{setOf, sigsOf};
 ghost use Rattle.rules.specs.Rules.{verdict};
 ghost use Rattle.feeds.specs.Engine.{mostOffset, room, consumed};
 ghost use Rattle.feeds.specs.Fed.{Answers};
@@ -70,6 +70,25 @@ fn cost_of(index: &[u8], i: usize) -> u64
     index[sets::BYTES + indexes::ENTRY_SIZE * i + indexes::NOTE_PLACE] as u64
 }
 
+// Tells a set of signatures behind the words that are written: all of it, or nothing where it does not fit.
+fn tell_set(g: SigSet, pairs: &mut [u32], words: usize, offset: u32) -> Told
+    requires { ⌜ words ≤ length (now pairs) ⌝ }
+    ensures { λ t. ⌜ TellsAll (sigsOf g) (now (pairs .entry)) words offset t (now (pairs .exit)) ⌝ }
+{
+    let n = g.count() as usize;
+    if (pairs.len() - words) / 2 < n {
+        return Told {
+            fits: false,
+            words: words,
+        };
+    }
+    feeds::tell(pairs, words, g, offset);
+    Told {
+        fits: true,
+        words: words + 2 * n,
+    }
+}
+
 // Tells the signatures of split j, where its entry is there, at an offset, behind the words that are written, where there is room for them.
 fn tell_split(index: &[u8], j: usize, pairs: &mut [u32], words: usize, offset: u32) -> Told
     requires { ⌜ (entryPlace j + entrySize ≤ length (now index)) × (words ≤ length (now pairs)) ⌝ }
@@ -82,7 +101,7 @@ fn tell_split(index: &[u8], j: usize, pairs: &mut [u32], words: usize, offset: u
             words: words,
         };
     }
-    flows::tell_set(
+    tell_set(
         SigSet::whole(index, at + indexes::SIGS_PLACE),
         pairs,
         words,

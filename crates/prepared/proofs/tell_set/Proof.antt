@@ -3,9 +3,9 @@ use borrow.Author.Needs.{needs}
 use mathlib.Core.Path.{refl}
 use native.Mathlib.Omega.{arith}
 use Rattle.sets.specs.Set.{sigsOf}
 use Rattle.flows.proofs.Accepting.{all-fits, all-not}
-use Rattle.flows.proofs.tell_set.Statement.{statement}
-use Rattle.flows.proofs.tell_set.Tie as tie
+use Rattle.prepared.proofs.tell_set.Statement.{statement}
+use Rattle.prepared.proofs.tell_set.Tie as tie
 
 count-requires : tie.Need-count-requires
 count-requires c κs = search needs
