@@ -70,7 +70,7 @@
  *
  * REFUSALS
  *
- * A refusal is one of these numbers, and 0 where there is none. Where several apply, the lowest is given.
+ * A refusal is one of these numbers, and 0 where there is none. Where several apply, the lowest is given; building gives 17 before 16.
  *
  *      1   the list's length is 0, over WATCH_MOST_LIST, or no multiple of WATCH_RECORD_SIZE
  *      2   a record of the list has another kind, a reserved byte that is not zero, a byte 3 of an edge that is over 1, low > high, a
@@ -94,12 +94,14 @@
  *     14   at a byte of a split feed: the frontier is no split, or the slots taken name no part or are more than the bound; at a byte of a
  *          prepared feed: the frontier is not found among the splits, or the byte before led to a number that names no split
  *     15   at opening: the pairs of offset 0 are more than pairs_len div 2
+ *     16   building: more than WATCH_MOST_PARTS sets can be reached from the start set, or more than WATCH_MOST_CLASS + 1 classes are needed
+ *     17   building: a lent list is shorter than WATCH_LENT_CLASSES, WATCH_LENT_PARTS, WATCH_LENT_ROWS or WATCH_LENT_SPLITS bytes
  *
  * Each has a name, WATCH_REFUSED_ and some words, and a sentence that watch_refusal_text gives.
  *
  * The list check gives 1 to 3; opening 1 to 4 and 15; the plain feed 1 to 6; the table check 1 to 3 and 7 to 13; the split feed 1 to 9,
  * and 14 per byte; the filler of a matrix 1 to 3 and 8; the matrix feed 1 to 6 and 8; the filler of an index 1 to 3 and 7 to 13; the prepared
- * feed 4 to 6 and 8, and 14 per byte. A refusal other than 14 changes no buffer.
+ * feed 4 to 6 and 8, and 14 per byte; building 1 to 3, then 17, then 16. A refusal other than 14 and 16 changes no buffer.
  *
  *
  * WHAT THE CALLER OWES
@@ -107,13 +109,14 @@
  * There is no wrong content: every byte in every buffer, and every length, start and bound, has an answer. The rest is the
  * caller's, and a call that breaks it has no promise at all:
  *
- *   - Each pointer is good for its length, as C means it: x_len bytes can be read at x, and the flow_len bytes, the pairs_len words and
- *     the bytes of a matrix or an index that is filled can also be written. pairs is aligned as a uint32_t; nothing else has to be aligned.
+ *   - Each pointer is good for its length, as C means it: x_len bytes can be read at x, and the flow_len bytes, the pairs_len words, the
+ *     bytes of a matrix or an index that is filled and the four lists that watch_build is lent can also be written. pairs is aligned as a
+ *     uint32_t; nothing else has to be aligned.
  *   - Through a pointer with length 0 nothing is read or written, so it may point anywhere. Give one that is not NULL, as the
  *     address of any object: the code takes NULL with length 0 today, and that is tested, but it is no part of what is proved. NULL
  *     with another length is an error.
- *   - flow and pairs are written, and by a filler its matrix or index, so none overlaps another buffer of the call. The buffers that are only
- *     read may overlap one another, or be the same.
+ *   - flow and pairs are written, by a filler its matrix or index, and by watch_build its four lists, so none overlaps another buffer of the
+ *     call. The buffers that are only read may overlap one another, or be the same.
  *   - Nobody else writes any buffer of a call, or reads flow or pairs, while the call runs. Calls in several threads may share lists and
  *     tables; each has its own flow and pairs.
  *   - The machine is x86-64, with the calling convention of the System V ABI (Linux, the BSDs; not Windows).
@@ -152,7 +155,7 @@ extern "C" {
 #endif
 
 /* The version of the face that this header describes. */
-#define WATCH_VERSION 8
+#define WATCH_VERSION 9
 
 /* Bytes of stack that a call takes at most. */
 #define WATCH_MOST_STACK 1600
@@ -210,6 +213,12 @@ extern "C" {
 #define WATCH_INDEX_SIZE(splits) (WATCH_SET_SIZE + WATCH_ENTRY_SIZE * (splits))
 #define WATCH_MOST_INDEX (WATCH_SET_SIZE + WATCH_ENTRY_SIZE * WATCH_MOST_SPLITS)
 
+/* The bytes that each of the four lists has to have that a table is built in. */
+#define WATCH_LENT_CLASSES WATCH_BYTE_VALUES
+#define WATCH_LENT_PARTS (WATCH_SET_SIZE * WATCH_MOST_PARTS)
+#define WATCH_LENT_ROWS (WATCH_SET_SIZE * WATCH_MOST_PARTS * (WATCH_MOST_CLASS + 1))
+#define WATCH_LENT_SPLITS (WATCH_SPLIT_SIZE * WATCH_MOST_PARTS)
+
 /* The refusals by name, and what is answered where there is none. The functions answer them as numbers. */
 enum watch_refusal {
     WATCH_PASSED = 0,
@@ -227,7 +236,9 @@ enum watch_refusal {
     WATCH_REFUSED_NO_START_SPLIT = 12,
     WATCH_REFUSED_NOT_CLOSED = 13,
     WATCH_REFUSED_NO_SPLIT = 14,
-    WATCH_REFUSED_NO_ROOM = 15
+    WATCH_REFUSED_NO_ROOM = 15,
+    WATCH_REFUSED_TOO_MANY = 16,
+    WATCH_REFUSED_LENT_LISTS = 17
 };
 
 /* What an opening answers. */
@@ -248,13 +259,28 @@ struct watch_fed {
 
 typedef struct watch_fed watch_fed;
 
+/* What building a table answers. */
+struct watch_built {
+    uint64_t classes; /* bytes used of each list: 0 with every refusal */
+    uint64_t parts;
+    uint64_t rows;
+    uint64_t splits;
+    uint32_t refusal; /* WATCH_PASSED, 0, or the number of the refusal */
+};
+
+typedef struct watch_built watch_built;
+
 #if defined(__cplusplus) && __cplusplus >= 201103L
 static_assert(sizeof(size_t) == 8 && sizeof(watch_fed) == 24, "watch.h: the layout is that of x86-64");
+static_assert(sizeof(watch_built) == 40 && offsetof(watch_built, parts) == 8 && offsetof(watch_built, rows) == 16 && offsetof(watch_built, splits) == 24 &&
+              offsetof(watch_built, refusal) == 32, "watch.h: the layout is that of x86-64");
 static_assert(sizeof(watch_opened) == 16 && offsetof(watch_opened, refusal) == 8, "watch.h: the layout is that of x86-64");
 static_assert(offsetof(watch_fed, pairs) == 8 && offsetof(watch_fed, refusal) == 16 && offsetof(watch_fed, all) == 20,
               "watch.h: the layout is that of x86-64");
 #elif defined(__STDC_VERSION__) && __STDC_VERSION__ >= 201112L
 _Static_assert(sizeof(size_t) == 8 && sizeof(watch_fed) == 24, "watch.h: the layout is that of x86-64");
+_Static_assert(sizeof(watch_built) == 40 && offsetof(watch_built, parts) == 8 && offsetof(watch_built, rows) == 16 && offsetof(watch_built, splits) == 24 &&
+               offsetof(watch_built, refusal) == 32, "watch.h: the layout is that of x86-64");
 _Static_assert(sizeof(watch_opened) == 16 && offsetof(watch_opened, refusal) == 8, "watch.h: the layout is that of x86-64");
 _Static_assert(offsetof(watch_fed, pairs) == 8 && offsetof(watch_fed, refusal) == 16 && offsetof(watch_fed, all) == 20,
                "watch.h: the layout is that of x86-64");
@@ -356,6 +382,17 @@ watch_fed watch_prepared_feed(const uint8_t *classes, size_t classes_len,
                               const uint8_t *piece, size_t piece_len,
                               uint32_t *pairs, size_t pairs_len);
 
+/* Builds the table of a list at bound 1, in four lists that the caller lends: a part and a split for each set that can be reached from the start
+ * set, in rising order as strings of bytes, and as few classes as the list permits, numbered by their lowest bytes. It answers the bytes used
+ * of each list; zeros follow them to the list's end, and watch_check_table accepts these fronts at bound 1, so they need no check. The lists
+ * may be longer than the WATCH_LENT_ sizes. Refusals 1 to 3 and 17 change nothing; 17 looks at the lengths alone, before the list's sets are
+ * looked for. 16 fills all four lists with zeros. It is for a task that may take its time: docs/PERFORMANCE.md has its cost. */
+watch_built watch_build(const uint8_t *list, size_t list_len,
+                        uint8_t *classes, size_t classes_len,
+                        uint8_t *parts, size_t parts_len,
+                        uint8_t *rows, size_t rows_len,
+                        uint8_t *splits, size_t splits_len);
+
 /* A size as text within a sentence. */
 #define WATCH_TEXT_OF(tokens) #tokens
 #define WATCH_TEXT(size) WATCH_TEXT_OF(size)
@@ -400,6 +437,10 @@ static inline const char *watch_refusal_text(uint32_t n)
         return "at a byte of a split or a prepared feed, the frontier is no split, or the slots taken name no part or are more than the bound";
     case WATCH_REFUSED_NO_ROOM:
         return "at opening, the pairs of offset 0 are more than there is room for";
+    case WATCH_REFUSED_TOO_MANY:
+        return "more than " WATCH_TEXT(WATCH_MOST_PARTS) " sets can be reached from the start set, or more classes are needed than a table may have";
+    case WATCH_REFUSED_LENT_LISTS:
+        return "a list lent for the table is too short";
     default:
         return "no refusal has this number";
     }

@@ -1,8 +1,9 @@
 //! The lists, tables, flow records and pieces that the rows of the table run on. All are made by rule, so every run has the same.
 use crate::later::chunks;
+use crate::ordinary;
 use crate::sizes::{
     BYTE_VALUES, CLASSES, FLOW_BYTES, MOST_PARTS, MOST_RECORDS, MOST_SPLITS, RECORD_BYTES,
-    SET_BYTES, SIGNATURES, SLOTS, STATES,
+    SET_BYTES, SIGNATURES, SLOTS, SPLIT_BYTES, STATES,
 };
 use std::collections::BTreeSet;
 
@@ -621,4 +622,53 @@ pub fn largest_small_list() -> (Vec<u8>, Table) {
     classes[0] = 0;
     let table = b.table(&list, classes);
     (list, table)
+}
+
+/// A list of n records from whose start 2 to the power of `places` sets can be reached, with 64 classes where the records suffice: state 0 stays for
+/// ever and leads to state 1 on one class, each of the places leads to the next on every byte, and the other edges leave other states. A class is four bytes.
+pub fn reaching_list(n: usize, places: u16) -> Vec<u8> {
+    let mut dice = Dice(n as u64 * 100 + u64::from(places));
+    let mut list = vec![start(0), edge(0, 255, 0, 0), edge(96, 99, 0, 1)];
+    list.extend((1..places).map(|s| edge(0, 255, s, s + 1)));
+    list.push(accept(places, 7));
+    for class in 0..CLASSES as u8 {
+        list.push(edge(
+            4 * class,
+            4 * class + 3,
+            IDLE_PLACES,
+            u16::from(class),
+        ));
+    }
+    while list.len() < n {
+        let class = dice.below(CLASSES as u64) as u8;
+        let (from, to) = (dice.state_from(IDLE_PLACES), dice.state());
+        list.push(edge(4 * class, 4 * class + 3, from, to));
+    }
+    dice.mix(&mut list);
+    list.concat()
+}
+
+/// The states from which on the edges of `reaching_list` leave that no frontier takes.
+const IDLE_PLACES: u16 = 32;
+
+/// The table that the ordinary builder makes of a list.
+pub fn built_table(list: &[u8]) -> Table {
+    let mut table = Table {
+        classes: vec![0; BYTE_VALUES],
+        parts: vec![0; SET_BYTES * MOST_PARTS],
+        rows: vec![0; SET_BYTES * MOST_PARTS * CLASSES],
+        splits: vec![0; SPLIT_BYTES * MOST_PARTS],
+    };
+    let lists = ordinary::Lists {
+        classes: &mut table.classes,
+        parts: &mut table.parts,
+        rows: &mut table.rows,
+        splits: &mut table.splits,
+    };
+    let built = ordinary::build(list, lists);
+    assert_eq!(built.refusal, 0, "a table within the limits");
+    table.parts.truncate(built.parts);
+    table.rows.truncate(built.rows);
+    table.splits.truncate(built.splits);
+    table
 }

@@ -19,8 +19,8 @@ use inputs::{Bytes, Table};
 use later::black_box;
 use ordinary::Fed;
 use sizes::{
-    ENTRY_BYTES, FLOW_BYTES, MOST_PARTS, MOST_RECORDS, MOST_SPLITS, ROW_BYTES, SET_BYTES, SLOTS,
-    SPLIT_BYTES, STATES,
+    BYTE_VALUES, CLASSES, ENTRY_BYTES, FLOW_BYTES, MOST_PARTS, MOST_RECORDS, MOST_SPLITS,
+    ROW_BYTES, SET_BYTES, SLOTS, SPLIT_BYTES, STATES,
 };
 use std::io::{BufRead, BufReader, Write};
 use std::process::{Child, ChildStdin, ChildStdout, Command, Stdio};
@@ -46,6 +46,7 @@ struct Side {
     matrix_feed: fn(&[u8], &[u8], &mut [u8], u64, &[u8], &mut [u32]) -> Fed,
     fill_index: fn(&[u8], u64, &ordinary::Table, &mut [u8]) -> u32,
     prepared_feed: fn(&[u8], &[u8], &[u8], &mut [u8], u64, &[u8], &mut [u32]) -> Fed,
+    build: fn(&[u8], ordinary::Lists) -> ordinary::Built,
 }
 
 const PROVED: Side = Side {
@@ -58,6 +59,7 @@ const PROVED: Side = Side {
     matrix_feed: proved::matrix_feed,
     fill_index: proved::fill_index,
     prepared_feed: proved::prepared_feed,
+    build: proved::build,
 };
 
 const ORDINARY: Side = Side {
@@ -70,6 +72,7 @@ const ORDINARY: Side = Side {
     matrix_feed: ordinary::matrix_feed,
     fill_index: ordinary::fill_index,
     prepared_feed: ordinary::prepared_feed,
+    build: ordinary::build,
 };
 
 /// What a row calls, and on what.
@@ -108,6 +111,7 @@ enum Call {
         flow: [u8; FLOW_BYTES],
         piece: Vec<u8>,
     },
+    Build,
 }
 
 /// A row of the table: its name, how many calls a turn of bench/count has, and what makes its list and call.
@@ -135,22 +139,36 @@ impl Row {
     }
 }
 
-/// The buffers that a call writes to: a flow record, the pairs, a matrix, and an index.
+/// The buffers that a call writes to: a flow record, the pairs, a matrix, an index, and the four lists of a table, which are empty unless the call builds one.
 #[derive(Clone, PartialEq)]
 struct Buffers {
     flow: [u8; FLOW_BYTES],
     pairs: Vec<u32>,
     matrix: Vec<u8>,
     index: Vec<u8>,
+    lists: [Vec<u8>; 4],
 }
 
+/// The lengths of the lists that a table is built in.
+const LENT: [usize; 4] = [
+    BYTE_VALUES,
+    SET_BYTES * MOST_PARTS,
+    SET_BYTES * MOST_PARTS * CLASSES,
+    SPLIT_BYTES * MOST_PARTS,
+];
+
 impl Buffers {
-    fn new() -> Buffers {
+    fn new(call: &Call) -> Buffers {
+        let lent = match call {
+            Call::Build => LENT,
+            _ => [0; 4],
+        };
         Buffers {
             flow: [0xAA; FLOW_BYTES],
             pairs: vec![0xAAAA_AAAA; 8192],
             matrix: Vec::new(),
             index: Vec::new(),
+            lists: lent.map(|n| vec![0xAA; n]),
         }
     }
 }
@@ -233,6 +251,22 @@ impl Work {
                 let (list, pairs) = (&self.list, &mut buffers.pairs);
                 (side.matrix_feed)(list, matrix, &mut buffers.flow, 0, piece, pairs)
             }
+            Call::Build => {
+                let [classes, parts, rows, splits] = &mut buffers.lists;
+                let lists = ordinary::Lists {
+                    classes,
+                    parts,
+                    rows,
+                    splits,
+                };
+                let built = (side.build)(&self.list, lists);
+                Fed {
+                    refusal: built.refusal,
+                    bytes: built.parts,
+                    pairs: built.rows,
+                    all: built.splits * SET_BYTES == built.parts * SPLIT_BYTES,
+                }
+            }
         }
     }
 
@@ -274,7 +308,7 @@ impl Work {
     /// Runs both sides once and compares answers, flow records and all words of the pairs buffer. Rows with traffic tell what their names
     /// say, and their tables pass the check.
     fn compare(&self) {
-        let (mut ours, mut theirs) = (Buffers::new(), Buffers::new());
+        let (mut ours, mut theirs) = (Buffers::new(&self.call), Buffers::new(&self.call));
         let answer = self.run(&PROVED, &mut ours);
         assert_eq!(
             answer,
@@ -283,7 +317,7 @@ impl Work {
             self.name
         );
         assert!(ours == theirs, "{}: buffers", self.name);
-        let mut hashed = Buffers::new();
+        let mut hashed = Buffers::new(&self.call);
         if let Some(fed) = self.repeat_hashed(1, &mut hashed) {
             assert_eq!(answer, fed, "{}: answers by the hash map", self.name);
             assert!(ours == hashed, "{}: buffers by the hash map", self.name);
@@ -316,7 +350,7 @@ impl Work {
 
     /// The nanoseconds of one call, over a run of them.
     fn time(&self, side: &Side, calls: u32) -> f64 {
-        let mut buffers = Buffers::new();
+        let mut buffers = Buffers::new(&self.call);
         let begin = clock::now();
         self.repeat(side, calls, &mut buffers);
         (clock::now() - begin) / f64::from(calls)
@@ -698,6 +732,29 @@ fn rows() -> Vec<Row> {
             }),
         );
     }
+    for records in [300, MOST_RECORDS] {
+        for places in [4u16, 8, 10] {
+            let sets = number(1 << places);
+            let list = move || inputs::reaching_list(records, places);
+            row(
+                format!("building, {sets} sets, {} records", number(records)),
+                1,
+                Box::new(move || (list(), Call::Build)),
+            );
+            row(
+                format!(
+                    "table check of that table, {sets} sets, {} records",
+                    number(records)
+                ),
+                1,
+                Box::new(move || {
+                    let (list, bound) = (list(), 1);
+                    let table = inputs::built_table(&list);
+                    (list, Call::CheckTable { bound, table })
+                }),
+            );
+        }
+    }
     let wanted = std::env::var("ROWS").unwrap_or_default();
     rows.retain(|row| row.name.contains(&wanted));
     rows
@@ -871,7 +928,7 @@ fn turn(side: &str, row: &str, calls: &str) {
     let row: usize = row.parse().expect("a row's number");
     let work = rows()[row].work();
     let calls = calls.parse().expect("a number of calls");
-    let mut buffers = Buffers::new();
+    let mut buffers = Buffers::new(&work.call);
     match side {
         "proved" => work.repeat(&PROVED, calls, &mut buffers),
         "rust" => work.repeat(&ORDINARY, calls, &mut buffers),

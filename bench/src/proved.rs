@@ -1,5 +1,5 @@
 //! The proved library behind its C face, under the types of the ordinary versions.
-use crate::ordinary::{Fed, Table};
+use crate::ordinary::{Built, Fed, Lists, Table};
 
 #[repr(C)]
 struct WatchFed {
@@ -15,7 +15,28 @@ struct WatchOpened {
     refusal: u32,
 }
 
+#[repr(C)]
+struct WatchBuilt {
+    classes: u64,
+    parts: u64,
+    rows: u64,
+    splits: u64,
+    refusal: u32,
+}
+
 extern "C" {
+    fn watch_build(
+        list: *const u8,
+        list_len: usize,
+        classes: *mut u8,
+        classes_len: usize,
+        parts: *mut u8,
+        parts_len: usize,
+        rows: *mut u8,
+        rows_len: usize,
+        splits: *mut u8,
+        splits_len: usize,
+    ) -> WatchBuilt;
     fn watch_check_list(list: *const u8, list_len: usize) -> u32;
     fn watch_open(
         list: *const u8,
@@ -299,4 +320,29 @@ pub fn prepared_feed(
             pairs.len(),
         )
     })
+}
+
+pub fn build(list: &[u8], lists: Lists) -> Built {
+    // SAFETY: as above.
+    let built = unsafe {
+        watch_build(
+            list.as_ptr(),
+            list.len(),
+            lists.classes.as_mut_ptr(),
+            lists.classes.len(),
+            lists.parts.as_mut_ptr(),
+            lists.parts.len(),
+            lists.rows.as_mut_ptr(),
+            lists.rows.len(),
+            lists.splits.as_mut_ptr(),
+            lists.splits.len(),
+        )
+    };
+    Built {
+        refusal: built.refusal,
+        classes: built.classes as usize,
+        parts: built.parts as usize,
+        rows: built.rows as usize,
+        splits: built.splits as usize,
+    }
 }

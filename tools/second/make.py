@@ -1,4 +1,4 @@
-"""Writes crates/vectors/stdin and crates/vectors/stdout, and counts.txt here."""
+"""Writes crates/vectors/stdin and crates/vectors/stdout, and counts.txt here; for the builder, builds and built here."""
 
 import sys
 
@@ -6,6 +6,7 @@ sys.dont_write_bytecode = True
 
 from pathlib import Path
 
+import building
 import cases
 import examples
 from dice import Dice
@@ -50,10 +51,15 @@ def main():
     here = Path(__file__).resolve().parent
     target = here.parent.parent / "crates" / "vectors"
     target.mkdir(parents=True, exist_ok=True)
-    text = counts_text(tape.counts, tape.groups)
+    built = building.make(Dice(SEED + 1))
+    text = counts_text(tape.counts, tape.groups) + "\nb  %-13s %6d  %s\n" % (
+        "builder", sum(built.counts.values()),
+        " ".join("%d:%d" % pair for pair in sorted(built.counts.items())))
     (target / "stdin").write_bytes(tape.stdin())
     (target / "stdout").write_bytes(tape.stdout())
     (here / "counts.txt").write_text(text)
+    (here / "builds").write_bytes(built.commands())
+    (here / "built").write_bytes("".join(line + "\n" for line in built.lines).encode("ascii"))
     sys.stderr.write(text)
     sys.stderr.write("stdin %d bytes, stdout %d bytes\n" % (len(tape.stdin()), len(tape.stdout())))
 

@@ -33,6 +33,11 @@ ROW_SIZE = BYTE_VALUES * SET_SIZE  # bytes of a matrix for one state
 MOST_MATRIX = STATES * ROW_SIZE  # and for all states
 ENTRY_SIZE = 192  # bytes of a split in an index
 MOST_INDEX = SET_SIZE + ENTRY_SIZE * MOST_SPLITS  # bytes of the longest index
+LENT_CLASSES = BYTE_VALUES  # bytes that each list lent to the builder has to have
+LENT_PARTS = SET_SIZE * MOST_PARTS
+LENT_ROWS = SET_SIZE * MOST_PARTS * (MOST_CLASS + 1)
+LENT_SPLITS = SPLIT_SIZE * MOST_PARTS
+LENT = (LENT_CLASSES, LENT_PARTS, LENT_ROWS, LENT_SPLITS)
 
 Accept = namedtuple("Accept", "state signature")
 Flow = namedtuple("Flow", "frontier offset rows")
@@ -420,3 +425,49 @@ def matrix_feed(data, matrix, record, start, words, piece):
         return union(unpack_set(matrix[at:at + SET_SIZE]) for at in places), len(frontier)
 
     return run(automaton(data), record, words, piece, move)
+
+
+# The builder, by dictionaries
+
+def byte_classes(nfa):
+    """The class of each byte: bytes on which the same edges are taken, source and target, share one. They are numbered as they come."""
+    moves = {byte: set() for byte in range(BYTE_VALUES)}
+    for edge in nfa.edges:
+        for byte in moves:
+            if edge.takes(byte):
+                moves[byte].add((edge.source, edge.target))
+    numbers = {}
+    return [numbers.setdefault(frozenset(moves[byte]), len(numbers)) for byte in range(BYTE_VALUES)]
+
+
+def reached(nfa, classes):
+    """From the start set a step for each class, and from each new set again: set to steps. It stops once there are too many."""
+    lowest = [classes.index(group) for group in range(max(classes) + 1)]
+    found = {}
+    waiting = {nfa.starts: True}
+    while waiting and len(found) + len(waiting) <= MOST_PARTS:
+        members = next(iter(waiting))
+        del waiting[members]
+        found[members] = [nfa.step(members, byte) for byte in lowest]
+        waiting.update((to, True) for to in found[members] if to not in found)
+    return None if waiting else found
+
+
+def build(data, lent):
+    """What the builder answers for lists of these lengths: a refusal, and the table's four lists where there is none."""
+    refusal = list_refusal(data)
+    if refusal:
+        return refusal, None
+    if any(length < least for length, least in zip(lent, LENT)):
+        return 17, None
+    nfa = automaton(data)
+    classes = byte_classes(nfa)
+    found = reached(nfa, classes) if max(classes) <= MOST_CLASS else None
+    if found is None:
+        return 16, None
+    parts = sorted(found, key=pack_set)
+    return 0, Table(
+        bytes(classes), b"".join(pack_set(part) for part in parts),
+        b"".join(pack_set(to) for part in parts for to in found[part]),
+        b"".join(pack_set(part) + b"".join(slot.to_bytes(2, "little") for slot in padded([at]))
+                 for at, part in enumerate(parts)))

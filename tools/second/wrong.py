@@ -2,9 +2,10 @@
 
 A wrong version is model.py with a few words changed. Each replays the commands
 of crates/vectors/stdin, or its table checks where nothing else hangs on the
-change, and the lines that differ from crates/vectors/stdout are counted. One
-that changes no line is one that the vectors do not tell from the right version,
-and ends the run with an error.
+change, and the lines that differ from crates/vectors/stdout are counted; of a
+wrong builder those that differ from `built`. One that changes no line is one
+that the vectors do not tell from the right version, and ends the run with an
+error.
 """
 
 import sys
@@ -16,6 +17,7 @@ import types
 from functools import lru_cache
 from pathlib import Path
 
+import building
 import model
 import replay
 import tape
@@ -467,6 +469,45 @@ VERSIONS = [
          "return frontier | union(unpack_set(matrix[at:at + SET_SIZE]) for at in places), len(frontier)")]),
 ]
 
+# The search of the builder, and its order of parts.
+SEARCHES = "while waiting and len(found) + len(waiting) <= MOST_PARTS:"
+SORTS = "parts = sorted(found, key=pack_set)"
+
+# The builder, by its own cases
+BUILDERS = [
+    ("builder: one set fewer", [(SEARCHES, SEARCHES.replace("<=", "<"))]),
+    ("builder: one set more", [(SEARCHES, SEARCHES.replace("<=", "<= 1 +"))]),
+    ("builder: what one byte reaches is all", [(SEARCHES, "for _ in range(2):\n        if not waiting:\n            break"),
+                                      ("return None if waiting else found", "return found")]),
+    ("builder: one class fewer", [("max(classes) <= MOST_CLASS", "max(classes) < MOST_CLASS")]),
+    ("builder: one class more", [("max(classes) <= MOST_CLASS", "max(classes) <= MOST_CLASS + 1")]),
+    ("builder: classes by the targets alone", [("moves[byte].add((edge.source, edge.target))", "moves[byte].add(edge.target)")]),
+    ("builder: classes by the sources alone", [("moves[byte].add((edge.source, edge.target))", "moves[byte].add(edge.source)")]),
+    ("builder: classes by records, not by where they lead", [("moves[byte].add((edge.source, edge.target))", "moves[byte].add(edge)")]),
+    ("builder: classes without the exchanged case", [
+        ("            if edge.takes(byte):\n", "            if edge.low <= byte <= edge.high:\n")]),
+    ("builder: classes by the states that are reached from the start alone", [
+        ("    for edge in nfa.edges:\n", "    known = set(nfa.starts)\n    for _ in range(STATES):\n        known |= {e.target for e in nfa.edges if e.source in known}\n"
+                                         "    for edge in (e for e in nfa.edges if e.source in known):\n")]),
+    ("builder: classes numbered from the highest byte", [
+        ("numbers.setdefault(frozenset(moves[byte]), len(numbers)) for byte in range(BYTE_VALUES)]",
+         "numbers.setdefault(frozenset(moves[byte]), len(numbers)) for byte in reversed(range(BYTE_VALUES))][::-1]")]),
+    ("builder: parts in the order found", [(SORTS, "parts = list(found)")]),
+    ("builder: parts by their numbers", [(SORTS, "parts = sorted(found, key=lambda part: number(pack_set(part)))")]),
+    ("builder: rows in the order found", [("for part in parts for to in found[part]", "for part in found for to in found[part]")]),
+    ("builder: rows class by class", [("for part in parts for to in found[part]", "for group in range(max(classes) + 1) for part in parts for to in [found[part][group]]")]),
+    ("builder: the empty set has no slot", [("padded([at])", "padded([at] if part else [])")]),
+    ("builder: unused slots are zero", [("slot.to_bytes(2, \"little\") for slot in padded([at])", "slot.to_bytes(2, \"little\") for slot in [at, 0, 0, 0]")]),
+    ("builder: slots with the high byte first", [("slot.to_bytes(2, \"little\") for slot in padded([at])", "slot.to_bytes(2, \"big\") for slot in padded([at])")]),
+    ("builder: 16 before 17", [("        return 17, None\n", "        return (17 if build(data, LENT)[0] == 0 else 16), None\n")]),
+    ("builder: 17 before 1 to 3", [
+        ("    refusal = list_refusal(data)\n    if refusal:\n        return refusal, None\n    if any(length < least",
+         "    refusal = list_refusal(data)\n    if refusal and not any(length < least for length, least in zip(lent, LENT)):\n        return refusal, None\n    if any(length < least")]),
+    ("builder: 17 for a list that is longer", [("length < least for length, least in zip(lent, LENT)", "length != least for length, least in zip(lent, LENT)")]),
+    *(("builder: the length of list %d is not looked at" % at, [("in zip(lent, LENT)", "in list(zip(lent, LENT))[:%d] + list(zip(lent, LENT))[%d:]" % (at, at + 1))])
+      for at in range(4)),
+]
+
 
 def changed_source(changes):
     text = SOURCE
@@ -507,7 +548,16 @@ kept = lru_cache(maxsize=None)
 model.automaton = kept(quick(model.Automaton))
 model.decoded = kept(model.Decoded)
 model.deep_refusal = kept(model.deep_refusal)
-tape.digest = kept(tape.digest)
+building.digest = tape.digest = kept(tape.digest)
+packed = kept(model.pack_set)
+
+
+@kept
+def stepping(data):
+    """An automaton that keeps each step."""
+    nfa = model.automaton(data)
+    nfa.step = kept(nfa.step)
+    return nfa
 
 
 class Recorder(tape.Tape):
@@ -522,11 +572,25 @@ class Recorder(tape.Tape):
         return super().check_table(bound)
 
 
+def version_of(text):
+    version = types.ModuleType("version")
+    exec(compile(text, "version", "exec"), version.__dict__)
+    return version
+
+
+def built_lines(changes, asked):
+    """The lines that a builder answers to its cases. No change of a builder is in an automaton."""
+    version = version_of(changed_source(changes))
+    version.automaton = stepping
+    version.list_refusal = model.list_refusal
+    version.pack_set = packed
+    return [building.line(*version.build(data, lent), lent) for data, lent in asked]
+
+
 def lines_of(changes, stream, right):
     """The lines that a version answers to the stream."""
     text = changed_source(changes)
-    version = types.ModuleType("version")
-    exec(compile(text, "version", "exec"), version.__dict__)
+    version = version_of(text)
     before, after = parts_of(SOURCE), parts_of(text)
     changed = {name for name in after if before.get(name) != after[name]}
     if changed & STEPS:
@@ -561,29 +625,46 @@ def groups():
     return out
 
 
+def cases_of_builder():
+    """The builder's cases as they stand in `builds`: lists, and the lengths of the four lists lent."""
+    reader = replay.Reader((HERE / "builds").read_bytes())
+    cases = []
+    while reader.at < len(reader.data):
+        cases.append((reader.block(), [reader.number(4) for _ in range(4)]))
+    return cases
+
+
+def versions(asked):
+    """Of each wrong version that is asked for: its name, its lines and the right ones, and the group of each line where that is known."""
+    wanted = [[(name, changes) for name, changes in versions if not asked or any(word in name for word in asked)]
+              for versions in (VERSIONS, BUILDERS)]
+    if wanted[0]:
+        stream = (VECTORS / "stdin").read_bytes()
+        recorder = Recorder()
+        replay.replay(stream, recorder)
+        assert recorder.lines == (VECTORS / "stdout").read_text().splitlines()
+        of_line = groups()
+        for name, changes in wanted[0]:
+            yield name, lines_of(changes, stream, recorder), recorder.lines, of_line
+    if wanted[1]:
+        cases = cases_of_builder()
+        right = built_lines([], cases)
+        assert right == (HERE / "built").read_text().splitlines()
+        for name, changes in wanted[1]:
+            yield name, built_lines(changes, cases), right, ["built"] * len(right)
+
+
 def main():
-    stream = (VECTORS / "stdin").read_bytes()
-    recorder = Recorder()
-    replay.replay(stream, recorder)
-    right = recorder.lines
-    assert right == (VECTORS / "stdout").read_text().splitlines()
-    asked = sys.argv[1:]
-    of_line = groups()
     unseen = []
-    out = ["%6s  %-31s %-17s %s" % ("lines", "letters", "first group", "wrong version")]
-    print(out[0], flush=True)
-    for name, changes in VERSIONS:
-        if asked and not any(word in name for word in asked):
-            continue
-        wrong = lines_of(changes, stream, recorder)
+    print("%6s  %-31s %-17s %s" % ("lines", "letters", "first group", "wrong version"), flush=True)
+    for name, wrong, right, of_line in versions(sys.argv[1:]):
         assert len(wrong) == len(right)
         seen = [at for at in range(len(right)) if wrong[at] != right[at]]
         letters = [right[at][0] for at in seen]
         by_letter = " ".join("%s:%d" % (letter, letters.count(letter))
-                             for letter in "cofksmx" if letter in letters)
+                             for letter in "cofksmxipb" if letter in letters)
         first = of_line[seen[0]] if seen and of_line else ""
-        out.append("%6d  %-31s %-17s %s" % (len(seen), by_letter, first, name))
-        print(out[-1], flush=True)
+        print("%6d  %-31s %-17s %s" % (len(seen), by_letter, first, name), flush=True)
         if not seen:
             unseen.append(name)
     if unseen:

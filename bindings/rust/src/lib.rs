@@ -66,7 +66,8 @@
 //! # Split tables
 //!
 //! A [`Table`] is an automaton worked out beforehand, with at most [`MOST_BOUND`] rows read a byte. One that passes [`Table::check`] tells the same
-//! pairs as the plain feed.
+//! pairs as the plain feed. `Table::build` makes one of a list, with one row read a byte, and [`Table::build_in`] does so in lists that the caller
+//! lends; what they make passes.
 //!
 //! An [`Index`] is that table worked out once more: where each class of byte leads from each split, and what is told there. [`Flow::prepared_feed`]
 //! runs it, one look a byte, and tells and saves what [`Flow::split_feed`] does with the table.
@@ -93,8 +94,8 @@
 //!
 //! # Features
 //!
-//! `std`, which is on unless default features are turned off, makes [`Refusal`] and [`SplitError`] errors of the standard library.
-//! Without it the crate needs nothing but `core`; it allocates no memory either way. It builds with Rust 1.63 and later.
+//! `std`, which is on unless default features are turned off, makes [`Refusal`] and [`SplitError`] errors of the standard library, and has
+//! `Table::build`, which alone allocates memory. Without it the crate needs nothing but `core`. It builds with Rust 1.63 and later.
 
 #![no_std]
 #![deny(missing_docs)]
@@ -109,9 +110,9 @@ mod sizes;
 
 pub use refusal::{Refusal, SplitError};
 pub use sizes::{
-    BYTE_VALUES, ENOUGH_WORDS, ENTRY_SIZE, FLOW_SIZE, MOST_BOUND, MOST_CLASS, MOST_INDEX, MOST_LIST, MOST_MATRIX, MOST_OFFSET,
-    MOST_PARTS, MOST_RECORDS, MOST_SPLITS, OFFSET_AT, RECORD_SIZE, RESERVED_AT, ROWS_AT, ROW_SIZE, SET_SIZE, SIGNATURES, SLOTS,
-    SPLIT_SIZE, STATES, UNUSED, VERSION,
+    BYTE_VALUES, ENOUGH_WORDS, ENTRY_SIZE, FLOW_SIZE, LENT_CLASSES, LENT_PARTS, LENT_ROWS, LENT_SPLITS, MOST_BOUND,
+    MOST_CLASS, MOST_INDEX, MOST_LIST, MOST_MATRIX, MOST_OFFSET, MOST_PARTS, MOST_RECORDS, MOST_SPLITS, OFFSET_AT,
+    RECORD_SIZE, RESERVED_AT, ROWS_AT, ROW_SIZE, SET_SIZE, SIGNATURES, SLOTS, SPLIT_SIZE, STATES, UNUSED, VERSION,
 };
 
 use core::fmt;
@@ -934,6 +935,74 @@ impl<'a> Table<'a> {
         Table { list: *list, bound, lists }
     }
 
+    /// Builds the table of a list at bound 1 in four lent lists: refusals 16 and 17.
+    ///
+    /// Each list has to have its `LENT_` bytes, and may have more; the table has the fronts that are used, and zeros follow them. 17 changes
+    /// nothing, and 16 fills the lists with zeros. The table needs no check: it is proved that it would pass.
+    pub fn build_in(list: &List<'a>, lent: LentLists<'a>) -> Result<Table<'a>, Refusal> {
+        let LentLists { classes, parts, rows, splits } = lent;
+        // SAFETY: each pointer and length is that of a slice that is borrowed over the call, and the four that are written are borrowed as
+        // mutable, so they overlap nothing.
+        let built = unsafe {
+            raw::watch_build(
+                list.bytes.as_ptr(),
+                list.bytes.len(),
+                classes.as_mut_ptr(),
+                classes.len(),
+                parts.as_mut_ptr(),
+                parts.len(),
+                rows.as_mut_ptr(),
+                rows.len(),
+                splits.as_mut_ptr(),
+                splits.len(),
+            )
+        };
+        Refusal::verdict(built.refusal)?;
+        let lists = TableLists {
+            classes: &classes[..built.classes as usize],
+            parts: &parts[..built.parts as usize],
+            rows: &rows[..built.rows as usize],
+            splits: &splits[..built.splits as usize],
+        };
+        Ok(Table { list: *list, bound: 1, lists })
+    }
+
+    /// Builds the table of a list at bound 1, in memory of its own: refusal 16. It takes some 9 MB while it builds.
+    ///
+    /// ```
+    /// use watch::{Flow, Index, List, Table, SET_SIZE};
+    ///
+    /// # let bytes = *b"\x01\x00\xFF\0\0\0\0\0\x01aa\0\0\0\x01\0\x01bb\0\x01\0\x02\0\x02\0\0\0\0\0\0\0\x03\0\0\0\x02\0\x07\0";
+    /// let list = List::check(&bytes)?; // signature 7 after any "ab"
+    /// let built = Table::build(&list)?;
+    /// let table = built.table();
+    /// assert_eq!(table.lists().parts.len(), 3 * SET_SIZE); // {0}, {0, 1} and {0, 2} can be reached
+    ///
+    /// let index = Index::fill(&table, vec![0; table.index_size()])?;
+    /// let mut told = Vec::new();
+    /// let mut flow = Flow::open_all(&list, |_| ());
+    /// flow.prepared_feed_all(&index, 0, b"abab", |pair| told.push(pair.to_string()))?;
+    /// assert_eq!(told, ["7 2", "7 4"]);
+    /// assert_eq!(flow.rows_read(), 4); // one row a byte
+    /// # Ok::<(), watch::SplitError>(())
+    /// ```
+    #[cfg(feature = "std")]
+    pub fn build(list: &List<'a>) -> Result<Built<'a>, Refusal> {
+        let mut classes = std::vec![0; LENT_CLASSES];
+        let mut parts = std::vec![0; LENT_PARTS];
+        let mut rows = std::vec![0; LENT_ROWS];
+        let mut splits = std::vec![0; LENT_SPLITS];
+        let lent = LentLists { classes: &mut classes, parts: &mut parts, rows: &mut rows, splits: &mut splits };
+        let TableLists { classes: c, parts: p, rows: r, splits: s } =
+            Table::build_in(&List { bytes: list.bytes }, lent)?.lists;
+        let lengths = [c.len(), p.len(), r.len(), s.len()];
+        for (list, length) in [&mut classes, &mut parts, &mut rows, &mut splits].into_iter().zip(lengths) {
+            list.truncate(length);
+            list.shrink_to_fit();
+        }
+        Ok(Built { list: *list, classes, parts, rows, splits })
+    }
+
     /// The list that the table is for.
     pub fn list(&self) -> List<'a> {
         self.list
@@ -1015,6 +1084,50 @@ impl<'a, B: AsRef<[u8]>> Index<'a, B> {
 impl<B: AsRef<[u8]>> fmt::Debug for Index<'_, B> {
     fn fmt(&self, f: &mut fmt::Formatter<'_>) -> fmt::Result {
         write!(f, "Index({} splits)", self.splits.len() / SPLIT_SIZE)
+    }
+}
+
+/// Four lists to build a table in, each of its `LENT_` bytes or more.
+#[derive(Debug)]
+pub struct LentLists<'a> {
+    /// For the classes: [`LENT_CLASSES`] bytes.
+    pub classes: &'a mut [u8],
+    /// For the parts: [`LENT_PARTS`] bytes.
+    pub parts: &'a mut [u8],
+    /// For the rows: [`LENT_ROWS`] bytes.
+    pub rows: &'a mut [u8],
+    /// For the splits: [`LENT_SPLITS`] bytes.
+    pub splits: &'a mut [u8],
+}
+
+/// A table that was built, in memory of its own.
+#[cfg(feature = "std")]
+#[derive(Clone, PartialEq, Eq)]
+pub struct Built<'a> {
+    list: List<'a>,
+    classes: std::vec::Vec<u8>,
+    parts: std::vec::Vec<u8>,
+    rows: std::vec::Vec<u8>,
+    splits: std::vec::Vec<u8>,
+}
+
+#[cfg(feature = "std")]
+impl Built<'_> {
+    /// The table, for the list that it was built of, at bound 1. It needs no check: it is proved that it would pass.
+    pub fn table(&self) -> Table<'_> {
+        Table { list: self.list, bound: 1, lists: self.lists() }
+    }
+
+    /// The table's four lists.
+    pub fn lists(&self) -> TableLists<'_> {
+        TableLists { classes: &self.classes, parts: &self.parts, rows: &self.rows, splits: &self.splits }
+    }
+}
+
+#[cfg(feature = "std")]
+impl fmt::Debug for Built<'_> {
+    fn fmt(&self, f: &mut fmt::Formatter<'_>) -> fmt::Result {
+        write!(f, "Built({:?})", self.lists())
     }
 }
 
@@ -1104,4 +1217,8 @@ const _: () = {
     send_and_sync::<SplitError>();
     send_and_sync::<raw::WatchFed>();
     send_and_sync::<raw::WatchOpened>();
+    send_and_sync::<raw::WatchBuilt>();
+    send_and_sync::<LentLists<'static>>();
+    #[cfg(feature = "std")]
+    send_and_sync::<Built<'static>>();
 };

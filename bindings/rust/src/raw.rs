@@ -4,9 +4,9 @@
 //!
 //! # Safety
 //!
-//! Of every function here: each pointer is valid for its length (`pairs_len` counts words), for reads, and `flow`, `pairs` and the `matrix` that
-//! is filled for writes too; `pairs` is aligned; what is written overlaps nothing else of the call; nobody else writes any of the buffers, or
-//! reads one that is written, during the call. A pointer with length 0 may dangle. There is no wrong content.
+//! Of every function here: each pointer is valid for its length (`pairs_len` counts words), for reads, and `flow`, `pairs`, the `matrix` that is
+//! filled and the four lists of `watch_build` for writes too; `pairs` is aligned; what is written overlaps nothing else of the call; nobody else
+//! writes any of the buffers, or reads one that is written, during the call. A pointer with length 0 may dangle. There is no wrong content.
 
 /// What a feed answers, as C lays it out.
 #[repr(C)]
@@ -32,7 +32,37 @@ pub struct WatchOpened {
     pub refusal: u32,
 }
 
+/// What building a table answers, as C lays it out.
+#[repr(C)]
+#[derive(Clone, Copy, Debug, PartialEq, Eq)]
+pub struct WatchBuilt {
+    /// Bytes used of the classes.
+    pub classes: u64,
+    /// Bytes used of the parts.
+    pub parts: u64,
+    /// Bytes used of the rows.
+    pub rows: u64,
+    /// Bytes used of the splits.
+    pub splits: u64,
+    /// 0, or the number of the refusal.
+    pub refusal: u32,
+}
+
 extern "C" {
+    /// Builds a table at bound 1: refusals 1 to 3, then 17, then 16.
+    pub fn watch_build(
+        list: *const u8,
+        list_len: usize,
+        classes: *mut u8,
+        classes_len: usize,
+        parts: *mut u8,
+        parts_len: usize,
+        rows: *mut u8,
+        rows_len: usize,
+        splits: *mut u8,
+        splits_len: usize,
+    ) -> WatchBuilt;
+
     /// The version of the face that the archive has. It may be called at any time.
     pub fn watch_version() -> u32;
 

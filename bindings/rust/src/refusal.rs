@@ -1,7 +1,7 @@
-use crate::{FLOW_SIZE, MOST_BOUND, MOST_CLASS, MOST_LIST, MOST_OFFSET, RECORD_SIZE, SIGNATURES, STATES};
+use crate::{FLOW_SIZE, MOST_BOUND, MOST_CLASS, MOST_LIST, MOST_OFFSET, MOST_PARTS, RECORD_SIZE, SIGNATURES, STATES};
 use core::fmt;
 
-/// Why a call was refused. Each has a [`number`](Refusal::number), 1 to 15; of several that apply, the lowest is given.
+/// Why a call was refused. Each has a [`number`](Refusal::number), 1 to 17; of several that apply, the lowest is given, and building gives 17 before 16.
 ///
 /// ```
 /// use watch::{List, Refusal, MOST_LIST, RECORD_SIZE};
@@ -48,6 +48,11 @@ pub enum Refusal {
     NoSplit = 14,
     /// 15: opening: more pairs of offset 0 than room.
     NoRoom = 15,
+    /// 16: building: more than [`MOST_PARTS`] sets can be reached from the start set, or more than [`MOST_CLASS`] + 1 classes are needed.
+    TooMany = 16,
+    /// 17: building: a lent list is shorter than [`LENT_CLASSES`](crate::LENT_CLASSES), [`LENT_PARTS`](crate::LENT_PARTS),
+    /// [`LENT_ROWS`](crate::LENT_ROWS) or [`LENT_SPLITS`](crate::LENT_SPLITS) bytes.
+    LentLists = 17,
 }
 
 impl Refusal {
@@ -68,9 +73,11 @@ impl Refusal {
         Refusal::NotClosed,
         Refusal::NoSplit,
         Refusal::NoRoom,
+        Refusal::TooMany,
+        Refusal::LentLists,
     ];
 
-    /// The refusal's number, 1 to 15.
+    /// The refusal's number, 1 to 17.
     pub const fn number(self) -> u32 {
         self as u32
     }
@@ -91,7 +98,7 @@ impl Refusal {
     pub(crate) fn verdict(number: u32) -> Result<(), Refusal> {
         match number {
             0 => Ok(()),
-            _ => Err(Refusal::from_number(number).expect("the archive answers 0 to 15")),
+            _ => Err(Refusal::from_number(number).expect("the archive answers 0 to 17")),
         }
     }
 }
@@ -132,6 +139,12 @@ impl fmt::Display for Refusal {
                 "split feed, at a byte: the frontier is no split, or the slots taken name no part or are more than b",
             ),
             Refusal::NoRoom => f.write_str("opening: more pairs of offset 0 than room"),
+            Refusal::TooMany => write!(
+                f,
+                "building: more than {MOST_PARTS} sets can be reached, or more than {} classes are needed",
+                MOST_CLASS + 1
+            ),
+            Refusal::LentLists => f.write_str("building: a lent list is too short"),
         }
     }
 }

@@ -2,7 +2,7 @@
 //! is written so. `tools/sizes` in the repository holds them to the constants of the proved code.
 
 /// The version of the C face that this crate is written for. [`List::check`](crate::List::check) compares it with the archive's.
-pub const VERSION: u32 = 8;
+pub const VERSION: u32 = 9;
 
 /// States are the numbers below this one.
 pub const STATES: usize = 1024;
@@ -75,3 +75,15 @@ pub const ENTRY_SIZE: usize = 192;
 
 /// Bytes in the index of the most splits: a set of states, then an entry for each.
 pub const MOST_INDEX: usize = SET_SIZE + ENTRY_SIZE * MOST_SPLITS;
+
+/// The bytes that the classes of a table that is built need.
+pub const LENT_CLASSES: usize = BYTE_VALUES;
+
+/// The bytes that its parts need.
+pub const LENT_PARTS: usize = SET_SIZE * MOST_PARTS;
+
+/// The bytes that its rows need.
+pub const LENT_ROWS: usize = SET_SIZE * MOST_PARTS * (MOST_CLASS as usize + 1);
+
+/// The bytes that its splits need.
+pub const LENT_SPLITS: usize = SPLIT_SIZE * MOST_PARTS;

@@ -475,9 +475,9 @@ fn refusals_have_numbers_and_texts() {
         assert_eq!(Refusal::from_number(refusal.number()), Some(refusal));
         assert!(!refusal.to_string().is_empty());
     }
-    assert_eq!(Refusal::ALL.len(), 15);
+    assert_eq!(Refusal::ALL.len(), 17);
     assert_eq!(Refusal::from_number(0), None);
-    assert_eq!(Refusal::from_number(16), None);
+    assert_eq!(Refusal::from_number(18), None);
 }
 
 #[cfg(feature = "std")]

@@ -20,7 +20,9 @@ use Rattle.splits.specs.Split.{taken, stuck, splitStep}
 use Rattle.matrix.specs.Matrix.{highestBy}
 use Rattle.indexes.specs.Index.{knownIn, toldAt, rowsOf, leadsTo, spent, tells, moves, entry, entries}
 use Rattle.prepared.specs.Prepared.{halved, soughtOf, badIndex}
-use Rattle.barn.specs.Examples.{Row, Agree, feedRows, openRow, openedRow, acceptedRow, acceptedRow₁, acceptedRow₀, boundRow, closedRow, startRow, loudRow, indexRow, orderRows, indexRows, examples}
+use Rattle.classes.specs.Classes.{alike}
+use Rattle.build.specs.Build.{steps as reaching, partsOf, splitsOf}
+use Rattle.barn.specs.Examples.{Row, Agree, feedRows, openRow, openedRow, acceptedRow, acceptedRow₁, acceptedRow₀, boundRow, closedRow, startRow, loudRow, indexRow, alikeRow, orderRows, indexRows, buildRows, examples}
 
 -- rows are compared by computing; what computes as the same is the same
 abbrev same : List ℕ → List ℕ → Bool
@@ -67,6 +69,10 @@ checks = 0
 feeds : ℕ
 unfolding opening openPairs run costs due pairsAt told consumed ended feed recordAfter allTold flowBytes badFlow splitOf taken stuck splitStep highestBy
 feeds = 0
+
+builds : ℕ
+unfolding alike stack reaching partsOf splitsOf
+builds = 0
 
 -- each row that runs the table check is computed by itself, and the feeds' rows together
 accepted-holds : T (same (acceptedRow .0) (acceptedRow .1))
@@ -118,6 +124,14 @@ indexes-hold : T (agree indexRows)
 unfolding steps checks feeds indexing
 indexes-hold = tt
 
+builds-hold : T (agree buildRows)
+unfolding steps builds
+builds-hold = tt
+
+alike-holds : T (same (alikeRow .0) (alikeRow .1))
+unfolding steps builds
+alike-holds = tt
+
 opened-holds : T (same (openedRow .0) (openedRow .1))
 unfolding steps feeds
 opened-holds = tt
@@ -162,8 +176,12 @@ examples-hold = (
                   same-sound (loudRow .0) (loudRow .1) loud-holds,
                   (
                     same-sound (indexRow .0) (indexRow .1) index-holds,
-                    agree-append feedRows (orderRows ++ indexRows) (agree-sound feedRows feeds-hold)
-                        (agree-append orderRows indexRows (agree-sound orderRows orders-hold) (agree-sound indexRows indexes-hold)),
+                    (
+                      same-sound (alikeRow .0) (alikeRow .1) alike-holds,
+                      agree-append feedRows (orderRows ++ (indexRows ++ buildRows)) (agree-sound feedRows feeds-hold)
+                          (agree-append orderRows (indexRows ++ buildRows) (agree-sound orderRows orders-hold)
+                          (agree-append indexRows buildRows (agree-sound indexRows indexes-hold) (agree-sound buildRows builds-hold))),
+                    ),
                   ),
                 ),
               ),

@@ -6,7 +6,7 @@ use mathlib.Core.Path.{_≡_}
 use lib.ListN.{replicate}
 use Rattle.sets.specs.Set.{states, signatures, setSize, digits, setBytes}
 use Rattle.lists.specs.List.{mostRecords, listRefusal}
-use Rattle.lists.specs.Automaton.{edge, step}
+use Rattle.lists.specs.Automaton.{start, edge, step}
 use Rattle.feeds.specs.Engine.{Outcome, mostOffset}
 use Rattle.feeds.specs.Opening.{Opening}
 use Rattle.flows.specs.Flow.{flowSize, flowBytes, rowsOf}
@@ -15,6 +15,8 @@ use Rattle.tables.specs.Table.{Table, table, splitSize, mostClass, mostParts, m
 use Rattle.matrix.specs.Matrix.{matrixLength, cellAt}
 use Rattle.indexes.specs.Index.{entrySize, sigsPlace, notePlace, entryPlace, filledIndex}
 use Rattle.prepared.specs.Prepared.{preparedFeed}
+use Rattle.classes.specs.Classes.{mostClasses, alike}
+use Rattle.build.specs.Build.{mostRows, steps, lower, partsOf, splitsOf}
 use Rattle.demands.specs.Calls.{Via, byList, byTable, byMatrix, Call, outcome}
 use Rattle.demands.specs.Demands.{wordsOf, after}
 
@@ -330,6 +332,23 @@ orderRows =
     ∷ (answered (splitABAB 2 (s0 ++ (s8 ++ (s01 ++ s02))) 2), 9 ∷ 0 ∷ 0 ∷ 0 ∷ [])
     ∷ []
 
+-- the table that is built
+abbrev pub buildRows : List Row
+buildRows =
+    -- {0,1} can be reached by "a", {0,2} by "ab", and {0} again by "abb"; of these sets the parts and the splits are those made by hand
+    (steps L (start L) (a ∷ []) ∷ steps L (start L) (a ∷ b ∷ []) ∷ steps L (start L) (a ∷ b ∷ b ∷ []) ∷ [], 3 ∷ 5 ∷ 1 ∷ [])
+    ∷ (partsOf (1 ∷ 3 ∷ 5 ∷ []), T₁ .parts)
+    ∷ (splitsOf (1 ∷ 3 ∷ 5 ∷ []), T₁ .splits)
+    -- the empty set comes before {8}, and {8} before {0}
+    ∷ (cond (lower 0 256) 1 0 ∷ cond (lower 256 1) 1 0 ∷ cond (lower 1 256) 1 0 ∷ [], 1 ∷ 1 ∷ 0 ∷ [])
+    -- bytes of parts, rows and splits that are to be lent, and the most classes
+    ∷ (setSize * mostParts ∷ setSize * mostRows ∷ splitSize * mostParts ∷ mostClasses ∷ [], 131072 ∷ 8388608 ∷ 139264 ∷ 64 ∷ [])
+    ∷ []
+
+-- "A" and "a" share a class where the edge takes either case, and else they do not
+abbrev pub alikeRow : Row
+alikeRow = (cond (alike (edgeOf 0x61 0x61 1) 0x41 0x61) 1 0 ∷ cond (alike (edgeOf 0x61 0x61 0) 0x41 0x61) 1 0 ∷ [], 1 ∷ 0 ∷ [])
+
 -- opening on L₀ with five words of 9: the pairs (3, 0) and (5, 0), and the fifth word stays
 abbrev pub openedRow : Row
 openedRow = (openAnswered (begin full 5) ++ begin full 5 .words, 0 ∷ 2 ∷ 3 ∷ 0 ∷ 5 ∷ 0 ∷ 9 ∷ [])
@@ -365,4 +384,6 @@ loudRow = (tableRefusal loud 2 T₃ ∷ [], 10 ∷ [])
 
 -- the one table
 abbrev pub examples : List Row
-examples = openRow ∷ openedRow ∷ acceptedRow ∷ acceptedRow₁ ∷ acceptedRow₀ ∷ boundRow ∷ closedRow ∷ startRow ∷ loudRow ∷ indexRow ∷ (feedRows ++ (orderRows ++ indexRows))
+examples =
+    openRow ∷ openedRow ∷ acceptedRow ∷ acceptedRow₁ ∷ acceptedRow₀ ∷ boundRow ∷ closedRow ∷ startRow ∷ loudRow ∷ indexRow ∷ alikeRow
+    ∷ (feedRows ++ (orderRows ++ (indexRows ++ buildRows)))

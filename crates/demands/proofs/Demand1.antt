@@ -37,11 +37,15 @@ use Rattle.indexes.specs.Index.{filledIndex, indexRules, indexRefusal, FillsInd
 use Rattle.indexes.proofs.Filling.{fill-passes}
 use Rattle.prepared.specs.Prepared.{placeOf, prepared, placeLayout, preparedRules, preparedFeed}
 use Rattle.prepared.proofs.Exact.{prepared-exact}
+use Rattle.build.proofs.Reached.{unique-build}
+use Rattle.build.proofs.Outcomes.{build-accepted}
+use Rattle.build.proofs.Words.{keeps, empties, fills}
 use Rattle.demands.specs.Words.{InWords, tableWords, AllRise, splitWords, preparedWords}
 use Rattle.demands.specs.Demands.{Unchanged, Unopened, Demand1}
 use Rattle.demands.proofs.Due.{begins}
 use Rattle.demands.proofs.Saying.{list-tells, open-tells, feed-tells, table-tells, split-tells, fill-tells, matrix-tells, index-tells, prepared-tells}
 use Rattle.demands.proofs.Halts.{refused-refusal, in-words, by-rule-refused, verdict-of, first-free, by-halt, by-none, not-all, kept}
+use Rattle.demands.proofs.Building.{build-tells}
 
 -- a feed that a rule refuses changes nothing
 pub refused-unchanged : {C : Type 0} (E : Engine C) (K : Rattle.feeds.specs.Engine.Layout C) (R piece out : List ℕ) (rules : List Rule) → (verdict rules ≡ 0 → ⊥)
@@ -202,4 +206,9 @@ demand-1 =
           (by-rule-refused (prepared C S X) (placeLayout S) R (preparedRules C S X R at piece) (prepared-low C S X R at piece) piece out v w);
       prepares-halts = prepared-halts;
       prepares-split = λ L b T R at piece out e s h. prepared-exact L b T e s R at piece out h;
+      builds-one = unique-build;
+      builds-said = build-tells;
+      builds-not = keeps;
+      builds-16 = empties;
+      builds-passes = λ L T o b z. let f = fills L T o b z in (f .0, build-accepted L T o b z, f .1);
     }

@@ -11,3 +11,5 @@ pub mod Made
 pub mod Driving
 pub mod Turns
 pub mod Prepared
+pub mod Building
+pub mod Built

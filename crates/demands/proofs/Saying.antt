@@ -39,13 +39,13 @@ use Rattle.demands.specs.Words.{Row, None, First, InWords, listWords, op
 -- ---- a table of rules and a table of words
 
 -- row by row: the same number, and the test holds exactly when the words do
-abbrev Says : List Rule → List Row → Type 0
+abbrev pub Says : List Rule → List Row → Type 0
 Says [] [] = Unit {0}
 Says (r ∷ rs) (w ∷ ws) = (r .0 ≡ w .0) × ((r .1 ≡ true) ↔ w .1) × Says rs ws
 Says [] (w ∷ ws) = ⊥
 Says (r ∷ rs) [] = ⊥
 
-says-append : (rs qs : List Rule) (ws vs : List Row) → Says rs ws → Says qs vs → Says (rs ++ qs) (ws ++ vs)
+pub says-append : (rs qs : List Rule) (ws vs : List Row) → Says rs ws → Says qs vs → Says (rs ++ qs) (ws ++ vs)
 says-append [] qs [] vs s t = t
 says-append (r ∷ rs) qs (w ∷ ws) vs s t = (s .0, s .1, says-append rs qs ws vs (s .2) t)
 says-append [] qs (w ∷ ws) vs s t = absurd s
@@ -82,7 +82,7 @@ says-first (r ∷ rs) (w ∷ ws) s n z = go (r .1) refl (says-first rs ws (s .2)
 says-first [] (w ∷ ws) s n z = absurd s
 says-first (r ∷ rs) [] s n z = absurd s
 
-tells : (rs : List Rule) (ws : List Row) → distinct rs ≡ true → Says rs ws → InWords ws (verdict rs)
+pub tells : (rs : List Rule) (ws : List Row) → distinct rs ≡ true → Says rs ws → InWords ws (verdict rs)
 tells rs ws d s =
     let p = passes-exactly rs d in
     let n = says-none rs ws s in
@@ -112,7 +112,7 @@ module _ (L : List ℕ) where
   Good : ℕ → Type 0
   Good i = (Edge-bytes L i ⊎ Start-bytes L i) ⊎ Accept-bytes L i
 
-  list-says : Says (listRules L) (listWords L)
+  pub list-says : Says (listRules L) (listWords L)
   unfolding Good
   list-says = (
     refl,

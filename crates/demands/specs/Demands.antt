@@ -20,11 +20,15 @@ use Rattle.splits.specs.Split.{taken, stuck, split, splitRules, splitFeed}
 use Rattle.matrix.specs.Matrix.{filled, fillRules, Fills, matrixRules, matrixFeed}
 use Rattle.indexes.specs.Index.{filledIndex, indexRules, FillsIndex}
 use Rattle.prepared.specs.Prepared.{placeOf, prepared, preparedRules, preparedFeed}
-use Rattle.demands.specs.Words.{None, First, InWords, listWords, openWords, feedWords, tableWords, AllRise, splitWords, Stuck, fillWords, matrixWords, indexWords, preparedWords}
+use Rattle.build.specs.Build.{Building, Builds}
+use Rattle.build.proofs.Accepts.{Tabled}
+use Rattle.build.proofs.Outcomes.{fronts}
+use Rattle.build.proofs.Words.{Nowhere, Untouched, ZerosBehind}
+use Rattle.demands.specs.Words.{None, First, InWords, listWords, openWords, feedWords, tableWords, AllRise, splitWords, Stuck, fillWords, matrixWords, indexWords, preparedWords, buildWords}
 use Rattle.demands.specs.Calls.{Via, byList, byTable, byMatrix, Checked, Call, asked, allAsked, outcome}
 
 -- ==== Demand 1: each refusal has a number, is given exactly when the rules say, and changes nothing in the buffers;
--- ==== only 14, met by the split feed at some byte, keeps the bytes before it.
+-- ==== only 14, met by the split feed at some byte, keeps the bytes before it, and 16, met by the builder, fills its lists with zeros.
 
 -- zero bytes, zero pairs, not all, and both buffers as they were
 pub record Unchanged (R out : List ℕ) (o : Outcome) : Type 0 where
@@ -140,6 +144,14 @@ pub record Demand1 : Type 0 where
   -- by the index of a table that the check accepts it answers and leaves what the split feed does, on every record, start, piece and buffer
   pub prepares-split : (L : List ℕ) (b : ℕ) (T : Table) (R : List ℕ) (at : ℕ) (piece out : List ℕ) → tableRefusal L b T ≡ 0 → Bytes (T .splits) → Bytes piece
       → preparedFeed (T .classes) (T .splits) (filledIndex L T) R at piece out ≡ splitFeed L b T R at piece out
+  -- the builder, in lists lent as T: 1 to 3, then 17, then 16; there is one outcome, and a refusal but 16 changes nothing
+  pub builds-one : (L : List ℕ) (T : Table) (o p : Building) → Builds L T o → Builds L T p → o ≡ p
+  pub builds-said : (L : List ℕ) (T : Table) (o : Building) → Builds L T o → InWords (buildWords L T) (o .refusal)
+  pub builds-not : (L : List ℕ) (T : Table) (o : Building) → Builds L T o → (o .refusal ≡ 0 → ⊥) → (o .refusal ≡ 16 → ⊥) → Untouched T o
+  -- the exception: 16 answers no lengths, and leaves each list as long as it was, and zeros alone in it
+  pub builds-16 : (L : List ℕ) (T : Table) (o : Building) → Builds L T o → o .refusal ≡ 16 → Nowhere o × ZerosBehind T o
+  -- without a refusal the fronts of the lists are the table of what can be reached, which the check accepts at 1, and zeros follow them
+  pub builds-passes : (L : List ℕ) (T : Table) (o : Building) → Builds L T o → o .refusal ≡ 0 → Tabled L (fronts o) × (tableRefusal L 1 (fronts o) ≡ 0) × ZerosBehind T o
 
 -- ==== Demand 2: the plain feed reports exactly the pairs that the automaton's definition gives for the bytes consumed, going on from
 -- ==== the flow's saved frontier, each once, by offset and then signature. It consumes as many bytes as have room for their pairs.
@@ -259,6 +271,18 @@ pub record Demand3 (L : List ℕ) (b : ℕ) (T : Table) (o : Opening) (cs : List
   pub rows : rowsOf (after (o .saved) cs) ≡ costs (activeParts L T) (start L) (bytesOf (o .saved) cs)
   pub ceiling : rowsOf (after (o .saved) cs) ≤ b * length (bytesOf (o .saved) cs)
 
+-- so of a table that the builder made: no table has to be brought, nor checked
+abbrev pub BuiltFollows : Type 0
+BuiltFollows =
+    (L : List ℕ) (T : Table) (o : Building) → Builds L T o → o .refusal ≡ 0 → (R out : List ℕ) → openFlow L R out .refusal ≡ 0 → (cs : List Call) → InBytes cs
+    → Each (Through L 1 (fronts o)) (openFlow L R out .saved) cs → Demand3 L 1 (fronts o) (openFlow L R out) cs
+
+-- and by its index the prepared feed answers and leaves what the split feed through it does
+abbrev pub BuiltPrepares : Type 0
+BuiltPrepares =
+    (L : List ℕ) (T : Table) (o : Building) → Builds L T o → o .refusal ≡ 0 → Bytes (fronts o .splits) → (R : List ℕ) (at : ℕ) (piece out : List ℕ) → Bytes piece
+    → preparedFeed (fronts o .classes) (fronts o .splits) (filledIndex L (fronts o)) R at piece out ≡ splitFeed L 1 (fronts o) R at piece out
+
 -- ==== Changing tables in mid-flow: for one list a flow from opening may change at any piece between any tables that the check accepts, each
 -- ==== at its own bound, the plain feed, and the matrix that the filler writes: pairs and frontier are as if nothing was swapped, and each split
 -- ==== call adds at most its own bound times the bytes that it consumed. Such a flow holds no state that the list does not name, so none of these calls is refused with 4.
@@ -299,3 +323,7 @@ pub record Swapped (L : List ℕ) (o : Opening) (cs : List Call) : Type 0 where
   -- the rows that each call adds: what it counts before each byte that it consumed, at most its bound times these bytes
   pub rows : Each (λ Q c. rowsOf (outcome Q c .saved) ≡ rowsOf Q + costs (counted (c .via) L) (frontierOf Q) (eatenOf Q c)) (o .saved) cs
   pub ceiling : Each (λ Q c. costs (counted (c .via) L) (frontierOf Q) (eatenOf Q c) ≤ mostRows (c .via) * outcome Q c .bytes) (o .saved) cs
+
+-- and a table that the builder made is one of those that such a flow may change to, at bound 1
+abbrev pub BuiltSwaps : Type 0
+BuiltSwaps = (L : List ℕ) (T : Table) (o : Building) → Builds L T o → o .refusal ≡ 0 → Checked L (byTable 1 (fronts o))

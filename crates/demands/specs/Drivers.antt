@@ -20,6 +20,12 @@ use Rattle.feeds.specs.Opening.{Opens}
 use Rattle.plain.specs.Plain.{plain, opened, openRules, openFlow}
 use Rattle.tables.specs.Table.{Table, tableRefusal}
 use Rattle.splits.specs.Split.{stuck, split, splitRules, splitFeed}
+use Rattle.build.specs.declared.Built.{Built}
+use Rattle.build.specs.Build.{Building}
+use Rattle.build.proofs.Accepts.{Tabled}
+use Rattle.build.proofs.Outcomes.{fronts}
+use Rattle.build.proofs.Words.{Nowhere, ZerosBehind}
+use Rattle.demands.specs.Words.{InWords, buildWords}
 use Rattle.demands.specs.Calls.{Via, byList, byTable, Call, outcome}
 use Rattle.demands.specs.Demands.{Longest, Due, activeParts}
 
@@ -210,3 +216,17 @@ pub record CutsDriven (L : List ℕ) (b : ℕ) (T : Table) (R out : List ℕ) (f
   pub opens : (opened .refusal ≡ openFlow L R out .refusal) × (opened .pairs ≡ openFlow L R out .pairs)
   pub plainly : flag ≡ false → opened .refusal ≡ 0 → CutsKept L (plain L) bs ws Q
   pub through : flag ≡ true → checked ≡ 0 → opened .refusal ≡ 0 → CutsKept L (activeParts L T) bs ws Q × (rowsOf Q ≤ b * length bs)
+
+-- ---- the builder, and the check of what it made
+
+-- what its caller holds: the answer, and the four lists at exit
+abbrev pub built : Built → Table → Building
+built r T = record { refusal = r .refusal; classes = r .classes; parts = r .parts; rows = r .rows; splits = r .splits; lists = T }
+
+-- it was lent T; its refusal is given exactly when the words say; one but 16 changes nothing, 16 leaves zeros, and without one the check of the fronts at 1 answered 0
+pub record BuildKept (L : List ℕ) (T : Table) (o : Building) (checked : ℕ) : Type 0 where
+  pub refuses : InWords (buildWords L T) (o .refusal)
+  pub unchanged : (o .refusal ≡ 0 → ⊥) → (o .refusal ≡ 16 → ⊥) → Nowhere o × (o .lists ≡ T)
+  pub emptied : o .refusal ≡ 16 → Nowhere o × ZerosBehind T o
+  pub made : o .refusal ≡ 0 → Tabled L (fronts o) × ZerosBehind T o
+  pub accepted : o .refusal ≡ 0 → checked ≡ 0

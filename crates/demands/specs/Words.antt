@@ -16,6 +16,9 @@ use Rattle.flows.specs.Flow.{flowSize, frontierOf, offsetOf, reservedOf, rowsOf
 use Rattle.tables.specs.Table.{Table, byteValues, mostClass, mostParts, mostSplits, mostBound, splitSize, classCount, partCount, splitCount}
 use Rattle.tables.specs.Table.{part, row, splitSet, slots, usedSlots, takenSlots, joined}
 use Rattle.splits.specs.Split.{taken}
+use Rattle.classes.specs.Classes.{mostClasses}
+use Rattle.classes.proofs.Words.{Needs}
+use Rattle.build.specs.Build.{mostRows, Many}
 
 -- a row: a number, and what it is given for
 abbrev pub Row : Type 1
@@ -175,3 +178,21 @@ preparedWords C S X R k piece =
     ∷ (6, mostOffset < offsetOf R + length piece)
     ∷ (8, (Misclassed C ⊎ Miscounted splitSize mostSplits S) ⊎ Misindexed S X)
     ∷ []
+
+-- ---- the builder: 1 to 3, then 17, then 16
+
+-- 17: a lent list is shorter than so many classes, parts, rows or splits
+abbrev pub lentWords : Table → List Row
+lentWords T = (
+  17,
+  (((length (T .classes) < byteValues) ⊎ (length (T .parts) < setSize * mostParts)) ⊎ (length (T .rows) < setSize * mostRows))
+      ⊎ (length (T .splits) < splitSize * mostParts),
+)
+    ∷ []
+
+abbrev pub earlyWords : List ℕ → Table → List Row
+earlyWords L T = listWords L ++ lentWords T
+
+-- 16: one set more can be reached than a table may have parts, or one class more is needed than it may have
+abbrev pub buildWords : List ℕ → Table → List Row
+buildWords L T = earlyWords L T ++ ((16, Many L (suc mostParts) ⊎ Needs L (suc mostClasses)) ∷ [])

@@ -1,4 +1,5 @@
 // The drivers: code for no user. Each calls the entry points as a caller would, and promises a demand of what they answered and left.
+use build::Built;
 use feeds::Fed;
 use feeds::Opened;
 ghost use Prim.Native.Nat.{_≤_};
@@ -9,7 +10,7 @@ ghost use Rattle.lists.specs.List.{listRules};
 ghost use Rattle.tables.specs.Table.{table, tableRules};
 ghost use Rattle.feeds.specs.Fed.{Answers};
 ghost use Rattle.demands.specs.Calls.{outcome};
-ghost use Rattle.demands.specs.Drivers.{sight, openSight, callOf, OpenKept, FeedKept, SplitFeedKept, PlainDriven, SplitDriven, viaBy, Turn, CutsDriven};
+ghost use Rattle.demands.specs.Drivers.{built, BuildKept, sight, openSight, callOf, OpenKept, FeedKept, SplitFeedKept, PlainDriven, SplitDriven, viaBy, Turn, CutsDriven};
 
 // What the calls of `drive_each` answered: the two checks, the opening, and both feeds.
 struct DroveEach {
@@ -350,5 +351,41 @@ fn drive_cuts(
         opened: opened,
         bytes: n,
         words: w,
+    }
+}
+
+// What the calls of `drive_build` answered: the builder, and the check of the fronts that it named.
+struct DroveBuild {
+    built: Built,
+    checked: u32,
+}
+
+// Demand 1 of the builder: builds the table of a list, and checks what it made at bound 1.
+fn drive_build(
+    list: &[u8],
+    classes: &mut [u8],
+    parts: &mut [u8],
+    rows: &mut [u8],
+    splits: &mut [u8],
+) -> DroveBuild
+    ensures { λ r. ⌜ BuildKept (now (list .entry)) (table (now (classes .entry)) (now (parts .entry)) (now (rows .entry)) (now (splits .entry)))
+        (built (r .built) (table (now (classes .exit)) (now (parts .exit)) (now (rows .exit)) (now (splits .exit)))) (r .checked) ⌝ }
+{
+    let made = build::build(list, classes, parts, rows, splits);
+    let c = made.classes;
+    let p = made.parts;
+    let w = made.rows;
+    let s = made.splits;
+    let checked = tables::check_table(
+        list,
+        1,
+        &classes[..c],
+        &parts[..p],
+        &rows[..w],
+        &splits[..s],
+    );
+    DroveBuild {
+        built: made,
+        checked: checked,
     }
 }

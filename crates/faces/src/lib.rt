@@ -1,4 +1,5 @@
 // The driver of the C face: code for no user. It calls each exported name, and promises that what they answer and leave is the definitions'.
+use watch_c::WatchBuilt;
 use watch_c::WatchFed;
 use watch_c::WatchOpened;
 ghost use mathlib.Core.Path.{_≡_};
@@ -9,7 +10,8 @@ ghost use Rattle.splits.specs.Split.{splitFeed};
 ghost use Rattle.matrix.specs.Matrix.{Fills, matrixFeed};
 ghost use Rattle.indexes.specs.Index.{FillsIndex};
 ghost use Rattle.prepared.specs.Prepared.{preparedFeed};
-ghost use Rattle.watch_c.specs.Face.{version};
+ghost use Rattle.build.specs.Build.{Builds};
+ghost use Rattle.watch_c.specs.Face.{version, faceBuilt};
 ghost use Rattle.faces.specs.Faced.{held, heldOpen};
 
 // What the calls answered: the two checks, the opening, and both feeds.
@@ -28,7 +30,7 @@ fn drive_version() -> u32
     watch_c::watch_version()
 }
 
-// Calls each exported name of a list and of a table once, each on buffers of its own.
+// Calls both checks, opening, the plain feed and the split feed once, each on buffers of its own.
 fn drive_faces(
     list: &[u8],
     bound: u64,
@@ -138,4 +140,18 @@ fn drive_index(
         filled: filled,
         fed: fed,
     }
+}
+
+// Calls the exported name that builds a table.
+fn drive_build(
+    list: &[u8],
+    classes: &mut [u8],
+    parts: &mut [u8],
+    rows: &mut [u8],
+    splits: &mut [u8],
+) -> WatchBuilt
+    ensures { λ r. ⌜ Builds (now (list .entry)) (table (now (classes .entry)) (now (parts .entry)) (now (rows .entry)) (now (splits .entry)))
+        (faceBuilt r (table (now (classes .exit)) (now (parts .exit)) (now (rows .exit)) (now (splits .exit)))) ⌝ }
+{
+    watch_c::watch_build(list, classes, parts, rows, splits)
 }

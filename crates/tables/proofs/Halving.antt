@@ -1,4 +1,5 @@
--- A search by halving among strings that rise: what its loop keeps, and what it finds. Assumes nothing.
+-- A search by halving among sets that rise: what its loop keeps, and what it finds. It is one law over the sets f 0, f 1, .. and their number, for the splits of a table
+-- and for every list of sets. Assumes nothing.
 use Prim.Native.Nat.{ℕ, zero, suc, _+_, _*_, _^_, _≤_, _<_}
 use mathlib.Core.Path.{_≡_, sym, ap, _∙_}
 use mathlib.Core.Bool.{true, false, true≢false}
@@ -33,15 +34,21 @@ pub splits-rise : (S : List ℕ) → Small 8 S → every (splitCount S) (inOrder
     → before (setBytes (splitSet S i)) (setBytes (splitSet S j)) ≡ true
 splits-rise S s o i j l h = rw (split-bytes S i s (omega arith), split-bytes S j s h) (rise S o i j l h)
 
--- every split below lo comes before F, and F before every one from hi on
-pub record Between (S : List ℕ) (F lo hi : ℕ) : Type 0 where
-  pub order : lo ≤ hi
-  pub most : hi ≤ splitCount S
-  pub below : (i : ℕ) → i < lo → before (setBytes (splitSet S i)) (setBytes F) ≡ true
-  pub above : (i : ℕ) → hi ≤ i → i < splitCount S → before (setBytes F) (setBytes (splitSet S i)) ≡ true
+-- ---- halving, among the n sets f 0, f 1, ..
 
-pub between-start : (S : List ℕ) (F n : ℕ) → n ≡ splitCount S → Between S F 0 n
-between-start S F n e =
+-- they rise as strings of bytes
+abbrev pub Rising : (ℕ → ℕ) → ℕ → Type 0
+Rising f n = (i j : ℕ) → i < j → j < n → before (setBytes (f i)) (setBytes (f j)) ≡ true
+
+-- every one below lo comes before F, and F before every one from hi on
+pub record Between (f : ℕ → ℕ) (n F lo hi : ℕ) : Type 0 where
+  pub order : lo ≤ hi
+  pub most : hi ≤ n
+  pub below : (i : ℕ) → i < lo → before (setBytes (f i)) (setBytes F) ≡ true
+  pub above : (i : ℕ) → hi ≤ i → i < n → before (setBytes F) (setBytes (f i)) ≡ true
+
+pub between-start : (f : ℕ → ℕ) (n F k : ℕ) → k ≡ n → Between f n F 0 k
+between-start f n F k e =
     record { order = omega arith; most = omega arith; below = λ i h. absurd (omega arith); above = λ i h l. absurd (omega arith) }
 
 -- a set that comes before F, or after it, is another
@@ -51,66 +58,64 @@ earlier-other x F e = ne-eqb x F (λ q. true≢false (sym e ∙ ap (λ (y : ℕ)
 later-other : (x F : ℕ) → before (setBytes F) (setBytes x) ≡ true → eqb x F ≡ false
 later-other x F e = ne-eqb x F (λ q. true≢false (sym e ∙ ap (λ (y : ℕ). before (setBytes F) (setBytes y)) q ∙ before-irrefl (setBytes F)))
 
-module _ (S : List ℕ) (s : Small 8 S) (o : every (splitCount S) (inOrder S) ≡ true) (F : ℕ) where
-  module _ (lo hi m : ℕ) (b : Between S F lo hi) (l : lo ≤ m) (h : m < hi) where
-    pub between-right : before (setBytes (splitSet S m)) (setBytes F) ≡ true → Between S F (m + 1) hi
-    between-right q =
-        record {
-          order = omega arith;
-          most = b .most;
-          below = λ i k. choose (below-suc i m (omega arith)) (λ j. earlier i j) (λ e. rw e q);
-          above = b .above;
-        }
-      where
-        earlier : (i : ℕ) → i < m → before (setBytes (splitSet S i)) (setBytes F) ≡ true
-        earlier i j = before-trans (setBytes (splitSet S i)) (setBytes (splitSet S m)) (setBytes F) (splits-rise S s o i m j (omega (arith, b .most))) q
+module _ (f : ℕ → ℕ) (n : ℕ) (r : Rising f n) (F lo hi m : ℕ) (b : Between f n F lo hi) (l : lo ≤ m) (h : m < hi) where
+  pub between-right : before (setBytes (f m)) (setBytes F) ≡ true → Between f n F (m + 1) hi
+  between-right q =
+      record {
+        order = omega arith;
+        most = b .most;
+        below = λ i k. choose (below-suc i m (omega arith)) (λ j. before-trans (setBytes (f i)) (setBytes (f m)) (setBytes F) (r i m j (omega (arith, b .most))) q) (λ e. rw e q);
+        above = b .above;
+      }
 
-    pub between-left : before (setBytes F) (setBytes (splitSet S m)) ≡ true → Between S F lo m
-    between-left q =
-        record {
-          order = l;
-          most = omega (arith, b .most);
-          below = b .below;
-          above = λ i k t. choose (below-suc m i (omega arith)) (λ j. later i j t) (λ e. rw (← e) q);
-        }
-      where
-        later : (i : ℕ) → m < i → i < splitCount S → before (setBytes F) (setBytes (splitSet S i)) ≡ true
-        later i j t = before-trans (setBytes F) (setBytes (splitSet S m)) (setBytes (splitSet S i)) q (splits-rise S s o m i j t)
+  pub between-left : before (setBytes F) (setBytes (f m)) ≡ true → Between f n F lo m
+  between-left q =
+      record {
+        order = l;
+        most = omega (arith, b .most);
+        below = b .below;
+        above = λ i k t. choose (below-suc m i (omega arith)) (λ j. before-trans (setBytes F) (setBytes (f m)) (setBytes (f i)) q (r m i j t)) (λ e. rw (← e) q);
+      }
 
-  -- a split that has the set is the first that has it: those below come before it
-  pub between-found : (m : ℕ) → m < splitCount S → splitSet S m ≡ F → m ≡ splitOf S F
-  unfolding splitOf
-  between-found m h e =
-      sym (first-at (splitCount S) (λ i. eqb (splitSet S i) F) m h
-      (some-none m (λ i. eqb (splitSet S i) F) (λ i l. earlier-other (splitSet S i) F (rw e at (splits-rise S s o i m l h)))) (eq-eqb (splitSet S m) F e))
+-- where none is left between them, none is F
+between-other : (f : ℕ → ℕ) (n F lo hi : ℕ) → Between f n F lo hi → hi ≤ lo → (i : ℕ) → i < n → eqb (f i) F ≡ false
+between-other f n F lo hi b e i h =
+    elim (decLt i lo) [
+      | yes l ↦ earlier-other (f i) F (b .below i l)
+      | no g ↦ later-other (f i) F (b .above i (omega (arith, lt-of-not-le (λ (l : suc i ≤ lo). g l))) h)
+    ]
 
--- where none is left between them, no split has the set
-pub between-none : (S : List ℕ) (F lo hi : ℕ) → Between S F lo hi → hi ≤ lo → splitCount S ≡ splitOf S F
+-- ---- among the splits
+
+-- a split that has the set is the first that has it: those below come before it
+pub between-found : (S : List ℕ) → Small 8 S → every (splitCount S) (inOrder S) ≡ true → (F m : ℕ) → m < splitCount S → splitSet S m ≡ F → m ≡ splitOf S F
 unfolding splitOf
-between-none S F lo hi b e = sym (first-none (splitCount S) (λ i. eqb (splitSet S i) F) (some-none (splitCount S) (λ i. eqb (splitSet S i) F) any))
-  where
-    any : (i : ℕ) → i < splitCount S → eqb (splitSet S i) F ≡ false
-    any i h =
-        elim (decLt i lo) [
-          | yes l ↦ earlier-other (splitSet S i) F (b .below i l)
-          | no g ↦ later-other (splitSet S i) F (b .above i (omega (arith, lt-of-not-le (λ (l : suc i ≤ lo). g l))) h)
-        ]
+between-found S s o F m h e =
+    sym (first-at (splitCount S) (λ i. eqb (splitSet S i) F) m h
+    (some-none m (λ i. eqb (splitSet S i) F) (λ i l. earlier-other (splitSet S i) F (rw e at (splits-rise S s o i m l h)))) (eq-eqb (splitSet S m) F e))
 
--- ---- how a split's set stands to F, by the comparison's number
+pub between-none : (S : List ℕ) (F lo hi : ℕ) → Between (splitSet S) (splitCount S) F lo hi → hi ≤ lo → splitCount S ≡ splitOf S F
+unfolding splitOf
+between-none S F lo hi b e =
+    sym (first-none (splitCount S) (λ i. eqb (splitSet S i) F)
+    (some-none (splitCount S) (λ i. eqb (splitSet S i) F) (between-other (splitSet S) (splitCount S) F lo hi b e)))
 
-module _ (S : List ℕ) (s : Small 8 S) (F : ℕ) (f : F < 2 ^ (8 * setSize)) (m : ℕ) where
-  long : length (setBytes (splitSet S m)) ≡ length (setBytes F)
-  long = length-digits 8 setSize (splitSet S m) ∙ sym (length-digits 8 setSize F)
+pub split-lt : (S : List ℕ) → Small 8 S → (m : ℕ) → splitSet S m < 2 ^ (8 * setSize)
+unfolding splitSet
+split-lt S s m = set-at-lt S (splitSize * m) s
 
-  pub compared-same : compare (setBytes (splitSet S m)) (setBytes F) ≡ 0 → splitSet S m ≡ F
-  unfolding splitSet
+-- ---- how one set stands to another, by the comparison's number
+
+module _ (x F : ℕ) (g : x < 2 ^ (8 * setSize)) (f : F < 2 ^ (8 * setSize)) where
+  long : length (setBytes x) ≡ length (setBytes F)
+  long = length-digits 8 setSize x ∙ sym (length-digits 8 setSize F)
+
+  pub compared-same : compare (setBytes x) (setBytes F) ≡ 0 → x ≡ F
   compared-same e =
-      sym (num-digits 8 setSize (splitSet S m) (set-at-lt S (splitSize * m) s))
-      ∙ ap (num 8) (compare-exactly (setBytes (splitSet S m)) (setBytes F) long .0 .0 e) ∙ num-digits 8 setSize F f
+      sym (num-digits 8 setSize x g) ∙ ap (num 8) (compare-exactly (setBytes x) (setBytes F) long .0 .0 e) ∙ num-digits 8 setSize F f
 
-  pub compared-before : compare (setBytes (splitSet S m)) (setBytes F) ≡ 1 → before (setBytes (splitSet S m)) (setBytes F) ≡ true
-  compared-before e = compare-exactly (setBytes (splitSet S m)) (setBytes F) long .1 .0 e
+  pub compared-before : compare (setBytes x) (setBytes F) ≡ 1 → before (setBytes x) (setBytes F) ≡ true
+  compared-before e = compare-exactly (setBytes x) (setBytes F) long .1 .0 e
 
-  pub compared-after : (compare (setBytes (splitSet S m)) (setBytes F) ≡ 0 → ⊥) → (compare (setBytes (splitSet S m)) (setBytes F) ≡ 1 → ⊥)
-      → before (setBytes F) (setBytes (splitSet S m)) ≡ true
-  compared-after z o = compare-rest (setBytes (splitSet S m)) (setBytes F) long z o
+  pub compared-after : (compare (setBytes x) (setBytes F) ≡ 0 → ⊥) → (compare (setBytes x) (setBytes F) ≡ 1 → ⊥) → before (setBytes F) (setBytes x) ≡ true
+  compared-after z o = compare-rest (setBytes x) (setBytes F) long z o

@@ -1,4 +1,4 @@
--- The face of an answer answers the same outcome, and only one face does; so of an opening. Assumes nothing.
+-- The face of an answer answers the same outcome, and only one face does; so of an opening and of building. Assumes nothing.
 use Prim.Native.Nat.{ℕ}
 use mathlib.Core.Bool.{Bool}
 use mathlib.Core.Path.{_≡_, sym, ap, _∙_}
@@ -7,9 +7,13 @@ use Rattle.feeds.specs.Engine.{Outcome}
 use Rattle.feeds.specs.Opening.{Opening}
 use Rattle.feeds.specs.declared.Fed.{Fed}
 use Rattle.feeds.specs.Fed.{Answers}
+use Rattle.tables.specs.Table.{Table}
+use Rattle.build.specs.Build.{Builds}
+use Rattle.build.proofs.Reached.{unique-build}
+use Rattle.watch_c.specs.declared.WatchBuilt.{WatchBuilt}
 use Rattle.watch_c.specs.declared.WatchFed.{WatchFed}
 use Rattle.watch_c.specs.declared.WatchOpened.{WatchOpened}
-use Rattle.watch_c.specs.Face.{Faces, FaceAnswers, FaceOpens}
+use Rattle.watch_c.specs.Face.{Faces, FaceAnswers, FaceOpens, faceBuilt}
 
 pub faced : {o : Outcome} {f : Fed} {w : WatchFed} {ws sv : List ℕ} → Answers o f ws sv → Faces f w → FaceAnswers o w ws sv
 faced a h =
@@ -45,3 +49,7 @@ unique-face-open o v w vs ws rv rw2 a b = (
   a .words ∙ sym (b .words),
   a .saved ∙ sym (b .saved),
 )
+
+-- and of building: two answers and lists that one list and the lists lent allow are the same
+pub unique-face-build : (L : List ℕ) (T : Table) (v w : WatchBuilt) (X Y : Table) → Builds L T (faceBuilt v X) → Builds L T (faceBuilt w Y) → faceBuilt v X ≡ faceBuilt w Y
+unique-face-build L T v w X Y a b = unique-build L T (faceBuilt v X) (faceBuilt w Y) a b

@@ -5,12 +5,15 @@ use mathlib.Core.List.{List}
 use Rattle.feeds.specs.Engine.{Outcome}
 use Rattle.feeds.specs.Opening.{Opening}
 use Rattle.feeds.specs.declared.Fed.{Fed}
+use Rattle.tables.specs.Table.{Table}
+use Rattle.build.specs.Build.{Building}
+use Rattle.watch_c.specs.declared.WatchBuilt.{WatchBuilt}
 use Rattle.watch_c.specs.declared.WatchFed.{WatchFed}
 use Rattle.watch_c.specs.declared.WatchOpened.{WatchOpened}
 
 -- the version of the face, which rises with each change of a name, a size, a limit or a meaning in it
 abbrev pub version : ℕ
-version = 8
+version = 9
 
 -- the same four values
 pub record Faces (f : Fed) (w : WatchFed) : Type 0 where
@@ -34,3 +37,7 @@ pub record FaceOpens (o : Opening) (w : WatchOpened) (ws sv : List ℕ) : Type 0
   pub refusal : w .refusal ≡ o .refusal
   pub words : ws ≡ o .words
   pub saved : sv ≡ o .saved
+
+-- what a caller of the builder holds: the answer, and the four lists at exit
+abbrev pub faceBuilt : WatchBuilt → Table → Building
+faceBuilt w T = record { refusal = w .refusal; classes = w .classes; parts = w .parts; rows = w .rows; splits = w .splits; lists = T }

@@ -1,4 +1,4 @@
-// The C face: the library's nine functions under names of their own, over numbers and slices, and the face's version. Nothing else is here.
+// The C face: the library's ten functions under names of their own, over numbers and slices, and the face's version. Nothing else is here.
 use feeds::Fed;
 ghost use mathlib.Core.Path.{_≡_};
 ghost use Rattle.lists.specs.List.{listRefusal};
@@ -8,10 +8,11 @@ ghost use Rattle.splits.specs.Split.{splitFeed};
 ghost use Rattle.matrix.specs.Matrix.{Fills, matrixFeed};
 ghost use Rattle.indexes.specs.Index.{FillsIndex};
 ghost use Rattle.prepared.specs.Prepared.{preparedFeed};
-ghost use Rattle.watch_c.specs.Face.{version, Faces, FaceAnswers, FaceOpens};
+ghost use Rattle.build.specs.Build.{Builds};
+ghost use Rattle.watch_c.specs.Face.{version, Faces, FaceAnswers, FaceOpens, faceBuilt};
 
 // The version of the face, by which a caller compares its header with the archive.
-pub const VERSION: u32 = 8;
+pub const VERSION: u32 = 9;
 
 // What a feed answers, as C lays it out.
 #[repr(C)]
@@ -26,6 +27,16 @@ pub struct WatchFed {
 #[repr(C)]
 pub struct WatchOpened {
     pub pairs: u64,
+    pub refusal: u32,
+}
+
+// What building a table answers, as C lays it out: the bytes used of each list.
+#[repr(C)]
+pub struct WatchBuilt {
+    pub classes: u64,
+    pub parts: u64,
+    pub rows: u64,
+    pub splits: u64,
     pub refusal: u32,
 }
 
@@ -190,4 +201,26 @@ pub extern "C" fn watch_prepared_feed(
 {
     let f = prepared::feed(classes, splits, index, flow, start, piece, pairs);
     face(f)
+}
+
+// Builds the table of a list at bound 1 in four lent lists; 16 fills them with zeros, and another refusal leaves them as they are.
+#[no_mangle]
+pub extern "C" fn watch_build(
+    list: &[u8],
+    classes: &mut [u8],
+    parts: &mut [u8],
+    rows: &mut [u8],
+    splits: &mut [u8],
+) -> WatchBuilt
+    ensures { λ r. ⌜ Builds (now (list .entry)) (table (now (classes .entry)) (now (parts .entry)) (now (rows .entry)) (now (splits .entry)))
+        (faceBuilt r (table (now (classes .exit)) (now (parts .exit)) (now (rows .exit)) (now (splits .exit)))) ⌝ }
+{
+    let built = build::build(list, classes, parts, rows, splits);
+    WatchBuilt {
+        classes: built.classes as u64,
+        parts: built.parts as u64,
+        rows: built.rows as u64,
+        splits: built.splits as u64,
+        refusal: built.refusal,
+    }
 }

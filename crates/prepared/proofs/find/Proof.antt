@@ -9,7 +9,7 @@ use Rattle.sets.proofs.Laws.{Small}
 use Rattle.sets.proofs.Sets.{words-lt}
 use Rattle.sets.proofs.Whole.{valid-of}
 use Rattle.tables.specs.Table.{splitSet}
-use Rattle.tables.proofs.Halving.{compared-same, compared-before}
+use Rattle.tables.proofs.Halving.{split-lt, compared-same, compared-before}
 use Rattle.prepared.proofs.Halving.{other-here, not-less, Seeking, seeking-start, seeking-here, seeking-right, seeking-left, seeking-none}
 use Rattle.prepared.proofs.find.Statement.{statement}
 use Rattle.prepared.proofs.find.Tie as tie
@@ -64,7 +64,7 @@ returns c =
     let h = c .before .before .before in
     let S = entry h .args .splits .now in
     seeking-here S (sought h) (h .loop .lo) (h .loop .hi) (h .loop .inv) (c .before .before .loop-test .taken)
-    (eq-eqb _ _ (compared-same S (bytes h) (sought h) (small h) (middle h) (said (c .before) ∙ c .if1 .taken)))
+    (eq-eqb _ _ (compared-same (splitSet S (middle h)) (sought h) (split-lt S (bytes h) (middle h)) (small h) (said (c .before) ∙ c .if1 .taken)))
 
 add-lo : tie.Need-add-lo Inv-loop μ-loop
 add-lo c =
@@ -79,7 +79,7 @@ loop-again c =
     let S = entry h .args .splits .now in
     let met = said (c .before .before) in
     seeking-right S (sought h) (h .loop .lo) (h .loop .hi) (h .loop .inv) (c .before .before .before .loop-test .taken) (other-here S (sought h) (h .loop .lo) (h .loop .hi) (λ z. c .before .if1 .left (sym met ∙ z)))
-    (compared-before S (bytes h) (sought h) (small h) (middle h) (met ∙ c .if2 .taken))
+    (compared-before (splitSet S (middle h)) (sought h) (split-lt S (bytes h) (middle h)) (small h) (met ∙ c .if2 .taken))
 
 loop-less-2 : tie.Need-loop-less-2 Inv-loop μ-loop
 loop-less-2 c = search needs

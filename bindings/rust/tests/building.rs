@@ -1,0 +1,206 @@
+//! Replays the cases of the builder that the second program made, `tools/second/builds`, through the archive and compares each line with
+//! `tools/second/built`. Where a table is built, the check accepts it at bound 1, and flows fed through it and by its index tell the pairs of the plain
+//! feed. `tools/second/README.md` says what the lines have. `WATCH_VECTORS` may name a smaller number of lines.
+
+#[path = "dice.rs"]
+mod dice;
+
+use dice::Dice;
+use std::collections::BTreeMap;
+use std::path::PathBuf;
+use watch::{
+    raw, Flow, Index, LentLists, List, Pair, Refusal, Table, LENT_CLASSES, LENT_PARTS, LENT_ROWS, LENT_SPLITS, SET_SIZE,
+};
+
+/// What stands in each lent list before a call.
+const FILL: u8 = 255;
+
+/// With no more sets than these a table is fed by its index as well.
+const FEW_SETS: usize = 128;
+
+struct Reader<'a> {
+    data: &'a [u8],
+}
+
+impl<'a> Reader<'a> {
+    fn take(&mut self, count: usize) -> &'a [u8] {
+        let (front, rest) = self.data.split_at(count);
+        self.data = rest;
+        front
+    }
+
+    fn u32(&mut self) -> usize {
+        u32::from_le_bytes(self.take(4).try_into().unwrap()) as usize
+    }
+
+    /// A length, and its bytes in runs: how many zeros, how many bytes after them, these bytes.
+    fn block(&mut self) -> Vec<u8> {
+        let length = self.u32();
+        let mut bytes = Vec::with_capacity(length);
+        while bytes.len() < length {
+            let (zeros, count) = (self.take(1)[0], self.take(1)[0]);
+            bytes.resize(bytes.len() + usize::from(zeros), 0);
+            bytes.extend(self.take(count.into()));
+        }
+        bytes
+    }
+}
+
+fn digest(bytes: &[u8]) -> u64 {
+    bytes.iter().fold(0, |h, &byte| (h * 257 + u64::from(byte) + 1) % 4_294_967_291)
+}
+
+fn file(name: &str) -> Vec<u8> {
+    let path = PathBuf::from(env!("CARGO_MANIFEST_DIR")).join("../../tools/second").join(name);
+    std::fs::read(&path).unwrap_or_else(|error| panic!("{}: {error}", path.display()))
+}
+
+/// Builds in lists of these lengths, each a block of its own; the answer, and the lists.
+fn build(list: &[u8], lent: [usize; 4]) -> (raw::WatchBuilt, [Box<[u8]>; 4]) {
+    let mut lists = lent.map(|length| vec![FILL; length].into_boxed_slice());
+    let [c, p, r, s] = &mut lists;
+    // SAFETY: every pointer and length is that of a block of its own.
+    let built = unsafe {
+        raw::watch_build(
+            list.as_ptr(),
+            list.len(),
+            c.as_mut_ptr(),
+            c.len(),
+            p.as_mut_ptr(),
+            p.len(),
+            r.as_mut_ptr(),
+            r.len(),
+            s.as_mut_ptr(),
+            s.len(),
+        )
+    };
+    (built, lists)
+}
+
+/// The line of an answer: of each list the digest of the bytes used, and of the others how many are 0 and how many are still as they were.
+fn line(built: &raw::WatchBuilt, lists: &[Box<[u8]>; 4]) -> String {
+    let lengths = [built.classes, built.parts, built.rows, built.splits];
+    let mut text = format!("b {}", built.refusal);
+    lengths.iter().for_each(|length| text += &format!(" {length}"));
+    for (list, &length) in lists.iter().zip(&lengths) {
+        let (front, rest) = list.split_at(length as usize);
+        let count = |byte: u8| rest.iter().filter(|&&b| b == byte).count();
+        text += &format!(" {} {} {}", digest(front), count(0), count(FILL));
+    }
+    text
+}
+
+/// The pairs of a piece that is fed to a flow from its opening: plain, or through the table, where each byte reads one row. With few sets it is fed by
+/// the table's index as well, which costs another check of the table.
+fn told(list: &List, table: Option<&Table>, piece: &[u8]) -> Vec<Pair> {
+    let mut pairs = Vec::new();
+    let mut flow = Flow::open_all(list, |pair| pairs.push(pair));
+    match table {
+        None => drop(flow.feed_all(list, 0, piece, |pair| pairs.push(pair)).unwrap()),
+        Some(table) => {
+            let (mut prepared, mut again) = (flow.clone(), pairs.clone());
+            flow.split_feed_all(table, 0, piece, |pair| pairs.push(pair)).unwrap();
+            if table.lists().parts.len() <= FEW_SETS * SET_SIZE {
+                let index = Index::fill(table, vec![FILL; table.index_size()]).unwrap();
+                prepared.prepared_feed_all(&index, 0, piece, |pair| again.push(pair)).unwrap();
+                assert_eq!((&again, &prepared), (&pairs, &flow));
+            }
+            assert_eq!(flow.rows_read(), piece.len() as u64);
+        }
+    }
+    pairs
+}
+
+#[test]
+fn the_builders_cases_are_answered_line_by_line() {
+    let most = std::env::var("WATCH_VECTORS").map_or(usize::MAX, |n| n.parse().expect("WATCH_VECTORS is a number"));
+    let (builds, built) = (file("builds"), String::from_utf8(file("built")).unwrap());
+    let mut reader = Reader { data: &builds };
+    let mut expected = built.lines();
+    let mut dice = Dice(16);
+    let mut counts = BTreeMap::<u32, usize>::new();
+    let (mut lines, mut pairs) = (0, 0);
+    while !reader.data.is_empty() && lines < most {
+        let bytes = reader.block();
+        let lent = [(); 4].map(|()| reader.u32());
+        let (built, lists) = build(&bytes, lent);
+        lines += 1;
+        assert_eq!(Some(line(&built, &lists).as_str()), expected.next(), "line {lines}");
+        *counts.entry(built.refusal).or_default() += 1;
+        if built.refusal == 0 {
+            let list = List::check(&bytes).unwrap();
+            let table = watch::TableLists {
+                classes: &lists[0][..built.classes as usize],
+                parts: &lists[1][..built.parts as usize],
+                rows: &lists[2][..built.rows as usize],
+                splits: &lists[3][..built.splits as usize],
+            };
+            let table = Table::check(&list, 1, table).unwrap_or_else(|refusal| panic!("line {lines}: {refusal}"));
+            // Bytes that the list speaks of, mostly.
+            let letters: Vec<u8> = bytes.chunks(8).flat_map(|record| [record[1], record[2]]).collect();
+            let piece: Vec<u8> = (0..40).map(|_| letters[dice.below(letters.len())]).collect();
+            let plain = told(&list, None, &piece);
+            assert_eq!(told(&list, Some(&table), &piece), plain, "line {lines}");
+            pairs += plain.len();
+        }
+    }
+    if lines < most {
+        assert_eq!(expected.next(), None, "after line {lines}");
+        assert!(pairs > 500, "{pairs} pairs");
+    }
+    println!("building: {lines} lines, all equal; {pairs} pairs as the plain feed tells; {counts:?}");
+}
+
+/// Signature 7 after any "ab".
+const BARN: &[u8] =
+    b"\x01\x00\xFF\0\0\0\0\0\x01aa\0\0\0\x01\0\x01bb\0\x01\0\x02\0\x02\0\0\0\0\0\0\0\x03\0\0\0\x02\0\x07\0";
+
+#[test]
+fn a_table_is_built_in_lent_lists_and_in_its_own() {
+    let list = List::check(BARN).unwrap();
+    let mut lists = [LENT_CLASSES, LENT_PARTS, LENT_ROWS + 5, LENT_SPLITS].map(|length| vec![FILL; length]);
+    let [classes, parts, rows, splits] = &mut lists;
+    let lent = LentLists { classes, parts, rows, splits };
+    let table = Table::build_in(&list, lent).unwrap();
+    let own = Table::build(&list).unwrap();
+    assert_eq!(table, own.table());
+    assert_eq!(told(&list, Some(&own.table()), b"abab"), told(&list, None, b"abab"));
+    assert_eq!(format!("{own:?}"), "Built(TableLists(3 parts, 9 rows, 3 splits))");
+    assert_eq!(&lists[2][LENT_ROWS..], [0; 5]);
+}
+
+/// The whole way: list, table, index, prepared feed, with the pairs of the program.
+#[test]
+fn the_two_breakfasts_are_told_by_what_is_built() {
+    let folder = PathBuf::from(env!("CARGO_MANIFEST_DIR")).join("../../examples/two-breakfasts");
+    let rules = std::fs::read(folder.join("rules.bin")).unwrap();
+    let list = List::check(&rules).unwrap();
+    let built = Table::build(&list).unwrap();
+    for (name, pairs) in [("twice", &["9 42"][..]), ("loud", &["9 42"]), ("once", &[])] {
+        let piece = std::fs::read(folder.join(name)).unwrap();
+        let lines: Vec<String> = told(&list, Some(&built.table()), &piece).iter().map(Pair::to_string).collect();
+        assert_eq!(lines, pairs, "{name}");
+    }
+}
+
+#[test]
+fn a_short_list_is_refused_and_stays() {
+    let list = List::check(BARN).unwrap();
+    for short in 0..4 {
+        let mut lists = [LENT_CLASSES, LENT_PARTS, LENT_ROWS, LENT_SPLITS].map(|length| vec![FILL; length]);
+        lists[short].pop();
+        let [classes, parts, rows, splits] = &mut lists;
+        let lent = LentLists { classes, parts, rows, splits };
+        assert_eq!(Table::build_in(&list, lent), Err(Refusal::LentLists));
+        assert!(lists.iter().flatten().all(|&byte| byte == FILL));
+    }
+}
+
+#[test]
+fn more_than_a_table_has_is_refused() {
+    // State 0 leads to another state on each of 64 bytes: 65 classes.
+    let many: Vec<u8> = (0..64).flat_map(|c| [1, c, c, 0, 0, 0, c + 1, 0]).chain([2, 0, 0, 0, 0, 0, 0, 0]).collect();
+    assert_eq!(Table::build(&List::check(&many).unwrap()), Err(Refusal::TooMany));
+    let fewer = List::check(&many[8..]).unwrap();
+    assert_eq!(Table::build(&fewer).unwrap().lists().rows.len() / SET_SIZE, 64 * 65);
+}

@@ -1,0 +1,9 @@
+pub mod Reached
+pub mod Ordered
+pub mod Rows
+pub mod Exploring
+pub mod Accepts
+pub mod Finishing
+pub mod Outcomes
+pub mod Words
+pub mod Laying

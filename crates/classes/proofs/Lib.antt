@@ -1,0 +1,10 @@
+pub mod Classes
+pub mod Totals
+pub mod Parting
+pub mod Records
+pub mod Fronts
+pub mod Turns
+pub mod Numbers
+pub mod Pigeons
+pub mod Words
+pub mod Unique

@@ -1,0 +1,187 @@
+// The classes of the bytes, as coarse as a list permits: two bytes share one where every state steps alike on both.
+use sets::StateSet;
+ghost use mathlib.Core.Path.{_≡_};
+ghost use mathlib.Core.Bool.{true, _&&_};
+ghost use mathlib.Core.List.{List, _++_};
+ghost use Prim.Native.Nat.{ℕ, _+_, _-_, _*_, _^_, _<_, _≤_};
+ghost use lib.ListN.{length, getD, take, replicate};
+ghost use lib.Dec.{eqb};
+ghost use Rattle.sets.specs.Set.{states, setSize, setOf, join};
+ghost use Rattle.rules.specs.Scan.{some, first};
+ghost use Rattle.lists.specs.List.{records, from};
+ghost use Rattle.lists.specs.Automaton.{step};
+ghost use Rattle.tables.specs.Table.{byteValues, part};
+ghost use Rattle.classes.specs.Classes.{lowestLike, classOf};
+ghost use Rattle.classes.specs.Loops.{SetsAre, lowTo, parted, Parting, Filled, Lows, Numbered};
+
+// Writes zeros from a place to the end.
+pub fn clear(b: &mut [u8], from: usize)
+    requires { ⌜ from ≤ length (now b) ⌝ }
+    ensures { λ r. ⌜ now (b .exit) ≡ take from (now (b .entry)) ++ replicate (length (now (b .entry)) - from) 0 ⌝ }
+{
+    for i in from..b.len() {
+        b[i] = 0;
+    }
+}
+
+// Says whether set i of a list of sets, where its bytes are all there, is f.
+pub fn is_set(b: &[u8], i: usize, f: StateSet) -> bool
+    requires { ⌜ setSize * i + setSize ≤ length (now b) ⌝ }
+    ensures { λ r. ⌜ r ≡ eqb (part (now (b .entry)) i) (setOf f) ⌝ }
+{
+    StateSet::whole(b, sets::BYTES * i).same(f)
+}
+
+// Writes the empty set for each byte.
+fn empty_sets(rows: &mut [u8])
+    requires { ⌜ setSize * byteValues ≤ length (now rows) ⌝ }
+    ensures { λ r. ⌜ SetsAre (now (rows .entry)) (now (rows .exit)) (λ c. 0) byteValues ⌝ }
+{
+    let none = StateSet::EMPTY;
+    for c in 0..tables::BYTE_VALUES {
+        none.store(rows, sets::BYTES * c);
+    }
+}
+
+// Adds to each byte's set what a list of records leads to on that byte from f.
+fn add_steps(list: &[u8], f: StateSet, rows: &mut [u8])
+    requires { ⌜ setSize * byteValues ≤ length (now rows) ⌝ }
+    ensures { λ r. ⌜ SetsAre (now (rows .entry)) (now (rows .exit)) (λ c. join (part (now (rows .entry)) c) (step (now (list .entry)) (setOf f) c)) byteValues ⌝ }
+{
+    for c in 0..tables::BYTE_VALUES {
+        let t = StateSet::whole(rows, sets::BYTES * c).union(lists::step(list, f, c as u8));
+        t.store(rows, sets::BYTES * c);
+    }
+}
+
+// Writes the set that each byte leads to from state s, record by record.
+fn fill_steps(list: &[u8], s: usize, rows: &mut [u8])
+    requires { ⌜ (s < states) × (setSize * byteValues ≤ length (now rows)) ⌝ }
+    ensures { λ r. ⌜ (length (now (rows .exit)) ≡ length (now (rows .entry))) × ((c : ℕ) → c < byteValues → part (now (rows .exit)) c ≡ step (now (list .entry)) (2 ^ s) c) ⌝ }
+{
+    let f = StateSet::EMPTY.with(s);
+    empty_sets(rows);
+    for i in 0..list.len() / lists::RECORD_SIZE {
+        if lists::from(list, i) == s {
+            let at = lists::RECORD_SIZE * i;
+            let end = at + lists::RECORD_SIZE;
+            add_steps(&list[at..end], f, rows);
+        }
+    }
+}
+
+// Says whether byte d has class x and the set f.
+fn is_like(classes: &[u8], rows: &[u8], x: u8, f: StateSet, d: usize) -> bool
+    requires { ⌜ (byteValues ≤ length (now classes)) × (setSize * byteValues ≤ length (now rows)) × (d < byteValues) ⌝ }
+    ensures { λ r. ⌜ r ≡ (eqb (getD (now (classes .entry)) d 0) x && eqb (part (now (rows .entry)) d) (setOf f)) ⌝ }
+{
+    if classes[d] == x {
+        is_set(rows, d, f)
+    } else {
+        false
+    }
+}
+
+// The lowest byte that has the class and the set of byte c.
+fn first_like(classes: &[u8], rows: &[u8], c: usize) -> usize
+    requires { ⌜ (byteValues ≤ length (now classes)) × (setSize * byteValues ≤ length (now rows)) × (c < byteValues) ⌝ }
+    ensures { λ r. ⌜ (r ≡ parted (now (classes .entry)) (now (rows .entry)) c) × (r ≤ c) ⌝ }
+{
+    let x = classes[c];
+    let f = StateSet::whole(rows, sets::BYTES * c);
+    for d in 0..c {
+        if is_like(classes, rows, x, f, d) {
+            return d;
+        }
+    }
+    c
+}
+
+// Splits the classes by the sets; each byte gets the lowest byte of its class.
+fn refine(classes: &mut [u8], rows: &[u8])
+    requires { ⌜ (byteValues ≤ length (now classes)) × (setSize * byteValues ≤ length (now rows)) ⌝ }
+    ensures { λ r. ⌜ Parting (now (classes .entry)) (now (classes .exit)) (now (rows .entry)) 0 ⌝ }
+{
+    let mut c = tables::BYTE_VALUES;
+    while 0 < c {
+        c = c - 1;
+        let d = first_like(classes, rows, c);
+        classes[c] = d as u8;
+    }
+}
+
+// Says whether a record leaves or names state s.
+fn is_left(list: &[u8], s: usize) -> bool
+    ensures { λ r. ⌜ r ≡ some (records (now (list .entry))) (λ i. eqb (from (now (list .entry)) i) s) ⌝ }
+{
+    for i in 0..list.len() / lists::RECORD_SIZE {
+        if lists::from(list, i) == s {
+            return true;
+        }
+    }
+    false
+}
+
+// Splits the classes by one state more, s. A state that no record leaves splits none, and costs little.
+fn part_by(list: &[u8], s: usize, classes: &mut [u8], rows: &mut [u8])
+    requires { ⌜ (s < states) × (byteValues ≤ length (now classes)) × (setSize * byteValues ≤ length (now rows)) ⌝ }
+    ensures { λ r. ⌜ (length (now (classes .exit)) ≡ length (now (classes .entry))) × (length (now (rows .exit)) ≡ length (now (rows .entry)))
+        × ((C : List ℕ) → Filled C (now (classes .entry)) (lowTo (now (list .entry)) s) byteValues → Filled C (now (classes .exit)) (lowTo (now (list .entry)) (s + 1)) byteValues) ⌝ }
+{
+    if !is_left(list, s) {
+        return;
+    }
+    fill_steps(list, s, rows);
+    refine(classes, rows);
+}
+
+// Gives each byte the lowest byte of its class, in a list of zeros.
+fn low_bytes(list: &[u8], classes: &mut [u8], rows: &mut [u8])
+    requires { ⌜ (byteValues ≤ length (now classes)) × (setSize * byteValues ≤ length (now rows)) × ((c : ℕ) → getD (now classes) c 0 ≡ 0) ⌝ }
+    ensures { λ r. ⌜ (length (now (rows .exit)) ≡ length (now (rows .entry))) × Filled (now (classes .entry)) (now (classes .exit)) (lowestLike (now (list .entry))) byteValues ⌝ }
+{
+    for s in 0..sets::STATES {
+        part_by(list, s, classes, rows);
+    }
+}
+
+// Turns the lowest bytes into class numbers.
+fn number(classes: &mut [u8])
+    requires { ⌜ byteValues ≤ length (now classes) ⌝ }
+    ensures { λ r. ⌜ (length (now (classes .exit)) ≡ length (now (classes .entry))) × ((l : List ℕ) → Lows l (now (classes .entry)) → Filled (now (classes .entry)) (now (classes .exit)) (classOf l) byteValues) ⌝ }
+{
+    let mut next = 0usize;
+    for c in 0..tables::BYTE_VALUES {
+        let low = classes[c] as usize;
+        if low == c {
+            classes[c] = next as u8;
+            next = next + 1;
+        } else {
+            classes[c] = classes[low];
+        }
+    }
+}
+
+// Gives each byte its class and answers how many classes there are; zeros follow. The rows are used as a working list.
+pub fn classes_of(list: &[u8], classes: &mut [u8], rows: &mut [u8]) -> usize
+    requires { ⌜ (byteValues ≤ length (now classes)) × (setSize * byteValues ≤ length (now rows)) ⌝ }
+    ensures { λ r. ⌜ Numbered (now (list .entry)) (now (classes .entry)) (now (rows .entry)) (now (classes .exit)) (now (rows .exit)) r ⌝ }
+{
+    clear(classes, 0);
+    low_bytes(list, classes, rows);
+    number(classes);
+    tables::class_count(&classes[..tables::BYTE_VALUES])
+}
+
+// The lowest byte of class q, where there is such a class.
+pub fn lowest_of(classes: &[u8], q: u8) -> u8
+    requires { ⌜ (byteValues ≤ length (now classes)) × (some byteValues (λ c. eqb (getD (now classes) c 0) q) ≡ true) ⌝ }
+    ensures { λ r. ⌜ r ≡ first byteValues (λ c. eqb (getD (now (classes .entry)) c 0) q) ⌝ }
+{
+    for c in 0..tables::BYTE_VALUES {
+        if classes[c] == q {
+            return c as u8;
+        }
+    }
+    0
+}
