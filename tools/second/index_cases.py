@@ -68,6 +68,7 @@ def filled_indexes(tape, dice):
         for wrong in (size - 1, size + 1, dice.pick([0, 1, SET_SIZE, size - ENTRY_SIZE])):
             tape.load_matrix(dice.bytes(8) + bytes(wrong)[8:] if wrong >= 8 else bytes(wrong))
             tape.fill(bound)
+        tape.fill(dice.pick(BAD_BOUNDS))
         tape.load_matrix(b"\xff" * size)
         tape.fill(dice.pick(BAD_BOUNDS))
         for number in (1, 2, 3):
@@ -127,7 +128,8 @@ def filled_indexes(tape, dice):
 
 
 def faulty_fills(tape, dice):
-    """Tables that the check refuses: so does the filler, and the index stays."""
+    """Tables that the check refuses: so does the filler, and the index stays; 8 where it has
+    another length too."""
     for wanted in range(8, 14):
         made = 0
         ways = [fault for number, fault, _ in faults.SINGLE if number == wanted]
@@ -142,8 +144,10 @@ def faulty_fills(tape, dice):
                 continue
             tape.load_list(sample.data)
             tape.load_table(table)
-            tape.load_matrix(dice.bytes(4) + bytes(indexes.index_size(table.splits) - 4))
-            tape.fill(bound)
+            index = dice.bytes(4) + bytes(indexes.index_size(table.splits) - 4)
+            for data in (index, dice.pick([index + b"\0", index[:-1]])):
+                tape.load_matrix(data)
+                tape.fill(bound)
             made += 1
 
 
