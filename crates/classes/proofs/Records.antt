@@ -52,7 +52,7 @@ module _ (L : List ℕ) (i : ℕ) (h : i < records L) where
       ap (λ (n : ℕ). getD (alone L i) n 0) e ∙ byte-alone (k + 1) l ∙ ap (λ (n : ℕ). getD L n 0) d in
       ap₂ (λ (a b : ℕ). a + 256 * b) (byte-alone k (omega arith)) y
 
-  one-record : records (alone L i) ≡ 1
+  pub one-record : records (alone L i) ≡ 1
   one-record = ap (λ (n : ℕ). n / recordSize) (length-take-le recordSize (drop (recordSize * i) L) (omega (arith, length-drop (recordSize * i) L)))
 
   -- what it leads to
@@ -76,6 +76,11 @@ module _ (L : List ℕ) (i : ℕ) (h : i < records L) where
   unfolding gather
   step-other s c ne = rw (add-one i, holds-pow s (from L i), ne-eqb (from L i) s ne, and-false (edge L c i))
 
+-- a record alone that the byte does not take leads nowhere
+pub step-untaken : (L : List ℕ) (F c : ℕ) → records L ≡ 1 → edge L c 0 ≡ false → step L F c ≡ 0
+unfolding step gather
+step-untaken L F c e n = rw (e, n)
+
 -- ---- a set for each byte
 
 pub sets-start : (W : List ℕ) (f : ℕ → ℕ) → SetsAre W W f 0
@@ -91,6 +96,18 @@ sets-more W X f c t room h g e l =
         | no q ↦ put-other X c t r d q ∙ g .sets d (omega (arith, q))
       ];
       rest = λ d k. put-other X c t r d (λ q. omega arith) ∙ g .rest d (omega arith);
+    }
+
+-- or the byte's set stays
+pub sets-kept : (W X : List ℕ) (f : ℕ → ℕ) (c : ℕ) → SetsAre W X f c → part W c ≡ f c → SetsAre W X f (c + 1)
+sets-kept W X f c g e =
+    record {
+      long = g .long;
+      sets = λ d k. elim (ℕ-discrete d c) [
+        | yes q ↦ rw q (g .rest c (omega arith) ∙ e)
+        | no q ↦ g .sets d (omega (arith, q))
+      ];
+      rest = λ d k. g .rest d (omega arith);
     }
 
 -- the loop over records, from state s

@@ -43,14 +43,17 @@ fn empty_sets(rows: &mut [u8])
     }
 }
 
-// Adds to each byte's set what a list of records leads to on that byte from f.
+// Adds to each byte's set what a record, a list of its own, leads to on that byte from f.
 fn add_steps(list: &[u8], f: StateSet, rows: &mut [u8])
-    requires { ⌜ setSize * byteValues ≤ length (now rows) ⌝ }
+    requires { ⌜ (setSize * byteValues ≤ length (now rows)) × (records (now list) ≡ 1) ⌝ }
     ensures { λ r. ⌜ SetsAre (now (rows .entry)) (now (rows .exit)) (λ c. join (part (now (rows .entry)) c) (step (now (list .entry)) (setOf f) c)) byteValues ⌝ }
 {
     for c in 0..tables::BYTE_VALUES {
-        let t = StateSet::whole(rows, sets::BYTES * c).union(lists::step(list, f, c as u8));
-        t.store(rows, sets::BYTES * c);
+        let b = c as u8;
+        if lists::edge(list, b, lists::exchanged(b), 0) {
+            let t = StateSet::whole(rows, sets::BYTES * c).union(lists::step(list, f, b));
+            t.store(rows, sets::BYTES * c);
+        }
     }
 }
 

@@ -1,16 +1,17 @@
--- `add_steps` meets its promise. Assumes nothing.
+-- `add_steps` meets its promise: where the byte does not take the record, its set stays. Assumes nothing.
 use borrow.Author.Needs.{needs}
-use mathlib.Core.Path.{_≡_, ap, ap₂, _∙_}
+use mathlib.Core.Path.{_≡_, sym, ap, ap₂, _∙_}
 use Prim.Native.Nat.{ℕ, _-_, _≤_}
 use native.Mathlib.Omega.{arith}
 use Rattle.sets.specs.Set.{setOf, join}
 use Rattle.sets.proofs.Laws.{Small}
-use Rattle.sets.proofs.Sets.{set-at-lt}
+use Rattle.sets.proofs.Sets.{set-at-lt, join-comm, join-empty}
+use Rattle.rules.proofs.Scanning.{choose}
 use Rattle.lists.specs.Automaton.{step}
 use Rattle.lists.proofs.Steps.{step-lt}
 use Rattle.tables.specs.Table.{byteValues, part}
 use Rattle.classes.specs.Loops.{SetsAre}
-use Rattle.classes.proofs.Records.{sets-start, sets-more, join-lt}
+use Rattle.classes.proofs.Records.{step-untaken, sets-start, sets-more, sets-kept, join-lt}
 use Rattle.classes.proofs.add_steps.Statement.{statement}
 use Rattle.classes.proofs.add_steps.Tie as tie
 
@@ -23,14 +24,21 @@ abbrev μ-loop : tie.MeasureT-loop
 loop-holds : tie.Need-loop-holds Inv-loop μ-loop
 loop-holds c = (omega arith, sets-start (c .before .before .args .rows .now) _, λ i. c .slice-known .given i .fits)
 
+cast-b : tie.Need-cast-b Inv-loop μ-loop
+cast-b c = search needs
+
+exchanged-requires : tie.Need-exchanged-requires Inv-loop μ-loop
+exchanged-requires c κs = search needs
+
+edge-requires : tie.Need-edge-requires Inv-loop μ-loop
+edge-requires c κs = (omega (arith, c .before .before .before .before .before .pre .1), c .exchanged .ensures)
+
 mul-whole : tie.Need-mul-whole Inv-loop μ-loop
 mul-whole c = search needs
 
 whole-requires : tie.Need-whole-requires Inv-loop μ-loop
-whole-requires c κs = omega (arith, c .before .before .loop .inv .1 .long, c .before .before .before .before .before .pre)
-
-cast-step : tie.Need-cast-step Inv-loop μ-loop
-cast-step c = search needs
+whole-requires c κs =
+    omega (arith, c .before .before .before .before .before .loop .inv .1 .long, c .before .before .before .before .before .before .before .before .pre .0)
 
 step-requires : tie.Need-step-requires Inv-loop μ-loop
 step-requires c κs = search needs
@@ -53,18 +61,25 @@ loop-less c = search needs
 loop-again : tie.Need-loop-again Inv-loop μ-loop
 unfolding part
 loop-again c =
-    let s = c .before .before .before .before .before .before .before .before .before .before .before .before in
-    let l = c .before .before .before .before .before .before .before .before .before .loop in
+    let s = c .before .before .before .before .before .before .before in
+    let l = c .before .before .before .before .loop in
     let f : ℕ → ℕ = λ d. join (part (s .args .rows .now) d) (step (s .args .list .now) (setOf (s .args .f)) d) in
-    let w : setOf (c .before .before .before .before .before .before .whole .result) ≡ part (l .rows) (l .c) = c .before .before .before .before .before .before .whole .ensures in
-    let u : setOf (c .before .before .before .before .union .result) ≡ join (part (l .rows) (l .c)) (step (s .args .list .now) (setOf (s .args .f)) (l .c)) =
-    c .before .before .before .before .union .ensures ∙ ap₂ join w (c .before .before .before .before .before .step .ensures) in (
+    choose (c .if1 .came)
+    (λ w. let g : setOf (w .2 .result) ≡ part (l .rows) (l .c) = w .2 .ensures in
+    let u : setOf (w .4 .result) ≡ join (part (l .rows) (l .c)) (step (s .args .list .now) (setOf (s .args .f)) (l .c)) = w .4 .ensures ∙ ap₂ join g (w .3 .ensures) in (
       omega arith,
-      rw (c .before .before .store .ensures) (sets-more (s .args .rows .now) (l .rows) f (l .c) (setOf (c .before .before .before .before .union .result)) (s .pre) (omega arith) (l .inv .1)
+      rw (w .9, w .6 .ensures) (sets-more (s .args .rows .now) (l .rows) f (l .c) (setOf (w .4 .result)) (s .pre .0) (omega arith) (l .inv .1)
           (u ∙ ap (λ (x : ℕ). join x (step (s .args .list .now) (setOf (s .args .f)) (l .c))) (l .inv .1 .rest (l .c) (omega arith)))
           (rw u (join-lt _ _ (set-at-lt (l .rows) _ (l .inv .2)) (step-lt (s .args .list .now) _ _)))),
-      λ i. c .slice-known2 .given i .fits,
-    )
+      rw (w .9) (λ i. w .8 .given i .fits),
+    ))
+    (λ w. let z : step (s .args .list .now) (setOf (s .args .f)) (l .c) ≡ 0 =
+    step-untaken (s .args .list .now) (setOf (s .args .f)) (l .c) (s .pre .1) (sym (c .before .edge .ensures) ∙ w .0 .left) in (
+      omega arith,
+      rw (w .1) (sets-kept (s .args .rows .now) (l .rows) f (l .c) (l .inv .1)
+          (sym (ap (λ (x : ℕ). join (part (s .args .rows .now) (l .c)) x) z ∙ join-comm (part (s .args .rows .now) (l .c)) 0 ∙ join-empty (part (s .args .rows .now) (l .c))))),
+      rw (w .1) (l .inv .2),
+    ))
 
 same-length : tie.Need-same-length Inv-loop μ-loop
 same-length c = c .before .loop .inv .1 .long
@@ -79,9 +94,11 @@ add-steps-spec =
     Inv-loop
     μ-loop
     loop-holds
+    cast-b
+    exchanged-requires
+    edge-requires
     mul-whole
     whole-requires
-    cast-step
     step-requires
     union-requires
     mul-store

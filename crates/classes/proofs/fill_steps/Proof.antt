@@ -13,7 +13,7 @@ use Rattle.lists.specs.Automaton.{step}
 use Rattle.rules.proofs.Scanning.{choose}
 use Rattle.tables.specs.Table.{byteValues, part}
 use Rattle.classes.specs.Loops.{SetsAre}
-use Rattle.classes.proofs.Records.{alone, Filling, filling-start, filling-more, filling-other, filling-end}
+use Rattle.classes.proofs.Records.{alone, one-record, Filling, filling-start, filling-more, filling-other, filling-end}
 use Rattle.classes.proofs.fill_steps.Statement.{statement}
 use Rattle.classes.proofs.fill_steps.Tie as tie
 
@@ -72,7 +72,13 @@ part-add-steps-end : tie.Need-part-add-steps-end Inv-loop μ-loop
 part-add-steps-end c = omega arith
 
 add-steps-requires : tie.Need-add-steps-requires Inv-loop μ-loop
-add-steps-requires c κs = omega (arith, kept (c .before .before .before .before .before), c .before .before .before .before .before .before .before .before .before .before .before .before .before .pre .1)
+add-steps-requires c κs =
+    let s = c .before .before .before .before .before .before .before .before .before .before .before .before .before in
+    let l = c .before .before .before .before .before .loop in
+    let h : l .i < records (s .args .list .now) = omega arith in (
+      omega (arith, kept (c .before .before .before .before .before), s .pre .1),
+      ap (λ (R : List ℕ). records R) (part-is (s .args .list .now) (l .i)) ∙ one-record (s .args .list .now) (l .i) h,
+    )
 
 add-i : tie.Need-add-i Inv-loop μ-loop
 add-i c = omega arith
