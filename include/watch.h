@@ -67,10 +67,27 @@
  * watch_fill_index writes it. It holds for the list, the bound and the table that it was filled for, byte by byte as they were; fill it again
  * where one of them changes. An index of another table with as many splits is not told from a good one: it is run as it stands.
  *
+ * An automaton with bits and counters is two lists. It has one state, WATCH_X_BITS bits and WATCH_X_COUNTERS counters, each of which is off or a
+ * number up to 65,535; a byte moves the state alone, whatever bits and counters are, and then the program of the new state runs. State 0 starts, with all bits
+ * clear and all counters off, and its program runs at opening.
+ *
+ *     moves       for each of 1 to WATCH_X_STATES states WATCH_X_MOVES_SIZE bytes: a 2-byte target for each byte
+ *     programs    for each state WATCH_X_PROGRAM_SIZE bytes: 8 records of a kind, a bit or counter, and a 2-byte number or signature, which
+ *                 run in their order:
+ *
+ *     kind 0      nothing                        kind 5      lower the counter by one: 0 becomes off, off stays
+ *     kind 1, 2   set, clear the bit             kind 6      alert the signature
+ *     kind 3      set the counter to the number  kind 7      alert the signature if the bit is set
+ *     kind 4      turn the counter off           kind 8      alert the signature if the counter is 0
+ *
+ * What a kind does not use is 0. An alert sees what the same program did before it; alerts of one byte are told by signature, each once. The flow record
+ * of such an automaton is WATCH_X_FLOW_SIZE bytes: state 2, zero 2, offset 4, bits 8 (bit 0 is worth 1 of its first byte), then the counters, 4
+ * bytes each, with WATCH_X_OFF for off.
+ *
  *
  * REFUSALS
  *
- * A refusal is one of these numbers, and 0 where there is none. Where several apply, the lowest is given; building gives 17 before 16.
+ * A refusal is one of these numbers, and 0 where there is none. Where several apply, the lowest is given, but 17 before 16 and 24 before all others.
  *
  *      1   the list's length is 0, over WATCH_MOST_LIST, or no multiple of WATCH_RECORD_SIZE
  *      2   a record of the list has another kind, a reserved byte that is not zero, a byte 3 of an edge that is over 1, low > high, a
@@ -96,12 +113,19 @@
  *     15   at opening: the pairs of offset 0 are more than pairs_len div 2
  *     16   building: more than WATCH_MOST_PARTS sets can be reached from the start set, or more than WATCH_MOST_CLASS + 1 classes are needed
  *     17   building: a lent list is shorter than WATCH_LENT_CLASSES, WATCH_LENT_PARTS, WATCH_LENT_ROWS or WATCH_LENT_SPLITS bytes
+ *     24   of an automaton with bits and counters: a list has a wrong length, or the two are of other numbers of states; a target is no state; a
+ *          record has another kind, a bit that is not below WATCH_X_BITS, a counter that is not below WATCH_X_COUNTERS, a signature that is
+ *          not below WATCH_SIGNATURES, or a field that is not used and not 0. Every program is tested, reached or not
+ *
+ * Of such an automaton's flow record 4 says: not WATCH_X_FLOW_SIZE bytes long; or, when it is fed, a state that the moves do not have, a reserved
+ * byte that is not zero, or a counter over WATCH_X_OFF.
  *
  * Each has a name, WATCH_REFUSED_ and some words, and a sentence that watch_refusal_text gives.
  *
  * The list check gives 1 to 3; opening 1 to 4 and 15; the plain feed 1 to 6; the table check 1 to 3 and 7 to 13; the split feed 1 to 9,
  * and 14 per byte; the filler of a matrix 1 to 3 and 8; the matrix feed 1 to 6 and 8; the filler of an index 1 to 3 and 7 to 13; the prepared
- * feed 4 to 6 and 8, and 14 per byte; building 1 to 3, then 17, then 16. A refusal other than 14 and 16 changes no buffer.
+ * feed 4 to 6 and 8, and 14 per byte; building 1 to 3, then 17, then 16; the watch_x_ functions 24, their opening then
+ * 4 and 15, their feed 4, 5 and 6. A refusal other than 14 and 16 changes no buffer.
  *
  *
  * WHAT THE CALLER OWES
@@ -134,6 +158,8 @@
  *   - Every call ends; that is proved. Its work is bounded by the lengths that it is given, and grows as docs/PERFORMANCE.md shows.
  *   - Every feed checks its list again, because what it promises holds for every list; then it gathers the accepting states. Together that is
  *     some 27 instructions a record and call, 220,000 on 8,192 records, before the first byte. So feed what has come in one call, and not byte by byte.
+ *   - The watch_x_ functions check both lists at every call, 360 instructions a state, 369,000 at 1,024 states; a byte whose state has a program of nothing
+ *     then costs 19 instructions.
  *   - C++: the declarations have C linkage, no exception leaves a function, and the header compiles from C++98 on, where <stdint.h> and
  *     <stdbool.h> are there.
  *
@@ -155,7 +181,7 @@ extern "C" {
 #endif
 
 /* The version of the face that this header describes. */
-#define WATCH_VERSION 9
+#define WATCH_VERSION 10
 
 /* Bytes of stack that a call takes at most. */
 #define WATCH_MOST_STACK 1600
@@ -219,6 +245,16 @@ extern "C" {
 #define WATCH_LENT_ROWS (WATCH_SET_SIZE * WATCH_MOST_PARTS * (WATCH_MOST_CLASS + 1))
 #define WATCH_LENT_SPLITS (WATCH_SPLIT_SIZE * WATCH_MOST_PARTS)
 
+/* Of an automaton with bits and counters: the most states, the bytes of a state's moves and of its program, the bits and counters, the number
+ * that says off in a flow record, and the bytes of a flow record. */
+#define WATCH_X_STATES 1024
+#define WATCH_X_MOVES_SIZE 512
+#define WATCH_X_PROGRAM_SIZE 32
+#define WATCH_X_BITS 64
+#define WATCH_X_COUNTERS 16
+#define WATCH_X_OFF 65536
+#define WATCH_X_FLOW_SIZE 80
+
 /* The refusals by name, and what is answered where there is none. The functions answer them as numbers. */
 enum watch_refusal {
     WATCH_PASSED = 0,
@@ -238,7 +274,8 @@ enum watch_refusal {
     WATCH_REFUSED_NO_SPLIT = 14,
     WATCH_REFUSED_NO_ROOM = 15,
     WATCH_REFUSED_TOO_MANY = 16,
-    WATCH_REFUSED_LENT_LISTS = 17
+    WATCH_REFUSED_LENT_LISTS = 17,
+    WATCH_REFUSED_MACHINE = 24
 };
 
 /* What an opening answers. */
@@ -393,6 +430,26 @@ watch_built watch_build(const uint8_t *list, size_t list_len,
                         uint8_t *rows, size_t rows_len,
                         uint8_t *splits, size_t splits_len);
 
+/* The check of an automaton with bits and counters: 0, or 24. */
+uint32_t watch_x_check(const uint8_t *moves, size_t moves_len,
+                       const uint8_t *programs, size_t programs_len);
+
+/* Opens a flow on such an automaton: state 0's program runs, and what it alerts is told at offset 0, as watch_open tells its pairs. Of the
+ * record its length alone is looked at. Refusals 24, 4 and 15 answer 0 pairs and change nothing. */
+watch_opened watch_x_open(const uint8_t *moves, size_t moves_len,
+                          const uint8_t *programs, size_t programs_len,
+                          uint8_t *flow, size_t flow_len,
+                          uint32_t *pairs, size_t pairs_len);
+
+/* Feeds a piece to such a flow: room, pauses, pairs and words as of watch_feed. A pause saves nothing of the paused byte's program. Refusals
+ * 24, 4, 5 and 6, in this order, answer 0 bytes and 0 pairs and change nothing. */
+watch_fed watch_x_feed(const uint8_t *moves, size_t moves_len,
+                       const uint8_t *programs, size_t programs_len,
+                       uint8_t *flow, size_t flow_len,
+                       uint64_t start,
+                       const uint8_t *piece, size_t piece_len,
+                       uint32_t *pairs, size_t pairs_len);
+
 /* A size as text within a sentence. */
 #define WATCH_TEXT_OF(tokens) #tokens
 #define WATCH_TEXT(size) WATCH_TEXT_OF(size)
@@ -441,6 +498,9 @@ static inline const char *watch_refusal_text(uint32_t n)
         return "more than " WATCH_TEXT(WATCH_MOST_PARTS) " sets can be reached from the start set, or more classes are needed than a table may have";
     case WATCH_REFUSED_LENT_LISTS:
         return "a list lent for the table is too short";
+    case WATCH_REFUSED_MACHINE:
+        return "the moves or the programs have a wrong length, a target is no state, or a record has another kind, a bit, counter or signature "
+               "that there is not, or an unused field that is not zero";
     default:
         return "no refusal has this number";
     }

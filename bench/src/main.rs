@@ -9,6 +9,7 @@
 //! name; `bench turn SIDE ROW CALLS` makes these calls of one side, and says how many bytes each consumes, or - where the row is about calls. A
 //! third side, hash, is there for the split feed: Rust that looks the splits up in a hash map.
 mod clock;
+mod extended;
 mod inputs;
 mod later;
 mod ordinary;
@@ -47,6 +48,7 @@ struct Side {
     fill_index: fn(&[u8], u64, &ordinary::Table, &mut [u8]) -> u32,
     prepared_feed: fn(&[u8], &[u8], &[u8], &mut [u8], u64, &[u8], &mut [u32]) -> Fed,
     build: fn(&[u8], ordinary::Lists) -> ordinary::Built,
+    extended: fn(&extended::Work, &mut [u8], &mut [u32]) -> Fed,
 }
 
 const PROVED: Side = Side {
@@ -60,6 +62,7 @@ const PROVED: Side = Side {
     fill_index: proved::fill_index,
     prepared_feed: proved::prepared_feed,
     build: proved::build,
+    extended: extended::proved,
 };
 
 const ORDINARY: Side = Side {
@@ -73,6 +76,7 @@ const ORDINARY: Side = Side {
     fill_index: ordinary::fill_index,
     prepared_feed: ordinary::prepared_feed,
     build: ordinary::build,
+    extended: extended::by_rust,
 };
 
 /// What a row calls, and on what.
@@ -112,6 +116,7 @@ enum Call {
         piece: Vec<u8>,
     },
     Build,
+    Extended(extended::Work),
 }
 
 /// A row of the table: its name, how many calls a turn of bench/count has, and what makes its list and call.
@@ -267,6 +272,10 @@ impl Work {
                     all: built.splits * SET_BYTES == built.parts * SPLIT_BYTES,
                 }
             }
+            Call::Extended(work) => {
+                let record = &mut buffers.flow[..extended::FLOW_SIZE];
+                (side.extended)(work, record, &mut buffers.pairs)
+            }
         }
     }
 
@@ -301,6 +310,7 @@ impl Work {
             | Call::SplitFeed { piece, .. }
             | Call::MatrixFeed { piece, .. }
             | Call::PreparedFeed { piece, .. } => Some(piece.len()),
+            Call::Extended(work) => work.bytes(),
             _ => None,
         }
     }
@@ -754,6 +764,13 @@ fn rows() -> Vec<Row> {
                 }),
             );
         }
+    }
+    for (name, turn, make) in extended::rows() {
+        row(
+            name.to_string(),
+            turn,
+            Box::new(move || (Vec::new(), Call::Extended(make()))),
+        );
     }
     let wanted = std::env::var("ROWS").unwrap_or_default();
     rows.retain(|row| row.name.contains(&wanted));

@@ -78,6 +78,10 @@
 //! a flow is in every way as fed by its list: pairs, record and rows read. It costs [`ROW_SIZE`] bytes a state, and a byte then costs work for
 //! each state of the frontier and not for each record of the list.
 //!
+//! # Bits and counters
+//!
+//! [`extended`] is another kind of automaton, for signatures whose lists would be huge, such as "a line longer than 300 after this word".
+//!
 //! # Linking
 //!
 //! The code itself is the archive `libwatch_c.a`, for x86-64 and the System V calling convention. `tools/build-c` in the repository
@@ -104,6 +108,7 @@
 #[cfg(feature = "std")]
 extern crate std;
 
+pub mod extended;
 pub mod raw;
 mod refusal;
 mod sizes;
@@ -113,6 +118,7 @@ pub use sizes::{
     BYTE_VALUES, ENOUGH_WORDS, ENTRY_SIZE, FLOW_SIZE, LENT_CLASSES, LENT_PARTS, LENT_ROWS, LENT_SPLITS, MOST_BOUND,
     MOST_CLASS, MOST_INDEX, MOST_LIST, MOST_MATRIX, MOST_OFFSET, MOST_PARTS, MOST_RECORDS, MOST_SPLITS, OFFSET_AT,
     RECORD_SIZE, RESERVED_AT, ROWS_AT, ROW_SIZE, SET_SIZE, SIGNATURES, SLOTS, SPLIT_SIZE, STATES, UNUSED, VERSION,
+    X_BITS, X_COUNTERS, X_FLOW_SIZE, X_MOVES_SIZE, X_OFF, X_PROGRAM_SIZE, X_STATES,
 };
 
 use core::fmt;

@@ -180,4 +180,34 @@ extern "C" {
         pairs: *mut u32,
         pairs_len: usize,
     ) -> WatchFed;
+
+    /// The check of an automaton with bits and counters: 0, or 24.
+    pub fn watch_x_check(moves: *const u8, moves_len: usize, programs: *const u8, programs_len: usize) -> u32;
+
+    /// Opens a flow on an automaton with bits and counters: refusals 24, 4 and 15.
+    pub fn watch_x_open(
+        moves: *const u8,
+        moves_len: usize,
+        programs: *const u8,
+        programs_len: usize,
+        flow: *mut u8,
+        flow_len: usize,
+        pairs: *mut u32,
+        pairs_len: usize,
+    ) -> WatchOpened;
+
+    /// The feed of an automaton with bits and counters: refusals 24, 4, 5 and 6.
+    pub fn watch_x_feed(
+        moves: *const u8,
+        moves_len: usize,
+        programs: *const u8,
+        programs_len: usize,
+        flow: *mut u8,
+        flow_len: usize,
+        start: u64,
+        piece: *const u8,
+        piece_len: usize,
+        pairs: *mut u32,
+        pairs_len: usize,
+    ) -> WatchFed;
 }

@@ -1,7 +1,8 @@
 use crate::{FLOW_SIZE, MOST_BOUND, MOST_CLASS, MOST_LIST, MOST_OFFSET, MOST_PARTS, RECORD_SIZE, SIGNATURES, STATES};
 use core::fmt;
 
-/// Why a call was refused. Each has a [`number`](Refusal::number), 1 to 17; of several that apply, the lowest is given, and building gives 17 before 16.
+/// Why a call was refused. Each has a [`number`](Refusal::number), 1 to 17 or 24; of several that apply, the lowest is given, but 17 before 16 and 24 before
+/// all others.
 ///
 /// ```
 /// use watch::{List, Refusal, MOST_LIST, RECORD_SIZE};
@@ -53,6 +54,9 @@ pub enum Refusal {
     /// 17: building: a lent list is shorter than [`LENT_CLASSES`](crate::LENT_CLASSES), [`LENT_PARTS`](crate::LENT_PARTS),
     /// [`LENT_ROWS`](crate::LENT_ROWS) or [`LENT_SPLITS`](crate::LENT_SPLITS) bytes.
     LentLists = 17,
+    /// 24: moves or programs have a wrong length, a target is no state, or a record has another kind, a bit over 63, a counter over 15, a
+    /// signature over 255, or an unused field that is not zero.
+    Machine = 24,
 }
 
 impl Refusal {
@@ -75,9 +79,10 @@ impl Refusal {
         Refusal::NoRoom,
         Refusal::TooMany,
         Refusal::LentLists,
+        Refusal::Machine,
     ];
 
-    /// The refusal's number, 1 to 17.
+    /// The refusal's number, 1 to 17 or 24.
     pub const fn number(self) -> u32 {
         self as u32
     }
@@ -98,7 +103,7 @@ impl Refusal {
     pub(crate) fn verdict(number: u32) -> Result<(), Refusal> {
         match number {
             0 => Ok(()),
-            _ => Err(Refusal::from_number(number).expect("the archive answers 0 to 17")),
+            _ => Err(Refusal::from_number(number).expect("the archive answers the number of a refusal")),
         }
     }
 }
@@ -145,6 +150,10 @@ impl fmt::Display for Refusal {
                 MOST_CLASS + 1
             ),
             Refusal::LentLists => f.write_str("building: a lent list is too short"),
+            Refusal::Machine => f.write_str(
+                "moves or programs have a wrong length, a target is no state, or a record has another kind, a bit over 63, \
+                 a counter over 15, a signature over 255, or an unused field that is not zero",
+            ),
         }
     }
 }

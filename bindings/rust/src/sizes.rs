@@ -2,7 +2,7 @@
 //! is written so. `tools/sizes` in the repository holds them to the constants of the proved code.
 
 /// The version of the C face that this crate is written for. [`List::check`](crate::List::check) compares it with the archive's.
-pub const VERSION: u32 = 9;
+pub const VERSION: u32 = 10;
 
 /// States are the numbers below this one.
 pub const STATES: usize = 1024;
@@ -87,3 +87,24 @@ pub const LENT_ROWS: usize = SET_SIZE * MOST_PARTS * (MOST_CLASS as usize + 1);
 
 /// The bytes that its splits need.
 pub const LENT_SPLITS: usize = SPLIT_SIZE * MOST_PARTS;
+
+/// The most states of an automaton with bits and counters.
+pub const X_STATES: usize = 1024;
+
+/// Bytes of a state's moves: a target of two bytes for each byte.
+pub const X_MOVES_SIZE: usize = 512;
+
+/// Bytes of a state's program: 8 records of 4 bytes.
+pub const X_PROGRAM_SIZE: usize = 32;
+
+/// Bits are the numbers below this one.
+pub const X_BITS: usize = 64;
+
+/// Counters are the numbers below this one.
+pub const X_COUNTERS: usize = 16;
+
+/// How a counter that is off is written in a flow record.
+pub const X_OFF: u32 = 65_536;
+
+/// Bytes in a flow record of an automaton with bits and counters.
+pub const X_FLOW_SIZE: usize = 80;

@@ -11,6 +11,8 @@ ghost use Rattle.matrix.specs.Matrix.{Fills, matrixFeed};
 ghost use Rattle.indexes.specs.Index.{FillsIndex};
 ghost use Rattle.prepared.specs.Prepared.{preparedFeed};
 ghost use Rattle.build.specs.Build.{Builds};
+ghost use Rattle.extended.specs.Machine.{machineRefusal};
+ghost use Rattle.extended.specs.Extended.{extendedOpen, extendedFeed};
 ghost use Rattle.watch_c.specs.Face.{version, faceBuilt};
 ghost use Rattle.faces.specs.Faced.{held, heldOpen};
 
@@ -154,4 +156,38 @@ fn drive_build(
         (faceBuilt r (table (now (classes .exit)) (now (parts .exit)) (now (rows .exit)) (now (splits .exit)))) ⌝ }
 {
     watch_c::watch_build(list, classes, parts, rows, splits)
+}
+
+// What the calls for the automaton with bits and counters answered: the check, the opening, and the feed.
+struct DroveExtended {
+    checked: u32,
+    opened: WatchOpened,
+    fed: WatchFed,
+}
+
+// Calls each exported name of the automaton with bits and counters once, each on buffers of its own.
+fn drive_extended(
+    moves: &[u8],
+    programs: &[u8],
+    start: u64,
+    piece: &[u8],
+    opening: &mut [u8],
+    first_pairs: &mut [u32],
+    flow: &mut [u8],
+    pairs: &mut [u32],
+) -> DroveExtended
+    ensures checks { λ r. ⌜ r .checked ≡ machineRefusal (now (moves .entry)) (now (programs .entry)) ⌝ }
+    ensures opens { λ r. ⌜ heldOpen (r .opened) (now («first_pairs» .exit)) (now (opening .exit))
+        ≡ extendedOpen (now (moves .entry)) (now (programs .entry)) (now (opening .entry)) (now («first_pairs» .entry)) ⌝ }
+    ensures feeds { λ r. ⌜ held (r .fed) (now (pairs .exit)) (now (flow .exit))
+        ≡ extendedFeed (now (moves .entry)) (now (programs .entry)) (now (flow .entry)) start (now (piece .entry)) (now (pairs .entry)) ⌝ }
+{
+    let checked = watch_c::watch_x_check(moves, programs);
+    let opened = watch_c::watch_x_open(moves, programs, opening, first_pairs);
+    let fed = watch_c::watch_x_feed(moves, programs, flow, start, piece, pairs);
+    DroveExtended {
+        checked: checked,
+        opened: opened,
+        fed: fed,
+    }
 }

@@ -1,4 +1,4 @@
-// The C face: the library's ten functions under names of their own, over numbers and slices, and the face's version. Nothing else is here.
+// The C face: the library's thirteen functions under names of their own, over numbers and slices, and the face's version. Nothing else is here.
 use feeds::Fed;
 ghost use mathlib.Core.Path.{_≡_};
 ghost use Rattle.lists.specs.List.{listRefusal};
@@ -9,10 +9,12 @@ ghost use Rattle.matrix.specs.Matrix.{Fills, matrixFeed};
 ghost use Rattle.indexes.specs.Index.{FillsIndex};
 ghost use Rattle.prepared.specs.Prepared.{preparedFeed};
 ghost use Rattle.build.specs.Build.{Builds};
+ghost use Rattle.extended.specs.Machine.{machineRefusal};
+ghost use Rattle.extended.specs.Extended.{extendedOpen, extendedFeed};
 ghost use Rattle.watch_c.specs.Face.{version, Faces, FaceAnswers, FaceOpens, faceBuilt};
 
 // The version of the face, by which a caller compares its header with the archive.
-pub const VERSION: u32 = 9;
+pub const VERSION: u32 = 10;
 
 // What a feed answers, as C lays it out.
 #[repr(C)]
@@ -223,4 +225,45 @@ pub extern "C" fn watch_build(
         splits: built.splits as u64,
         refusal: built.refusal,
     }
+}
+
+// The check of an automaton with bits and counters: 0, or 24.
+#[no_mangle]
+pub extern "C" fn watch_x_check(moves: &[u8], programs: &[u8]) -> u32
+    ensures { λ r. ⌜ r ≡ machineRefusal (now (moves .entry)) (now (programs .entry)) ⌝ }
+{
+    extended::check(moves, programs)
+}
+
+// Opens a flow on an automaton with bits and counters, and tells the pairs of offset 0; a refusal leaves the record and the words as they are.
+#[no_mangle]
+pub extern "C" fn watch_x_open(
+    moves: &[u8],
+    programs: &[u8],
+    flow: &mut [u8],
+    pairs: &mut [u32],
+) -> WatchOpened
+    ensures { λ r. ⌜ FaceOpens (extendedOpen (now (moves .entry)) (now (programs .entry)) (now (flow .entry)) (now (pairs .entry))) r (now (pairs .exit)) (now (flow .exit)) ⌝ }
+{
+    let opened = extended::open_flow(moves, programs, flow, pairs);
+    WatchOpened {
+        pairs: opened.pairs as u64,
+        refusal: opened.refusal,
+    }
+}
+
+// The feed of a piece that begins at `start` by an automaton with bits and counters.
+#[no_mangle]
+pub extern "C" fn watch_x_feed(
+    moves: &[u8],
+    programs: &[u8],
+    flow: &mut [u8],
+    start: u64,
+    piece: &[u8],
+    pairs: &mut [u32],
+) -> WatchFed
+    ensures { λ r. ⌜ FaceAnswers (extendedFeed (now (moves .entry)) (now (programs .entry)) (now (flow .entry)) start (now (piece .entry)) (now (pairs .entry))) r (now (pairs .exit)) (now (flow .exit)) ⌝ }
+{
+    let f = extended::feed(moves, programs, flow, start, piece, pairs);
+    face(f)
 }

@@ -1,0 +1,213 @@
+//! The automaton with bits and counters: one state that the bytes move, 64 bits and 16 counters that no move looks at, and a program on each
+//! state.
+//!
+//! ```
+//! use watch::extended::{Flow, Machine};
+//! use watch::Pair;
+//!
+//! // Signature 9 at the third byte after each "<": state 1 sets counter 0 to 3, state 0 lowers it and alerts where it is 0.
+//! let mut moves = vec![0; 2 * 512];
+//! moves[2 * usize::from(b'<')] = 1;
+//! moves[512 + 2 * usize::from(b'<')] = 1;
+//! let mut programs = vec![0; 2 * 32];
+//! programs[..8].copy_from_slice(&[5, 0, 0, 0, 8, 0, 9, 0]);
+//! programs[32..36].copy_from_slice(&[3, 0, 3, 0]);
+//! let machine = Machine::check(&moves, &programs)?;
+//!
+//! let mut words = [0; watch::ENOUGH_WORDS];
+//! let mut flow = Flow::open(&machine, &mut words)?.flow;
+//! let fed = flow.feed(&machine, 0, b"ab<cdefg", &mut words)?;
+//! assert_eq!(fed.told(&words).collect::<Vec<Pair>>(), [Pair { signature: 9, offset: 6 }]);
+//! assert_eq!((flow.state(), flow.counter(0)), (0, None)); // off again
+//! # Ok::<(), watch::Refusal>(())
+//! ```
+
+use crate::{archive_version, pairs_in, raw, Fed, Pair, Refusal};
+use crate::{ENOUGH_WORDS, VERSION, X_COUNTERS, X_FLOW_SIZE, X_MOVES_SIZE, X_OFF};
+
+/// An automaton with bits and counters that has passed its check.
+///
+/// Moves are, for each state, 256 targets of two bytes; programs, for each state, 8 records of 4 bytes: a kind, a bit or counter, and a number
+/// or signature of two bytes. `include/watch.h` has the kinds.
+#[derive(Clone, Copy, Debug, PartialEq, Eq)]
+pub struct Machine<'a> {
+    moves: &'a [u8],
+    programs: &'a [u8],
+}
+
+impl<'a> Machine<'a> {
+    /// Checks the two lists: refusal 24.
+    ///
+    /// # Panics
+    ///
+    /// Where the linked archive has another version of the face than this crate is written for, [`VERSION`].
+    ///
+    /// ```
+    /// use watch::{extended::Machine, Refusal};
+    ///
+    /// assert!(Machine::check(&[0; 512], &[0; 32]).is_ok());
+    /// assert_eq!(Machine::check(&[0; 512], &[0; 64]), Err(Refusal::Machine));
+    /// ```
+    pub fn check(moves: &'a [u8], programs: &'a [u8]) -> Result<Machine<'a>, Refusal> {
+        let archive = archive_version();
+        assert!(
+            archive == VERSION,
+            "libwatch_c.a has version {archive} of the face, and the crate watch is for {VERSION}"
+        );
+        // SAFETY: pointers and lengths are those of slices that are borrowed over the call.
+        let number = unsafe { raw::watch_x_check(moves.as_ptr(), moves.len(), programs.as_ptr(), programs.len()) };
+        Refusal::verdict(number)?;
+        Ok(Machine { moves, programs })
+    }
+
+    /// The moves.
+    pub fn moves(&self) -> &'a [u8] {
+        self.moves
+    }
+
+    /// The programs.
+    pub fn programs(&self) -> &'a [u8] {
+        self.programs
+    }
+
+    /// The number of states.
+    pub fn states(&self) -> usize {
+        self.moves.len() / X_MOVES_SIZE
+    }
+}
+
+/// A flow of such an automaton: its record of [`X_FLOW_SIZE`] bytes, which is all that has to be kept between two pieces.
+#[derive(Clone, Debug, PartialEq, Eq, Hash)]
+pub struct Flow {
+    bytes: [u8; X_FLOW_SIZE],
+}
+
+/// What an opening that was not refused did.
+#[derive(Clone, Debug, PartialEq, Eq, Hash)]
+#[must_use = "the pairs of offset 0 are told by the opening alone"]
+#[non_exhaustive]
+pub struct Opened {
+    /// The flow.
+    pub flow: Flow,
+    /// Pairs of offset 0 written, two words each.
+    pub pairs: usize,
+}
+
+impl Opened {
+    /// The pairs told, read from the buffer that the opening wrote.
+    ///
+    /// # Panics
+    ///
+    /// Where the buffer is shorter than what the opening wrote: it is another one.
+    pub fn told<'w>(&self, words: &'w [u32]) -> impl Iterator<Item = Pair> + 'w {
+        pairs_in(&words[..2 * self.pairs])
+    }
+}
+
+impl Flow {
+    /// Opens a flow: the start state's program runs on clear bits and counters that are off, and what it alerts is told at offset 0. Where these
+    /// pairs do not all fit, refusal 15, and no word is written.
+    pub fn open(machine: &Machine<'_>, pairs: &mut [u32]) -> Result<Opened, Refusal> {
+        let mut flow = Flow { bytes: [0; X_FLOW_SIZE] };
+        // SAFETY: the lists and the words are borrowed slices, the words as mutable; the record is this function's own.
+        let opened = unsafe {
+            raw::watch_x_open(
+                machine.moves.as_ptr(),
+                machine.moves.len(),
+                machine.programs.as_ptr(),
+                machine.programs.len(),
+                flow.bytes.as_mut_ptr(),
+                X_FLOW_SIZE,
+                pairs.as_mut_ptr(),
+                pairs.len(),
+            )
+        };
+        Refusal::verdict(opened.refusal)?;
+        Ok(Opened { flow, pairs: opened.pairs as usize })
+    }
+
+    /// Feeds a piece that begins at offset `start` of the flow: refusals 4, 5 and 6, which change nothing. Room and pauses are as of
+    /// [`watch::Flow::feed`](crate::Flow::feed).
+    pub fn feed(&mut self, machine: &Machine<'_>, start: u64, piece: &[u8], pairs: &mut [u32]) -> Result<Fed, Refusal> {
+        // SAFETY: each pointer and length is that of a slice that is borrowed over the call, and the two that are written are
+        // borrowed as mutable, so they overlap nothing.
+        let fed = unsafe {
+            raw::watch_x_feed(
+                machine.moves.as_ptr(),
+                machine.moves.len(),
+                machine.programs.as_ptr(),
+                machine.programs.len(),
+                self.bytes.as_mut_ptr(),
+                X_FLOW_SIZE,
+                start,
+                piece.as_ptr(),
+                piece.len(),
+                pairs.as_mut_ptr(),
+                pairs.len(),
+            )
+        };
+        Refusal::verdict(fed.refusal)?;
+        Ok(Fed::from_raw(fed))
+    }
+
+    /// Feeds a whole piece that begins at offset `start` of the flow; each pair is handed to `told`, in order, and after a pause the rest is
+    /// fed from its middle. A refusal comes before the first byte: nothing is then consumed, changed or told.
+    pub fn feed_all(
+        &mut self,
+        machine: &Machine<'_>,
+        start: u64,
+        piece: &[u8],
+        mut told: impl FnMut(Pair),
+    ) -> Result<(), Refusal> {
+        let mut words = [0; ENOUGH_WORDS];
+        let (mut at, mut rest) = (start, piece);
+        loop {
+            let fed = self.feed(machine, at, rest, &mut words)?;
+            fed.told(&words).for_each(&mut told);
+            if fed.all {
+                return Ok(());
+            }
+            rest = &rest[fed.bytes..];
+            at += fed.bytes as u64;
+        }
+    }
+
+    /// The flow with a record that was saved.
+    pub fn from_bytes(bytes: [u8; X_FLOW_SIZE]) -> Flow {
+        Flow { bytes }
+    }
+
+    /// The record, to be saved.
+    pub fn as_bytes(&self) -> &[u8; X_FLOW_SIZE] {
+        &self.bytes
+    }
+
+    /// The number of bytes consumed since the opening.
+    pub fn offset(&self) -> u32 {
+        self.word(4)
+    }
+
+    /// The state.
+    pub fn state(&self) -> u16 {
+        u16::from_le_bytes([self.bytes[0], self.bytes[1]])
+    }
+
+    /// The bits: bit 0 is worth 1.
+    pub fn bits(&self) -> u64 {
+        u64::from_le_bytes(self.bytes[8..16].try_into().expect("8 bytes"))
+    }
+
+    /// A counter: `None` where it is off.
+    ///
+    /// # Panics
+    ///
+    /// Where there is no counter of this number.
+    pub fn counter(&self, counter: usize) -> Option<u32> {
+        assert!(counter < X_COUNTERS, "counter {counter} of {X_COUNTERS}");
+        Some(self.word(16 + 4 * counter)).filter(|count| *count != X_OFF)
+    }
+
+    fn word(&self, at: usize) -> u32 {
+        u32::from_le_bytes(self.bytes[at..at + 4].try_into().expect("4 bytes"))
+    }
+}

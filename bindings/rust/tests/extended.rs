@@ -1,0 +1,166 @@
+//! The automaton with bits and counters: replays its outside vectors, `crates/extended_vectors/stdin`, through the three functions of the archive and
+//! compares each line with `crates/extended_vectors/stdout`; and feeds the worked example, `examples/long-line`, beside its list. Every buffer is a
+//! heap block of exactly its length. `WATCH_VECTORS` may name a smaller number of lines.
+
+use std::path::PathBuf;
+use watch::extended::{Flow, Machine};
+use watch::{raw, List, Pair, Refusal, X_FLOW_SIZE, X_OFF};
+
+const WORD_FILL: u32 = 2_774_138_880;
+
+fn read(path: &str) -> Vec<u8> {
+    let path = PathBuf::from(env!("CARGO_MANIFEST_DIR")).join("../..").join(path);
+    std::fs::read(&path).unwrap_or_else(|error| panic!("{}: {error}", path.display()))
+}
+
+struct Reader<'a>(&'a [u8]);
+
+impl<'a> Reader<'a> {
+    fn take(&mut self, count: usize) -> &'a [u8] {
+        let (front, rest) = self.0.split_at(count);
+        self.0 = rest;
+        front
+    }
+
+    fn number(&mut self, count: usize) -> u64 {
+        self.take(count).iter().rev().fold(0, |n, byte| n << 8 | u64::from(*byte))
+    }
+
+    /// A length, and its bytes in runs: how many zeros, how many bytes after them, these bytes.
+    fn block(&mut self) -> Box<[u8]> {
+        let length = self.number(4) as usize;
+        let mut bytes = Vec::with_capacity(length);
+        while bytes.len() < length {
+            let (zeros, count) = (self.take(1)[0], self.take(1)[0]);
+            bytes.resize(bytes.len() + usize::from(zeros), 0);
+            bytes.extend(self.take(count.into()));
+        }
+        assert_eq!(bytes.len(), length, "runs of a block");
+        bytes.into()
+    }
+}
+
+fn digest(bytes: impl IntoIterator<Item = u8>) -> u64 {
+    bytes.into_iter().fold(0, |h, byte| (h * 257 + u64::from(byte) + 1) % 4_294_967_291)
+}
+
+fn digests(words: &[u32], record: &[u8]) -> String {
+    format!("{} {}", digest(words.iter().flat_map(|word| word.to_le_bytes())), digest(record.iter().copied()))
+}
+
+fn filled(words: u64) -> Box<[u32]> {
+    (0..words as u32).map(|i| WORD_FILL.wrapping_add(i)).collect()
+}
+
+/// What the commands work on.
+#[derive(Default)]
+struct State {
+    moves: Box<[u8]>,
+    programs: Box<[u8]>,
+    record: Box<[u8]>,
+}
+
+impl State {
+    /// Runs one command; those that answer give their line.
+    fn run(&mut self, reader: &mut Reader) -> Option<String> {
+        let name = reader.take(1)[0];
+        let (m, ml, p, pl) = (self.moves.as_ptr(), self.moves.len(), self.programs.as_ptr(), self.programs.len());
+        match name {
+            b'M' => self.moves = reader.block(),
+            b'P' => self.programs = reader.block(),
+            b'R' => self.record = reader.block(),
+            // SAFETY, here and below: pointers and lengths are those of blocks that live over the call and do not overlap.
+            b'c' => return Some(format!("c {}", unsafe { raw::watch_x_check(m, ml, p, pl) })),
+            b'o' => {
+                let mut words = filled(reader.number(4));
+                let (record, length) = (self.record.as_mut_ptr(), self.record.len());
+                let opened =
+                    unsafe { raw::watch_x_open(m, ml, p, pl, record, length, words.as_mut_ptr(), words.len()) };
+                return Some(format!("o {} {} {}", opened.refusal, opened.pairs, digests(&words, &self.record)));
+            }
+            b'f' => {
+                let (start, mut words, piece) = (reader.number(8), filled(reader.number(4)), reader.block());
+                let (record, length) = (self.record.as_mut_ptr(), self.record.len());
+                let fed = unsafe {
+                    raw::watch_x_feed(
+                        m,
+                        ml,
+                        p,
+                        pl,
+                        record,
+                        length,
+                        start,
+                        piece.as_ptr(),
+                        piece.len(),
+                        words.as_mut_ptr(),
+                        words.len(),
+                    )
+                };
+                let all = u32::from(fed.all);
+                let left = digests(&words, &self.record);
+                return Some(format!("f {} {} {} {all} {left}", fed.refusal, fed.bytes, fed.pairs));
+            }
+            _ => panic!("no such command: {name}"),
+        }
+        None
+    }
+}
+
+#[test]
+fn vectors() {
+    let most =
+        std::env::var("WATCH_VECTORS").map_or(usize::MAX, |text| text.parse().expect("WATCH_VECTORS is a number"));
+    let (stdin, stdout) = (read("crates/extended_vectors/stdin"), read("crates/extended_vectors/stdout"));
+    let mut expected = std::str::from_utf8(&stdout).unwrap().lines().enumerate();
+    let (mut reader, mut state, mut lines) = (Reader(&stdin), State::default(), 0);
+    while !reader.0.is_empty() && lines < most {
+        if let Some(line) = state.run(&mut reader) {
+            let (number, wanted) = expected.next().expect("no more lines than expected");
+            assert_eq!(line, wanted, "line {}", number + 1);
+            lines += 1;
+        }
+    }
+    assert!(lines == most || expected.next().is_none(), "as many lines as expected");
+}
+
+#[test]
+fn long_line() {
+    let (moves, programs, rules) = (
+        read("examples/long-line/moves.bin"),
+        read("examples/long-line/programs.bin"),
+        read("examples/long-line/rules.bin"),
+    );
+    let (machine, list) = (Machine::check(&moves, &programs).unwrap(), List::check(&rules).unwrap());
+    assert_eq!(machine.states(), 7);
+    for (name, due) in [("long", vec![Pair { signature: 5, offset: 313 }]), ("short", vec![])] {
+        let bytes = read(&format!("examples/long-line/{name}"));
+        let mut flow = Flow::open(&machine, &mut []).unwrap().flow;
+        let mut told = Vec::new();
+        for (i, piece) in bytes.chunks(7).enumerate() {
+            flow.feed_all(&machine, 7 * i as u64, piece, |pair| told.push(pair)).unwrap();
+        }
+        assert_eq!(told, due, "{name}");
+        assert_eq!((flow.offset() as usize, flow.bits(), flow.counter(0)), (bytes.len(), 0, None));
+        let mut listed = Vec::new();
+        let mut plain = watch::Flow::open_all(&list, |pair| listed.push(pair));
+        plain.feed_all(&list, 0, &bytes, |pair| listed.push(pair)).unwrap();
+        assert_eq!(listed, due, "{name}, by the list");
+    }
+}
+
+#[test]
+fn refusals() {
+    let (moves, programs) = ([0; 512], [0; 32]);
+    assert_eq!(Machine::check(&moves[1..], &programs), Err(Refusal::Machine));
+    let machine = Machine::check(&moves, &programs).unwrap();
+    let mut flow = Flow::open(&machine, &mut []).unwrap().flow;
+    assert_eq!(flow.feed(&machine, 1, b"", &mut []), Err(Refusal::OtherStart));
+    for (at, value, passes) in [(0, 1, false), (3, 1, false), (18, 1, true), (18, 2, false)] {
+        let mut bytes: [u8; X_FLOW_SIZE] = *flow.as_bytes();
+        bytes[at] = value;
+        let fed = Flow::from_bytes(bytes).feed(&machine, 0, b"", &mut []);
+        assert_eq!(fed.is_ok(), passes, "byte {at} is {value}");
+    }
+    assert_eq!(X_OFF, 65_536);
+    assert_eq!(Refusal::from_number(24), Some(Refusal::Machine));
+}

@@ -1,0 +1,9 @@
+pub mod Instructions
+pub mod Programs
+pub mod Machines
+pub mod Records
+pub mod Kept
+pub mod Feeding
+pub mod Opening
+pub mod Said
+pub mod Unique
