@@ -85,6 +85,22 @@
  * bytes each, with WATCH_X_OFF for off.
  *
  *
+ * SEGMENTS
+ *
+ * Where a sender resends after a timeout, in pieces that overlap, its segments are put in order by sequence number: 32 bits, the number of a
+ * segment's first byte. Numbers wrap past 4294967295 to 0, and a number is ahead of another when it lies 1 to 2147483647 past it; 2147483648
+ * past it and more counts as before it. The next byte due has number `first` + offset, wrapped: `first` is the number of the flow's first byte,
+ * the offset is the record's. So the place in the flow moves on by the bytes that a feed consumed, and by nothing else.
+ *
+ * One segment that comes too early is held: WATCH_HELD_SIZE bytes of the caller's, the held buffer, and the held place, the number of the first
+ * byte held and how many are. At the beginning none are: length 0. Each look at a segment is watch_take, then watch_due, then a feed of what is
+ * due; look again with the same segment until nothing is due, also after an 18, and keep the place that watch_take answers each time. Four looks
+ * are enough where each feed consumes all that it is given. Bytes first consumed or held count: what a resend brings for their places is dropped.
+ *
+ * To go on after being killed, save the held buffer, then the held place, then feed, hand over the pairs, and save the record, in this order, at
+ * each look; or save all three in one write. Then nothing is lost, and no pair of an offset up to the saved one is told again.
+ *
+ *
  * REFUSALS
  *
  * A refusal is one of these numbers, and 0 where there is none. Where several apply, the lowest is given, but 17 before 16 and 24 before all others.
@@ -113,6 +129,8 @@
  *     15   at opening: the pairs of offset 0 are more than pairs_len div 2
  *     16   building: more than WATCH_MOST_PARTS sets can be reached from the start set, or more than WATCH_MOST_CLASS + 1 classes are needed
  *     17   building: a lent list is shorter than WATCH_LENT_CLASSES, WATCH_LENT_PARTS, WATCH_LENT_ROWS or WATCH_LENT_SPLITS bytes
+ *     18   of a segment: it has more than WATCH_MOST_SEGMENT bytes, held_len is not WATCH_HELD_SIZE, held_length is over that; or it begins
+ *          ahead, and another segment is held or it has more than WATCH_HELD_SIZE bytes
  *     24   of an automaton with bits and counters: a list has a wrong length, or the two are of other numbers of states; a target is no state; a
  *          record has another kind, a bit that is not below WATCH_X_BITS, a counter that is not below WATCH_X_COUNTERS, a signature that is
  *          not below WATCH_SIGNATURES, or a field that is not used and not 0. Every program is tested, reached or not
@@ -124,7 +142,7 @@
  *
  * The list check gives 1 to 3; opening 1 to 4 and 15; the plain feed 1 to 6; the table check 1 to 3 and 7 to 13; the split feed 1 to 9,
  * and 14 per byte; the filler of a matrix 1 to 3 and 8; the matrix feed 1 to 6 and 8; the filler of an index 1 to 3 and 7 to 13; the prepared
- * feed 4 to 6 and 8, and 14 per byte; building 1 to 3, then 17, then 16; the watch_x_ functions 24, their opening then
+ * feed 4 to 6 and 8, and 14 per byte; building 1 to 3, then 17, then 16; taking a segment 18; the watch_x_ functions 24, their opening then
  * 4 and 15, their feed 4, 5 and 6. A refusal other than 14 and 16 changes no buffer.
  *
  *
@@ -134,13 +152,13 @@
  * caller's, and a call that breaks it has no promise at all:
  *
  *   - Each pointer is good for its length, as C means it: x_len bytes can be read at x, and the flow_len bytes, the pairs_len words, the
- *     bytes of a matrix or an index that is filled and the four lists that watch_build is lent can also be written. pairs is aligned as a
- *     uint32_t; nothing else has to be aligned.
+ *     bytes of a matrix or an index that is filled, the four lists that watch_build is lent and the held buffer of watch_take can also be
+ *     written. pairs is aligned as a uint32_t; nothing else has to be aligned.
  *   - Through a pointer with length 0 nothing is read or written, so it may point anywhere. Give one that is not NULL, as the
  *     address of any object: the code takes NULL with length 0 today, and that is tested, but it is no part of what is proved. NULL
  *     with another length is an error.
- *   - flow and pairs are written, by a filler its matrix or index, and by watch_build its four lists, so none overlaps another buffer of the
- *     call. The buffers that are only read may overlap one another, or be the same.
+ *   - flow and pairs are written, by a filler its matrix or index, by watch_build its four lists, and by watch_take the held buffer, so none
+ *     overlaps another buffer of the call. The buffers that are only read may overlap one another, or be the same.
  *   - Nobody else writes any buffer of a call, or reads flow or pairs, while the call runs. Calls in several threads may share lists and
  *     tables; each has its own flow and pairs.
  *   - The machine is x86-64, with the calling convention of the System V ABI (Linux, the BSDs; not Windows).
@@ -160,6 +178,7 @@
  *     some 27 instructions a record and call, 220,000 on 8,192 records, before the first byte. So feed what has come in one call, and not byte by byte.
  *   - The watch_x_ functions check both lists at every call, 360 instructions a state, 369,000 at 1,024 states; a byte whose state has a program of nothing
  *     then costs 19 instructions.
+ *   - A look at a segment, watch_take and then watch_due, costs some 200 instructions, and a quarter of one for each byte that is held.
  *   - C++: the declarations have C linkage, no exception leaves a function, and the header compiles from C++98 on, where <stdint.h> and
  *     <stdbool.h> are there.
  *
@@ -181,7 +200,7 @@ extern "C" {
 #endif
 
 /* The version of the face that this header describes. */
-#define WATCH_VERSION 10
+#define WATCH_VERSION 11
 
 /* Bytes of stack that a call takes at most. */
 #define WATCH_MOST_STACK 1600
@@ -255,6 +274,10 @@ extern "C" {
 #define WATCH_X_OFF 65536
 #define WATCH_X_FLOW_SIZE 80
 
+/* The most bytes of a segment, and the bytes of the held buffer. */
+#define WATCH_MOST_SEGMENT 65535
+#define WATCH_HELD_SIZE 4096
+
 /* The refusals by name, and what is answered where there is none. The functions answer them as numbers. */
 enum watch_refusal {
     WATCH_PASSED = 0,
@@ -275,6 +298,7 @@ enum watch_refusal {
     WATCH_REFUSED_NO_ROOM = 15,
     WATCH_REFUSED_TOO_MANY = 16,
     WATCH_REFUSED_LENT_LISTS = 17,
+    WATCH_REFUSED_SEGMENT = 18,
     WATCH_REFUSED_MACHINE = 24
 };
 
@@ -307,7 +331,26 @@ struct watch_built {
 
 typedef struct watch_built watch_built;
 
+/* What taking a segment answers. */
+struct watch_held {
+    uint32_t refusal; /* WATCH_PASSED, 0, or WATCH_REFUSED_SEGMENT, 18 */
+    uint32_t start;   /* the held place: the number of the first byte held, */
+    uint32_t length;  /* and how many bytes are held; keep both for the next call */
+};
+
+typedef struct watch_held watch_held;
+
+/* The part that is due. */
+struct watch_part {
+    uint64_t at;     /* where it begins in the buffer that has it, */
+    uint64_t length; /* and how many bytes it has; 0 where nothing is due */
+    uint32_t where;  /* 0 nothing is due, 1 it is in the held buffer, 2 in the segment */
+};
+
+typedef struct watch_part watch_part;
+
 #if defined(__cplusplus) && __cplusplus >= 201103L
+static_assert(sizeof(watch_held) == 12 && sizeof(watch_part) == 24 && offsetof(watch_part, where) == 16, "watch.h: the layout is that of x86-64");
 static_assert(sizeof(size_t) == 8 && sizeof(watch_fed) == 24, "watch.h: the layout is that of x86-64");
 static_assert(sizeof(watch_built) == 40 && offsetof(watch_built, parts) == 8 && offsetof(watch_built, rows) == 16 && offsetof(watch_built, splits) == 24 &&
               offsetof(watch_built, refusal) == 32, "watch.h: the layout is that of x86-64");
@@ -315,6 +358,7 @@ static_assert(sizeof(watch_opened) == 16 && offsetof(watch_opened, refusal) == 8
 static_assert(offsetof(watch_fed, pairs) == 8 && offsetof(watch_fed, refusal) == 16 && offsetof(watch_fed, all) == 20,
               "watch.h: the layout is that of x86-64");
 #elif defined(__STDC_VERSION__) && __STDC_VERSION__ >= 201112L
+_Static_assert(sizeof(watch_held) == 12 && sizeof(watch_part) == 24 && offsetof(watch_part, where) == 16, "watch.h: the layout is that of x86-64");
 _Static_assert(sizeof(size_t) == 8 && sizeof(watch_fed) == 24, "watch.h: the layout is that of x86-64");
 _Static_assert(sizeof(watch_built) == 40 && offsetof(watch_built, parts) == 8 && offsetof(watch_built, rows) == 16 && offsetof(watch_built, splits) == 24 &&
                offsetof(watch_built, refusal) == 32, "watch.h: the layout is that of x86-64");
@@ -450,6 +494,25 @@ watch_fed watch_x_feed(const uint8_t *moves, size_t moves_len,
                        const uint8_t *piece, size_t piece_len,
                        uint32_t *pairs, size_t pairs_len);
 
+/* Takes a segment whose first byte has number `segment_start`, where the next byte due has number `next`: an empty one, or one whose bytes all came
+ * before, is dropped; one that begins ahead is copied into the held buffer, if no other is held and it fits there, else refused with 18; of one that
+ * overlaps, nothing is held, and its new end is due. Answers the held place: that of the segment where it is held; else the one handed in, with length 0
+ * where all its bytes came before. 18 answers the held place as it was handed in and changes nothing. held does not overlap the segment. */
+watch_held watch_take(uint32_t next,
+                      uint8_t *held, size_t held_len,
+                      uint32_t held_start, uint32_t held_length,
+                      uint32_t segment_start,
+                      const uint8_t *segment, size_t segment_len);
+
+/* The next bytes due, as a part of the held buffer or of the segment, whichever has them: held + at or segment + at, `length` bytes. The held ones go
+ * first where both have them, so a part of the segment ends where the held ones begin. Nothing is due where neither has the byte with number `next`, or
+ * where the sizes are those that watch_take refuses. The bytes are not read, and nothing is copied. */
+watch_part watch_due(uint32_t next,
+                     const uint8_t *held, size_t held_len,
+                     uint32_t held_start, uint32_t held_length,
+                     uint32_t segment_start,
+                     const uint8_t *segment, size_t segment_len);
+
 /* A size as text within a sentence. */
 #define WATCH_TEXT_OF(tokens) #tokens
 #define WATCH_TEXT(size) WATCH_TEXT_OF(size)
@@ -498,6 +561,9 @@ static inline const char *watch_refusal_text(uint32_t n)
         return "more than " WATCH_TEXT(WATCH_MOST_PARTS) " sets can be reached from the start set, or more classes are needed than a table may have";
     case WATCH_REFUSED_LENT_LISTS:
         return "a list lent for the table is too short";
+    case WATCH_REFUSED_SEGMENT:
+        return "the segment has more than " WATCH_TEXT(WATCH_MOST_SEGMENT) " bytes, the held buffer is not of " WATCH_TEXT(WATCH_HELD_SIZE)
+               " bytes or more are held, or the segment begins ahead and cannot be held";
     case WATCH_REFUSED_MACHINE:
         return "the moves or the programs have a wrong length, a target is no state, or a record has another kind, a bit, counter or signature "
                "that there is not, or an unused field that is not zero";

@@ -14,6 +14,7 @@ mod inputs;
 mod later;
 mod ordinary;
 mod proved;
+mod resends;
 mod sizes;
 
 use inputs::{Bytes, Table};
@@ -49,6 +50,7 @@ struct Side {
     prepared_feed: fn(&[u8], &[u8], &[u8], &mut [u8], u64, &[u8], &mut [u32]) -> Fed,
     build: fn(&[u8], ordinary::Lists) -> ordinary::Built,
     extended: fn(&extended::Work, &mut [u8], &mut [u32]) -> Fed,
+    segment: fn(&resends::Work, &mut [u8]) -> Fed,
 }
 
 const PROVED: Side = Side {
@@ -63,6 +65,7 @@ const PROVED: Side = Side {
     prepared_feed: proved::prepared_feed,
     build: proved::build,
     extended: extended::proved,
+    segment: resends::proved,
 };
 
 const ORDINARY: Side = Side {
@@ -77,6 +80,7 @@ const ORDINARY: Side = Side {
     prepared_feed: ordinary::prepared_feed,
     build: ordinary::build,
     extended: extended::by_rust,
+    segment: resends::by_rust,
 };
 
 /// What a row calls, and on what.
@@ -117,6 +121,7 @@ enum Call {
     },
     Build,
     Extended(extended::Work),
+    Segment(resends::Work),
 }
 
 /// A row of the table: its name, how many calls a turn of bench/count has, and what makes its list and call.
@@ -144,13 +149,14 @@ impl Row {
     }
 }
 
-/// The buffers that a call writes to: a flow record, the pairs, a matrix, an index, and the four lists of a table, which are empty unless the call builds one.
+/// The buffers that a call writes to: a flow record, the pairs, a matrix, an index, the held buffer, and the four lists of a table, which are empty unless the call builds one.
 #[derive(Clone, PartialEq)]
 struct Buffers {
     flow: [u8; FLOW_BYTES],
     pairs: Vec<u32>,
     matrix: Vec<u8>,
     index: Vec<u8>,
+    held: Vec<u8>,
     lists: [Vec<u8>; 4],
 }
 
@@ -173,6 +179,7 @@ impl Buffers {
             pairs: vec![0xAAAA_AAAA; 8192],
             matrix: Vec::new(),
             index: Vec::new(),
+            held: Vec::new(),
             lists: lent.map(|n| vec![0xAA; n]),
         }
     }
@@ -275,6 +282,10 @@ impl Work {
             Call::Extended(work) => {
                 let record = &mut buffers.flow[..extended::FLOW_SIZE];
                 (side.extended)(work, record, &mut buffers.pairs)
+            }
+            Call::Segment(work) => {
+                buffers.held.resize(resends::HELD_SIZE, 0xAA);
+                (side.segment)(work, &mut buffers.held)
             }
         }
     }
@@ -770,6 +781,13 @@ fn rows() -> Vec<Row> {
             name.to_string(),
             turn,
             Box::new(move || (Vec::new(), Call::Extended(make()))),
+        );
+    }
+    for (name, turn, make) in resends::rows() {
+        row(
+            name.to_string(),
+            turn,
+            Box::new(move || (Vec::new(), Call::Segment(make()))),
         );
     }
     let wanted = std::env::var("ROWS").unwrap_or_default();

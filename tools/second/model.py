@@ -38,6 +38,8 @@ LENT_PARTS = SET_SIZE * MOST_PARTS
 LENT_ROWS = SET_SIZE * MOST_PARTS * (MOST_CLASS + 1)
 LENT_SPLITS = SPLIT_SIZE * MOST_PARTS
 LENT = (LENT_CLASSES, LENT_PARTS, LENT_ROWS, LENT_SPLITS)
+MOST_SEGMENT = 65535  # bytes of a segment
+HELD_SIZE = 4096  # bytes of the held buffer
 
 Accept = namedtuple("Accept", "state signature")
 Flow = namedtuple("Flow", "frontier offset rows")

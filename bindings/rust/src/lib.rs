@@ -82,6 +82,11 @@
 //!
 //! [`extended`] is another kind of automaton, for signatures whose lists would be huge, such as "a line longer than 300 after this word".
 //!
+//! # Resends
+//!
+//! A sender that resends after a timeout, in pieces that overlap, numbers its bytes. [`Segments`] puts its segments in order by these numbers, holds
+//! one that comes too early, and drops what came before: each pair is told once, however often and however cut the bytes are sent.
+//!
 //! # Linking
 //!
 //! The code itself is the archive `libwatch_c.a`, for x86-64 and the System V calling convention. `tools/build-c` in the repository
@@ -111,14 +116,16 @@ extern crate std;
 pub mod extended;
 pub mod raw;
 mod refusal;
+mod segments;
 mod sizes;
 
 pub use refusal::{Refusal, SplitError};
+pub use segments::{Held, Segments};
 pub use sizes::{
-    BYTE_VALUES, ENOUGH_WORDS, ENTRY_SIZE, FLOW_SIZE, LENT_CLASSES, LENT_PARTS, LENT_ROWS, LENT_SPLITS, MOST_BOUND,
-    MOST_CLASS, MOST_INDEX, MOST_LIST, MOST_MATRIX, MOST_OFFSET, MOST_PARTS, MOST_RECORDS, MOST_SPLITS, OFFSET_AT,
-    RECORD_SIZE, RESERVED_AT, ROWS_AT, ROW_SIZE, SET_SIZE, SIGNATURES, SLOTS, SPLIT_SIZE, STATES, UNUSED, VERSION,
-    X_BITS, X_COUNTERS, X_FLOW_SIZE, X_MOVES_SIZE, X_OFF, X_PROGRAM_SIZE, X_STATES,
+    BYTE_VALUES, ENOUGH_WORDS, ENTRY_SIZE, FLOW_SIZE, HELD_SIZE, LENT_CLASSES, LENT_PARTS, LENT_ROWS, LENT_SPLITS,
+    MOST_BOUND, MOST_CLASS, MOST_INDEX, MOST_LIST, MOST_MATRIX, MOST_OFFSET, MOST_PARTS, MOST_RECORDS, MOST_SEGMENT,
+    MOST_SPLITS, OFFSET_AT, RECORD_SIZE, RESERVED_AT, ROWS_AT, ROW_SIZE, SET_SIZE, SIGNATURES, SLOTS, SPLIT_SIZE,
+    STATES, UNUSED, VERSION, X_BITS, X_COUNTERS, X_FLOW_SIZE, X_MOVES_SIZE, X_OFF, X_PROGRAM_SIZE, X_STATES,
 };
 
 use core::fmt;

@@ -48,6 +48,30 @@ pub struct WatchBuilt {
     pub refusal: u32,
 }
 
+/// What taking a segment answers, as C lays it out.
+#[repr(C)]
+#[derive(Clone, Copy, Debug, PartialEq, Eq)]
+pub struct WatchHeld {
+    /// 0, or 18.
+    pub refusal: u32,
+    /// The held place: the number of the first byte held.
+    pub start: u32,
+    /// How many bytes are held.
+    pub length: u32,
+}
+
+/// The part that is due, as C lays it out.
+#[repr(C)]
+#[derive(Clone, Copy, Debug, PartialEq, Eq)]
+pub struct WatchPart {
+    /// Where it begins.
+    pub at: u64,
+    /// How many bytes it has.
+    pub length: u64,
+    /// 0 nothing is due, 1 it is in the held buffer, 2 in the segment; `where` in C.
+    pub source: u32,
+}
+
 extern "C" {
     /// Builds a table at bound 1: refusals 1 to 3, then 17, then 16.
     pub fn watch_build(
@@ -210,4 +234,28 @@ extern "C" {
         pairs: *mut u32,
         pairs_len: usize,
     ) -> WatchFed;
+
+    /// Takes a segment: refusal 18. `held` is written, and overlaps nothing else of the call.
+    pub fn watch_take(
+        next: u32,
+        held: *mut u8,
+        held_len: usize,
+        held_start: u32,
+        held_length: u32,
+        segment_start: u32,
+        segment: *const u8,
+        segment_len: usize,
+    ) -> WatchHeld;
+
+    /// The part of the held buffer or of the segment that has the next bytes due.
+    pub fn watch_due(
+        next: u32,
+        held: *const u8,
+        held_len: usize,
+        held_start: u32,
+        held_length: u32,
+        segment_start: u32,
+        segment: *const u8,
+        segment_len: usize,
+    ) -> WatchPart;
 }

@@ -1,8 +1,11 @@
-use crate::{FLOW_SIZE, MOST_BOUND, MOST_CLASS, MOST_LIST, MOST_OFFSET, MOST_PARTS, RECORD_SIZE, SIGNATURES, STATES};
+use crate::{
+    FLOW_SIZE, HELD_SIZE, MOST_BOUND, MOST_CLASS, MOST_LIST, MOST_OFFSET, MOST_PARTS, MOST_SEGMENT, RECORD_SIZE,
+    SIGNATURES, STATES,
+};
 use core::fmt;
 
-/// Why a call was refused. Each has a [`number`](Refusal::number), 1 to 17 or 24; of several that apply, the lowest is given, but 17 before 16 and 24 before
-/// all others.
+/// Why a call was refused. Each has a [`number`](Refusal::number), 1 to 18 or 24; of several that apply, the lowest is given, but 17 before 16, and 18
+/// of a segment's sizes and 24 before all others.
 ///
 /// ```
 /// use watch::{List, Refusal, MOST_LIST, RECORD_SIZE};
@@ -54,6 +57,9 @@ pub enum Refusal {
     /// 17: building: a lent list is shorter than [`LENT_CLASSES`](crate::LENT_CLASSES), [`LENT_PARTS`](crate::LENT_PARTS),
     /// [`LENT_ROWS`](crate::LENT_ROWS) or [`LENT_SPLITS`](crate::LENT_SPLITS) bytes.
     LentLists = 17,
+    /// 18: a segment over [`MOST_SEGMENT`] bytes, or one that begins ahead and cannot be held: another is, or it has more than
+    /// [`HELD_SIZE`] bytes.
+    Segment = 18,
     /// 24: moves or programs have a wrong length, a target is no state, or a record has another kind, a bit over 63, a counter over 15, a
     /// signature over 255, or an unused field that is not zero.
     Machine = 24,
@@ -79,10 +85,11 @@ impl Refusal {
         Refusal::NoRoom,
         Refusal::TooMany,
         Refusal::LentLists,
+        Refusal::Segment,
         Refusal::Machine,
     ];
 
-    /// The refusal's number, 1 to 17 or 24.
+    /// The refusal's number, 1 to 18 or 24.
     pub const fn number(self) -> u32 {
         self as u32
     }
@@ -150,6 +157,10 @@ impl fmt::Display for Refusal {
                 MOST_CLASS + 1
             ),
             Refusal::LentLists => f.write_str("building: a lent list is too short"),
+            Refusal::Segment => write!(
+                f,
+                "a segment over {MOST_SEGMENT} bytes, or one that begins ahead while another is held or with more than {HELD_SIZE} bytes"
+            ),
             Refusal::Machine => f.write_str(
                 "moves or programs have a wrong length, a target is no state, or a record has another kind, a bit over 63, \
                  a counter over 15, a signature over 255, or an unused field that is not zero",

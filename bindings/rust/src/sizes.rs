@@ -2,7 +2,7 @@
 //! is written so. `tools/sizes` in the repository holds them to the constants of the proved code.
 
 /// The version of the C face that this crate is written for. [`List::check`](crate::List::check) compares it with the archive's.
-pub const VERSION: u32 = 10;
+pub const VERSION: u32 = 11;
 
 /// States are the numbers below this one.
 pub const STATES: usize = 1024;
@@ -108,3 +108,9 @@ pub const X_OFF: u32 = 65_536;
 
 /// Bytes in a flow record of an automaton with bits and counters.
 pub const X_FLOW_SIZE: usize = 80;
+
+/// The most bytes of a segment.
+pub const MOST_SEGMENT: usize = 65_535;
+
+/// Bytes of the held buffer.
+pub const HELD_SIZE: usize = 4096;

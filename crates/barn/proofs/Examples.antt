@@ -25,13 +25,13 @@ use Rattle.build.specs.Build.{steps as reaching, partsOf, splitsOf}
 use Rattle.barn.specs.Examples.{Row, Agree, feedRows, openRow, openedRow, acceptedRow, acceptedRow₁, acceptedRow₀, boundRow, closedRow, startRow, loudRow, indexRow, alikeRow, orderRows, indexRows, buildRows, examples}
 
 -- rows are compared by computing; what computes as the same is the same
-abbrev same : List ℕ → List ℕ → Bool
+abbrev pub same : List ℕ → List ℕ → Bool
 same [] [] = true
 same [] (y ∷ ys) = false
 same (x ∷ xs) [] = false
 same (x ∷ xs) (y ∷ ys) = eqb x y && same xs ys
 
-abbrev agree : List Row → Bool
+abbrev pub agree : List Row → Bool
 agree [] = true
 agree (r ∷ rs) = same (r .0) (r .1) && agree rs
 
@@ -39,7 +39,7 @@ both : (x y : Bool) → T (x && y) → T x × T y
 both true y t = (tt, t)
 both false y t = absurd t
 
-same-sound : (xs ys : List ℕ) → T (same xs ys) → xs ≡ ys
+pub same-sound : (xs ys : List ℕ) → T (same xs ys) → xs ≡ ys
 same-sound [] [] t = refl
 same-sound [] (y ∷ ys) t = absurd t
 same-sound (x ∷ xs) [] t = absurd t
@@ -47,18 +47,18 @@ same-sound (x ∷ xs) (y ∷ ys) t =
     let r = both (eqb x y) (same xs ys) t in
     ap₂ (λ (u : ℕ) (v : List ℕ). u ∷ v) (eqb→eq x y (r .0)) (same-sound xs ys (r .1))
 
-agree-sound : (rs : List Row) → T (agree rs) → Agree rs
+pub agree-sound : (rs : List Row) → T (agree rs) → Agree rs
 agree-sound [] t = tt
 agree-sound (r ∷ rs) t =
     let w = both (same (r .0) (r .1)) (agree rs) t in
     (same-sound (r .0) (r .1) (w .0), agree-sound rs (w .1))
 
-agree-append : (rs qs : List Row) → Agree rs → Agree qs → Agree (rs ++ qs)
+pub agree-append : (rs qs : List Row) → Agree rs → Agree qs → Agree (rs ++ qs)
 agree-append [] qs p q = q
 agree-append (r ∷ rs) qs p q = (p .0, agree-append rs qs (p .1) q)
 
 -- what the rows compute with: a line that names one of these opens all that its own line names
-steps : ℕ
+unfoldable pub steps : ℕ
 unfolding num digits holds join within insert size onesIn members setAt before some every first gather verdict goodRecord badLength badRecord noStart start step accepted namedBy
 steps = 0
 
@@ -66,7 +66,7 @@ checks : ℕ
 unfolding largest part row splitSet slots usedSlots takenSlots allBelow rising joined badClasses badCount badRowsLength badLengths goodSlots inOrder unordered badSplits badRows badUnion noStartSplit notClosed tableRefusal
 checks = 0
 
-feeds : ℕ
+unfoldable pub feeds : ℕ
 unfolding opening openPairs run costs due pairsAt told consumed ended feed recordAfter allTold flowBytes badFlow splitOf taken stuck splitStep highestBy
 feeds = 0
 

@@ -1,1 +1,2 @@
 pub mod Faced
+pub mod Resent

@@ -1,7 +1,9 @@
 // The driver of the C face: code for no user. It calls each exported name, and promises that what they answer and leave is the definitions'.
 use watch_c::WatchBuilt;
 use watch_c::WatchFed;
+use watch_c::WatchHeld;
 use watch_c::WatchOpened;
+use watch_c::WatchPart;
 ghost use mathlib.Core.Path.{_≡_};
 ghost use Rattle.lists.specs.List.{listRefusal};
 ghost use Rattle.plain.specs.Plain.{openFlow, plainFeed};
@@ -13,8 +15,11 @@ ghost use Rattle.prepared.specs.Prepared.{preparedFeed};
 ghost use Rattle.build.specs.Build.{Builds};
 ghost use Rattle.extended.specs.Machine.{machineRefusal};
 ghost use Rattle.extended.specs.Extended.{extendedOpen, extendedFeed};
+ghost use lib.ListN.{length};
+ghost use Rattle.resends.specs.Resend.{taking, due};
 ghost use Rattle.watch_c.specs.Face.{version, faceBuilt};
 ghost use Rattle.faces.specs.Faced.{held, heldOpen};
+ghost use Rattle.faces.specs.Resent.{heldPlace, partOf};
 
 // What the calls answered: the two checks, the opening, and both feeds.
 struct Drove {
@@ -189,5 +194,32 @@ fn drive_extended(
         checked: checked,
         opened: opened,
         fed: fed,
+    }
+}
+
+// What taking a segment and asking for what is due answered.
+struct DroveSegment {
+    taken: WatchHeld,
+    part: WatchPart,
+}
+
+// Takes a segment, and asks for the part that is then due: it is the bytes due.
+fn drive_segment(
+    next: u32,
+    held: &mut [u8],
+    held_start: u32,
+    held_length: u32,
+    start: u32,
+    segment: &[u8],
+) -> DroveSegment
+    ensures takes { λ r. ⌜ heldPlace (r .taken) (now (held .exit)) ≡ taking next (now (held .entry)) «held_start» «held_length» start (now (segment .entry)) ⌝ }
+    ensures dues { λ r. ⌜ partOf (r .part) (now (held .exit)) (now (segment .entry))
+        ≡ due next (now (held .exit)) (r .taken .start) (r .taken .length) start (now (segment .entry)) ⌝ }
+{
+    let taken = watch_c::watch_take(next, held, held_start, held_length, start, segment);
+    let part = watch_c::watch_due(next, held, taken.start, taken.length, start, segment);
+    DroveSegment {
+        taken: taken,
+        part: part,
     }
 }

@@ -1,4 +1,4 @@
-// The C face: the library's thirteen functions under names of their own, over numbers and slices, and the face's version. Nothing else is here.
+// The C face: the library's fifteen functions under names of their own, over numbers and slices, and the face's version. Nothing else is here.
 use feeds::Fed;
 ghost use mathlib.Core.Path.{_≡_};
 ghost use Rattle.lists.specs.List.{listRefusal};
@@ -11,10 +11,13 @@ ghost use Rattle.prepared.specs.Prepared.{preparedFeed};
 ghost use Rattle.build.specs.Build.{Builds};
 ghost use Rattle.extended.specs.Machine.{machineRefusal};
 ghost use Rattle.extended.specs.Extended.{extendedOpen, extendedFeed};
+ghost use lib.ListN.{length};
+ghost use Rattle.resends.specs.Resend.{taking, partDue};
+ghost use Rattle.watch_c.specs.Resent.{FaceTakes, FaceFinds};
 ghost use Rattle.watch_c.specs.Face.{version, Faces, FaceAnswers, FaceOpens, faceBuilt};
 
 // The version of the face, by which a caller compares its header with the archive.
-pub const VERSION: u32 = 10;
+pub const VERSION: u32 = 11;
 
 // What a feed answers, as C lays it out.
 #[repr(C)]
@@ -266,4 +269,67 @@ pub extern "C" fn watch_x_feed(
 {
     let f = extended::feed(moves, programs, flow, start, piece, pairs);
     face(f)
+}
+
+// What taking a segment answers, as C lays it out: a refusal's number or 0, and the held place at exit.
+#[repr(C)]
+pub struct WatchHeld {
+    pub refusal: u32,
+    pub start: u32,
+    pub length: u32,
+}
+
+// The part that is due, as C lays it out: where it begins, how long it is, and in what: 0 nothing, 1 the held buffer, 2 the segment.
+#[repr(C)]
+pub struct WatchPart {
+    pub at: u64,
+    pub length: u64,
+    pub source: u32,
+}
+
+// Takes a segment: drops it, holds it, or refuses it with 18, which leaves the held place and the held buffer as they are.
+#[no_mangle]
+pub extern "C" fn watch_take(
+    next: u32,
+    held: &mut [u8],
+    held_start: u32,
+    held_length: u32,
+    start: u32,
+    segment: &[u8],
+) -> WatchHeld
+    ensures { λ r. ⌜ FaceTakes (taking next (now (held .entry)) «held_start» «held_length» start (now (segment .entry))) r (now (held .exit)) ⌝ }
+{
+    let h = resends::take(next, held, held_start, held_length, start, segment);
+    WatchHeld {
+        refusal: h.refusal,
+        start: h.start,
+        length: h.length,
+    }
+}
+
+// The part of the held buffer or of the segment that has the next bytes due.
+#[no_mangle]
+pub extern "C" fn watch_due(
+    next: u32,
+    held: &[u8],
+    held_start: u32,
+    held_length: u32,
+    start: u32,
+    segment: &[u8],
+) -> WatchPart
+    ensures { λ r. ⌜ FaceFinds (partDue next (length (now (held .entry))) «held_start» «held_length» start (length (now (segment .entry)))) r ⌝ }
+{
+    let d = resends::part_due(
+        next,
+        held.len(),
+        held_start,
+        held_length,
+        start,
+        segment.len(),
+    );
+    WatchPart {
+        at: d.at as u64,
+        length: d.length as u64,
+        source: d.source,
+    }
 }

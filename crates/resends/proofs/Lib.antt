@@ -1,0 +1,5 @@
+pub mod Circle
+pub mod Parts
+pub mod Words
+pub mod Streams
+pub mod Unique

@@ -1,0 +1,3 @@
+pub mod Resend
+pub mod Stream
+pub mod Post

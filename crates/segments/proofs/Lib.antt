@@ -1,0 +1,4 @@
+pub mod Looking
+pub mod Enough
+pub mod Hearing
+pub mod Unique

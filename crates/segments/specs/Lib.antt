@@ -1,0 +1,3 @@
+pub mod Segment
+pub mod Ways
+pub mod Post

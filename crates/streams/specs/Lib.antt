@@ -1,0 +1,4 @@
+pub mod Handed
+pub mod Streamed
+pub mod Killed
+pub mod Examples

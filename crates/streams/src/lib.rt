@@ -1,0 +1,1 @@
+// Nothing runs here: the theorems on flows that are fed by segments.

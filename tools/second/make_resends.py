@@ -1,0 +1,358 @@
+"""Writes crates/resent/stdin and crates/resent/stdout, and resends.txt here."""
+
+import sys
+
+sys.dont_write_bytecode = True
+
+from pathlib import Path
+
+import builders
+import examples
+import model
+import resends
+from builders import a_piece, any_list, broken_list, good_table
+from dice import Dice
+from model import FLOW_SIZE, MOST_BOUND, MOST_OFFSET, STATES, Flow, Table, pack_flow, unpack_flow
+from resends import CIRCLE, HALF, HELD_SIZE, MOST_SEGMENT, Held
+from tape import digest, digest_words, u32
+
+SEED = 20261116
+MOST_WORDS = 600
+NEEDED = {"t": [0, 18], "o": [0], "g": [0, 1, 2, 3, 4, 6, 7, 8, 9, 14, 18]}
+
+
+def sown(count, seed):
+    return bytes((seed + 7 * (i % 256) + i // 256) % 256 for i in range(count))
+
+
+class Tape:
+    """The commands, and the lines that they answer."""
+
+    def __init__(self):
+        self.commands, self.lines, self.groups, self.counts = [], [], [], {}
+        self.list, self.table, self.record = b"", Table(b"", b"", b"", b""), b""
+        self.held, self.segment, self.first = Held(0, 0, b""), b"", 0
+
+    def group(self, name):
+        self.groups.append([name, 0])
+
+    def _say(self, letter, values):
+        self.lines.append("%s %s\n" % (letter, " ".join(str(int(value)) for value in values)))
+        self.groups[-1][1] += 1
+        if letter != "d":
+            key = letter, int(values[0])
+            self.counts[key] = self.counts.get(key, 0) + 1
+
+    def load_list(self, data):
+        self.list = data
+        self.commands.append(b"L" + u32(len(data)) + data)
+
+    def load_table(self, table):
+        self.table = table
+        self.commands.append(b"T" + b"".join(u32(len(data)) + data for data in table))
+
+    def load_record(self, record):
+        self.record = record
+        self.commands.append(b"R" + u32(len(record)) + record)
+
+    def sow_held(self, count, seed):
+        self.held = Held(self.held.start, self.held.length, sown(count, seed))
+        self.commands.append(b"H" + u32(count) + u32(seed))
+
+    def sow_segment(self, count, seed):
+        self.segment = sown(count, seed)
+        self.commands.append(b"S" + u32(count) + u32(seed))
+
+    def load_segment(self, data):
+        self.segment = data
+        self.commands.append(b"P" + u32(len(data)) + data)
+
+    def _due(self, after, held, start):
+        found = resends.due(after, held, start, self.segment)
+        return [*found, digest(resends.part(found, held, self.segment))]
+
+    def take(self, after, held_start, held_length, start):
+        self.commands.append(b"t" + b"".join(map(u32, (after, held_start, held_length, start))))
+        held = Held(held_start, held_length, self.held.buffer)
+        refusal, held = resends.take(after, held, start, self.segment)
+        self.held = Held(self.held.start, self.held.length, held.buffer)
+        self._say("t", [refusal, held.start, held.length, digest(held.buffer),
+                        *self._due(after, held, start)])
+
+    def due(self, after, held_start, held_length, start):
+        self.commands.append(b"d" + b"".join(map(u32, (after, held_start, held_length, start))))
+        self._say("d", self._due(after, Held(held_start, held_length, self.held.buffer), start))
+
+    def open(self, first):
+        self.commands.append(b"o" + u32(first))
+        self.first, self.held = first, Held(0, 0, self.held.buffer)
+        opened = model.open_flow(self.list, self.record, [0] * MOST_WORDS)
+        self.record = opened.record
+        self._say("o", [opened.refusal, opened.pairs, digest(self.record)])
+
+    def hear(self, bound, words, start):
+        self.commands.append(b"g" + b"".join(map(u32, (bound, words, start))))
+
+        def feed(record, at, room, piece):
+            if bound == 0:
+                return model.plain_feed(self.list, record, at, room, piece)
+            return model.split_feed(self.list, self.table, bound, record, at, room, piece)
+
+        heard = resends.hear(feed, self.record, self.first, self.held, start, self.segment,
+                             [0] * words)
+        self.record, self.held = heard.record, heard.held
+        self._say("g", [heard.refusal, len(heard.down), heard.pairs, heard.all, heard.held.start,
+                        heard.held.length, digest_words(heard.words), digest(heard.record),
+                        digest(heard.held.buffer)])
+        return heard
+
+
+def at(after, step):
+    return (after + step) % CIRCLE
+
+
+NEXTS = [0, 1, 10, 4096, 65535, HALF - 1, HALF, HALF + 1, CIRCLE - 1, CIRCLE - 2, CIRCLE - 4096,
+         CIRCLE - 65535]
+
+
+def a_next(dice):
+    return dice.pick(NEXTS) if dice.chance(60) else dice.below(CIRCLE)
+
+
+def worked(tape, dice):
+    """The worked cases: a held part at 13, of four bytes."""
+    tape.sow_held(HELD_SIZE, 68)
+    for after, start, count in ((10, 10, 3), (10, 8, 5), (10, 5, 5), (10, 13, 4), (10, 30, 0),
+                                (4294967294, 4294967290, 10), (10, 10 + HALF, 1),
+                                (10, 9 + HALF, 1), (10, 11 + HALF, 1)):
+        tape.sow_segment(count, 97)
+        tape.take(after, 0, 0, start)
+        tape.due(after, 0, 0, start)
+    for after, start, count in ((10, 10, 10), (13, 10, 10), (15, 10, 10), (17, 10, 10), (13, 30, 1),
+                                (17, 30, 1), (10, 13, 4), (10, 30, 0), (17, 30, 0)):
+        tape.sow_segment(count, 97)
+        tape.take(after, 13, 4, start)
+        tape.due(after, 13, 4, start)
+
+
+def sizes(tape, dice):
+    """Each size on both sides of its limit, beside good ones and beside each other."""
+    for turn in range(70):
+        for buffer in (0, HELD_SIZE - 1, HELD_SIZE, HELD_SIZE + 1):
+            after = a_next(dice)
+            tape.sow_held(buffer, turn)
+            tape.sow_segment(dice.pick([0, 1, 5]), turn)
+            tape.take(after, at(after, dice.between(-9, 9)), dice.below(5), at(after, dice.between(-3, 3)))
+        tape.sow_held(HELD_SIZE, turn)
+        for length in (0, 1, HELD_SIZE - 1, HELD_SIZE, HELD_SIZE + 1, CIRCLE - 1):
+            after = a_next(dice)
+            tape.sow_segment(dice.pick([0, 1, 5]), turn)
+            tape.take(after, at(after, dice.pick([-HELD_SIZE, -1, 0, 1, 5000])), length,
+                      at(after, dice.between(-3, 3)))
+            tape.due(after, at(after, dice.pick([-HELD_SIZE, -1, 0, 1])), length,
+                     at(after, dice.between(-3, 3)))
+    for turn in range(62):
+        for count in (HELD_SIZE - 1, HELD_SIZE, HELD_SIZE + 1):
+            after = a_next(dice)
+            tape.sow_held(HELD_SIZE, turn)
+            tape.sow_segment(count, turn + 1)
+            tape.take(after, at(after, -9), dice.pick([0, 9]), at(after, dice.pick([1, 2, HALF - 1, -1, 0])))
+        for count in (MOST_SEGMENT, MOST_SEGMENT + 1):
+            after = a_next(dice)
+            tape.sow_segment(count, turn)
+            tape.take(after, 0, 0, at(after, dice.pick([0, -1, -MOST_SEGMENT, 1 - MOST_SEGMENT, 1])))
+
+
+def places(tape, dice):
+    """Held parts and segments about the next byte, near the wrap and half the circle away."""
+    near = [-HALF, 1 - HALF, HALF - 1, HALF - 2, 0, 1, -1, 2, -2]
+    for turn in range(1500):
+        after = a_next(dice)
+        tape.sow_held(HELD_SIZE, dice.below(256))
+        tape.sow_segment(dice.pick([0, 1, 2, 3, 7, 20, 60]), dice.below(256))
+        held = dice.pick(near) if dice.chance(25) else dice.between(-40, 40)
+        mine = dice.pick(near) if dice.chance(25) else dice.between(-70, 40)
+        length = dice.pick([0, 1, 2, 5, 20, 39, 40, 41, HELD_SIZE])
+        tape.take(after, at(after, held), length, at(after, mine))
+        if turn % 2:
+            tape.due(after, at(after, held), length, at(after, mine))
+
+
+def claim(came, place, data):
+    """Bytes first consumed or held count: these at places from `place` on."""
+    for i, byte in enumerate(data):
+        came.setdefault(place + i, byte)
+
+
+def first_come(tape, dice, first, sample, bound, turns, rooms):
+    """A flow whose bytes come cut, twice, out of order and with other content. Here is checked that
+    what is passed down at each place is what came first for it, and that the pairs are those of one
+    plain feed of all that."""
+    came, stream, down, told = {}, a_piece(dice, sample, 400), b"", []
+    tape.open(first)
+    for _ in range(turns):
+        begin = max(0, len(down) + dice.pick([0, 0, 0, -1, -3, -9, 1, 4, 12, 40]))
+        data = bytes(stream[begin:begin + dice.pick([0, 1, 2, 5, 9, 20])])
+        if dice.chance(30):
+            data = a_piece(dice, sample, len(data))
+        tape.load_segment(data)
+        for _ in range(40):
+            held = tape.held
+            heard = tape.hear(bound, dice.pick(rooms), at(first, begin))
+            claim(came, len(down), heard.down)
+            assert bytes(came[len(down) + i] for i in range(len(heard.down))) == heard.down
+            down += heard.down
+            told += heard.words[:2 * heard.pairs]
+            if heard.held.length and heard.held[:2] != held[:2]:
+                claim(came, len(down) + resends.place(heard.held.start, at(first, len(down))),
+                      heard.held.buffer[:heard.held.length])
+            if heard.all or heard.refusal or not heard.down:
+                break
+    opened = model.open_flow(sample.data, bytes(FLOW_SIZE), [0] * MOST_WORDS)
+    once = model.plain_feed(sample.data, opened.record, 0, [0] * 100000, down)
+    assert once.all and once.words[:2 * once.pairs] == told
+    assert unpack_flow(once.record).frontier == unpack_flow(tape.record).frontier
+
+
+def flows(tape, dice):
+    for turn in range(120):
+        tape.sow_held(HELD_SIZE, turn)
+        tape.load_record(bytes(FLOW_SIZE))
+        bound = 0 if turn % 2 else dice.between(1, MOST_BOUND)
+        if bound:
+            sample, plan = good_table(dice, bound)
+            table = plan.table()
+            if max(map(len, (table.parts, table.splits))) > 4300 or len(table.rows) > 8192:
+                continue
+            tape.load_table(table)
+        else:
+            sample = any_list(dice)
+        if len(sample.data) > 4300:
+            continue
+        tape.load_list(sample.data)
+        first_come(tape, dice, a_next(dice), sample, bound, 14, [0, 2, 5, MOST_WORDS, MOST_WORDS])
+
+
+def limits(tape, dice):
+    """The last offsets: a part that ends past the largest gives 6."""
+    sample = any_list(dice)
+    while len(sample.data) > 4300:
+        sample = any_list(dice)
+    tape.load_list(sample.data)
+    tape.sow_held(HELD_SIZE, 1)
+    for turn in range(200):
+        tape.load_record(bytes(FLOW_SIZE))
+        tape.open(a_next(dice))
+        start = sample.nfa.starts
+        offset = MOST_OFFSET - dice.below(6)
+        tape.load_record(pack_flow(Flow(start, offset, dice.below(9))))
+        tape.load_segment(a_piece(dice, sample, dice.between(0, 9)))
+        tape.hear(0, MOST_WORDS, at(tape.first, offset - dice.below(4)))
+        tape.hear(0, MOST_WORDS, at(tape.first, offset + dice.between(-2, 2)))
+
+
+def refusals(tape, dice):
+    """Bad lists, records and tables, with segments due, dropped, ahead and too long."""
+    bound, table = 2, examples.TABLE
+    size = model.SPLIT_SIZE
+    records = [examples.LIST[i:i + 8] for i in range(0, len(examples.LIST), 8)]
+    sample = builders.Sample(records, [97, 98, 99], [0, 1, 2])
+    splits = table.splits
+    swapped = table._replace(splits=splits[size:2 * size] + splits[:size] + splits[2 * size:])
+    cut = table._replace(splits=splits[size:])
+    good = pack_flow(Flow(sample.nfa.starts, 5, 3))
+    for turn in range(66):
+        tape.sow_held(HELD_SIZE, turn)
+        tape.load_list(sample.data)
+        tape.load_table(table)
+        tape.load_record(bytes(FLOW_SIZE))
+        tape.open(a_next(dice))
+
+        def send(bound, record=good):
+            tape.load_record(record)
+            tape.load_segment(a_piece(dice, sample, dice.pick([0, 1, 4])))
+            tape.hear(bound, MOST_WORDS, at(tape.first, 5 + dice.pick([0, 0, -1, -9, 3])))
+
+        for number in (1, 2, 3):
+            tape.load_list(broken_list(dice, sample, number))
+            send(dice.pick([0, bound]))
+        tape.load_list(sample.data)
+        for record in (good[:-1], good + b"\0", good[:RESERVED] + b"\1" + good[RESERVED + 1:],
+                       pack_flow(Flow(sample.nfa.starts, 5, 5 * STATES + 1))):
+            send(dice.pick([0, bound]), record)
+        send(dice.pick([5, 6, 257]))
+        tape.load_table(table._replace(rows=table.rows[:-1]))
+        send(bound)
+        tape.load_table(swapped)
+        send(bound)
+        tape.load_table(cut)
+        tape.load_record(good)
+        tape.load_segment(a_piece(dice, sample, 4))
+        tape.hear(bound, MOST_WORDS, at(tape.first, 5))
+        tape.sow_held(dice.pick([HELD_SIZE - 1, HELD_SIZE + 1]), turn)
+        send(dice.pick([0, bound]), dice.pick([good, good[:-1]]))
+        tape.sow_held(HELD_SIZE, turn)
+
+
+def still_due(tape, dice):
+    """Held bytes whose pairs had no room are still due when another segment comes ahead: they go
+    first, and the other is then held and not refused."""
+    sample = builders.Sample([examples.LIST[i:i + 8] for i in range(0, len(examples.LIST), 8)],
+                             [97, 98, 99], [0, 1, 2])
+    tape.load_list(sample.data)
+    for turn in range(66):
+        tape.sow_held(HELD_SIZE, turn)
+        tape.load_record(bytes(FLOW_SIZE))
+        tape.open(a_next(dice))
+
+        def send(begin, data, words):
+            tape.load_segment(data)
+            return tape.hear(0, words, at(tape.first, begin))
+
+        held = b"b" + a_piece(dice, sample, dice.below(5))
+        ahead = 1 + len(held) + dice.between(1, 9)
+        send(1, held, MOST_WORDS)
+        before = send(0, b"a", dice.below(2))
+        assert before.down == b"a"
+        heard = send(ahead, a_piece(dice, sample, dice.between(1, 5)), MOST_WORDS)
+        assert heard.refusal == 0 and heard.down == held
+        send(0, a_piece(dice, sample, ahead), MOST_WORDS)
+
+
+RESERVED = model.RESERVED_AT
+GROUPS = (worked, sizes, places, flows, limits, refusals, still_due)
+
+
+def make():
+    tape, dice = Tape(), Dice(SEED)
+    for group in GROUPS:
+        tape.group(group.__name__)
+        group(tape, dice)
+    return tape
+
+
+def counts_text(tape):
+    lines = ["command  total  refusal:count"]
+    for letter, numbers in NEEDED.items():
+        found = {number: times for (key, number), times in tape.counts.items() if key == letter}
+        assert sorted(found) == numbers, (letter, found)
+        assert min(found.values()) >= 60, (letter, found)
+        lines.append("%-7s %6d  %s" % (letter, sum(found.values()),
+                                       " ".join("%d:%d" % (n, found[n]) for n in numbers)))
+    lines += ["", "group     lines"] + ["%-8s %6d" % (name, count) for name, count in tape.groups]
+    return "\n".join(lines) + "\n"
+
+
+def main():
+    tape = make()
+    here = Path(__file__).resolve().parent
+    target = here.parent.parent / "crates" / "resent"
+    (target / "stdin").write_bytes(b"".join(tape.commands))
+    (target / "stdout").write_text("".join(tape.lines))
+    text = counts_text(tape)
+    (here / "resends.txt").write_text(text)
+    sys.stderr.write(text)
+
+
+if __name__ == "__main__":
+    main()

@@ -1,0 +1,66 @@
+"""Wrong versions of the resend rules, one at a time: how many lines of the stream change.
+
+  python3 tools/second/wrong_resends.py [words]
+"""
+
+import sys
+
+sys.dont_write_bytecode = True
+
+import types
+from pathlib import Path
+
+HERE = Path(__file__).resolve().parent
+
+# A name, and what is changed in resends.py.
+WRONG = [
+    ("half the circle ahead is ahead", "(number - after + HALF) % CIRCLE - HALF", "(number - after + HALF - 1) % CIRCLE - HALF + 1"),
+    ("no wrap", "(number - after + HALF) % CIRCLE - HALF", "number - after"),
+    ("a place is never free", "return held.length == 0 or place(held.start, after) + held.length <= 0", "return held.length == 0"),
+    ("a place is free when its first byte came before", "place(held.start, after) + held.length <= 0", "place(held.start, after) < 0"),
+    ("not cut at the held part", "            end = min(end, first)\n", "            pass\n"),
+    ("cut one byte early", "end = min(end, first)", "end = min(end, first - 1)"),
+    ("the segment first", "    if first <= 0 < first + held.length:\n        return 1", "    mine = place(start, after)\n    if first <= 0 < first + held.length and not mine <= 0 < mine + len(segment):\n        return 1"),
+    ("the new segment takes the held place", "if not free(after, held) or len(segment) > HELD_SIZE:", "if len(segment) > HELD_SIZE:"),
+    ("4,096 bytes are not held", "len(segment) > HELD_SIZE:\n            return 18", "len(segment) >= HELD_SIZE:\n            return 18"),
+    ("65,535 bytes are refused", "len(segment) > MOST_SEGMENT", "len(segment) >= MOST_SEGMENT"),
+    ("4,096 held bytes are refused", "held.length > HELD_SIZE", "held.length >= HELD_SIZE"),
+    ("a larger buffer passes", "len(held.buffer) != HELD_SIZE", "len(held.buffer) < HELD_SIZE"),
+    ("an empty segment ahead is held", "if segment and place(start, after) > 0:", "if place(start, after) > 0:"),
+    ("the door looks at no rule", "    if door.refusal:\n", "    if door.refusal and part(due((first + offset) % CIRCLE, held, start, segment), held, segment):\n"),
+    ("one look", "        if not all_of_it:\n", "        if True:\n"),
+    ("18 of the first look stays", "        refusal, held = take(after, held, start, segment)\n", "        refusal, held = take(after, held, start, segment)\n        early = early if down else refusal\n        refusal = max(refusal, early)\n"),
+]
+
+
+def lines(source):
+    """The lines of the stream, with the rules as `source` says."""
+    for name in ("resends", "make_resends"):
+        sys.modules.pop(name, None)
+    module = types.ModuleType("resends")
+    sys.modules["resends"] = module
+    exec(compile(source, "resends.py", "exec"), module.__dict__)
+    import make_resends
+    # A wrong version may pass down other bytes: here only its lines count.
+    text = (HERE / "make_resends.py").read_text().replace("assert ", "None and ")
+    changed = types.ModuleType("make_resends")
+    exec(compile(text.replace('__name__ == "__main__"', "False"), "make_resends.py", "exec"), changed.__dict__)
+    return changed.make()
+
+
+def main():
+    sys.path.insert(0, str(HERE))
+    words = sys.argv[1:]
+    source = (HERE / "resends.py").read_text()
+    right = lines(source)
+    for name, old, new in WRONG:
+        if words and not any(word in name for word in words):
+            continue
+        assert source.count(old) == 1, name
+        wrong = lines(source.replace(old, new))
+        count = sum(a != b for a, b in zip(right.lines, wrong.lines)) + abs(len(right.lines) - len(wrong.lines))
+        print("%-50s %6d" % (name, count), flush=True)
+        assert count, name
+
+
+main()
