@@ -7,13 +7,14 @@ use Rattle.sets.specs.Set.{setWords, setSize, setOf, setBytes, compare}
 use Rattle.sets.proofs.Laws.{Small}
 use Rattle.sets.proofs.Sets.{words-lt}
 use Rattle.sets.proofs.Whole.{valid-of}
+use Rattle.sets.proofs.Halving.{Between, between-start, compared-right, compared-left}
 use Rattle.tables.specs.Table.{splitCount, splitSet}
-use Rattle.tables.proofs.Halving.{splits-rise, Between, between-start, between-right, between-left, between-found, between-none, split-lt, compared-same, compared-before, compared-after}
+use Rattle.tables.proofs.Halving.{splitStrings, splits-rise, between-found, between-none, split-lt, compared-same, same-length}
 use Rattle.tables.proofs.find_sorted.Statement.{statement}
 use Rattle.tables.proofs.find_sorted.Tie as tie
 
 abbrev Inv-loop : tie.InvT-loop
-Inv-loop splits f n lo₀ hi₀ lo hi = Between (splitSet splits) (splitCount splits) (setOf f) lo hi
+Inv-loop splits f n lo₀ hi₀ lo hi = Between (splitStrings splits) (splitCount splits) (setBytes (setOf f)) lo hi
 
 abbrev μ-loop : tie.MeasureT-loop
 μ-loop splits f n lo₀ hi₀ lo hi = hi - lo
@@ -47,7 +48,7 @@ split-count-requires c κs = search needs
 
 loop-holds : tie.Need-loop-holds Inv-loop μ-loop
 loop-holds c =
-    between-start (splitSet (c .before .before .args .splits .now)) (splitCount (c .before .before .args .splits .now)) (setOf (c .before .before .args .f)) (c .split-count .result) (c .split-count .ensures)
+    between-start (splitStrings (c .before .before .args .splits .now)) (splitCount (c .before .before .args .splits .now)) (setBytes (setOf (c .before .before .args .f))) (c .split-count .result) (c .split-count .ensures)
 
 add-mid : tie.Need-add-mid Inv-loop μ-loop
 add-mid c = omega (arith, c .before .loop .inv .order, c .before .loop .inv .most)
@@ -76,8 +77,8 @@ loop-again : tie.Need-loop-again Inv-loop μ-loop
 loop-again c =
     let h = c .before .before .before .before in
     let S = entry h .args .splits .now in
-    between-right (splitSet S) (splitCount S) (splits-rise S (bytes h) (entry h .pre)) (sought h) (h .loop .lo) (h .loop .hi) (middle h) (h .loop .inv)
-    (omega arith) (omega arith) (compared-before (splitSet S (middle h)) (sought h) (split-lt S (bytes h) (middle h)) (small h) (said (c .before .before) ∙ c .if2 .taken))
+    compared-right (splitStrings S) (splitCount S) (splits-rise S (bytes h) (entry h .pre)) (setBytes (sought h)) (h .loop .lo) (h .loop .hi) (middle h) (h .loop .inv)
+    (omega arith) (omega arith) (same-length (splitSet S (middle h)) (sought h)) (said (c .before .before) ∙ c .if2 .taken)
 
 loop-less-2 : tie.Need-loop-less-2 Inv-loop μ-loop
 loop-less-2 c = search needs
@@ -87,8 +88,8 @@ loop-again-2 c =
     let h = c .before .before .before .before in
     let S = entry h .args .splits .now in
     let met = said (c .before .before) in
-    between-left (splitSet S) (splitCount S) (splits-rise S (bytes h) (entry h .pre)) (sought h) (h .loop .lo) (h .loop .hi) (middle h) (h .loop .inv)
-    (omega arith) (omega arith) (compared-after (splitSet S (middle h)) (sought h) (split-lt S (bytes h) (middle h)) (small h) (λ z. c .before .if1 .left (sym met ∙ z)) (λ z. c .if2 .left (sym met ∙ z)))
+    compared-left (splitStrings S) (splitCount S) (splits-rise S (bytes h) (entry h .pre)) (setBytes (sought h)) (h .loop .lo) (h .loop .hi) (middle h) (h .loop .inv)
+    (omega arith) (omega arith) (same-length (splitSet S (middle h)) (sought h)) (λ z. c .before .if1 .left (sym met ∙ z)) (λ z. c .if2 .left (sym met ∙ z))
 
 returns-2 : tie.Need-returns-2 Inv-loop μ-loop
 returns-2 c =
