@@ -84,6 +84,13 @@
  * of such an automaton is WATCH_X_FLOW_SIZE bytes: state 2, zero 2, offset 4, bits 8 (bit 0 is worth 1 of its first byte), then the counters, 4
  * bytes each, with WATCH_X_OFF for off.
  *
+ * A certificate that such an automaton is a list's is up to WATCH_MOST_NOTES records of WATCH_NOTE_SIZE bytes, in any order: a flow record
+ * without its offset, then a set of the list's states. watch_check_certificate accepts it exactly if each record's fields are good, no
+ * configuration (state, bits and counters) is there twice, the start configuration after its program is there with the start set, each byte leads
+ * each record to a configuration that is there with the list's step of the set, and the program that runs then alerts exactly the signatures
+ * which the new set accepts; so does the program at opening. Records that nothing reaches are tested as the others are. From opening on, a flow
+ * of that automaton and a flow of the list are then told the same pairs, however the bytes are cut.
+ *
  *
  * SEGMENTS
  *
@@ -103,7 +110,7 @@
  *
  * REFUSALS
  *
- * A refusal is one of these numbers, and 0 where there is none. Where several apply, the lowest is given, but 17 before 16 and 24 before all others.
+ * A refusal is one of these numbers, and 0 where there is none. Where several apply, the lowest is given, but 17 before 16, and 24 before all others than 1 to 3.
  *
  *      1   the list's length is 0, over WATCH_MOST_LIST, or no multiple of WATCH_RECORD_SIZE
  *      2   a record of the list has another kind, a reserved byte that is not zero, a byte 3 of an edge that is over 1, low > high, a
@@ -131,6 +138,7 @@
  *     17   building: a lent list is shorter than WATCH_LENT_CLASSES, WATCH_LENT_PARTS, WATCH_LENT_ROWS or WATCH_LENT_SPLITS bytes
  *     18   of a segment: it has more than WATCH_MOST_SEGMENT bytes, held_len is not WATCH_HELD_SIZE, held_length is over that; or it begins
  *          ahead, and another segment is held or it has more than WATCH_HELD_SIZE bytes
+ *     22   of a certificate: not a whole number of records, or over WATCH_MOST_NOTES of them; or it does not show what it has to, as said above
  *     24   of an automaton with bits and counters: a list has a wrong length, or the two are of other numbers of states; a target is no state; a
  *          record has another kind, a bit that is not below WATCH_X_BITS, a counter that is not below WATCH_X_COUNTERS, a signature that is
  *          not below WATCH_SIGNATURES, or a field that is not used and not 0. Every program is tested, reached or not
@@ -143,7 +151,7 @@
  * The list check gives 1 to 3; opening 1 to 4 and 15; the plain feed 1 to 6; the table check 1 to 3 and 7 to 13; the split feed 1 to 9,
  * and 14 per byte; the filler of a matrix 1 to 3 and 8; the matrix feed 1 to 6 and 8; the filler of an index 1 to 3 and 7 to 13; the prepared
  * feed 4 to 6 and 8, and 14 per byte; building 1 to 3, then 17, then 16; taking a segment 18; the watch_x_ functions 24, their opening then
- * 4 and 15, their feed 4, 5 and 6. A refusal other than 14 and 16 changes no buffer.
+ * 4 and 15, their feed 4, 5 and 6; the check of a certificate 1 to 3, then 24, then 22. A refusal other than 14 and 16 changes no buffer.
  *
  *
  * WHAT THE CALLER OWES
@@ -166,11 +174,13 @@
  *
  * COST AND CONTEXT
  *
- *   - Stack: WATCH_MOST_STACK bytes below the caller's frame at most, whatever the input, return addresses and red zone counted. tools/stack
- *     reads the number off the archive for each function, and tools/test-outside holds this one to it.
+ *   - Stack: WATCH_MOST_STACK bytes below the caller's frame at most, whatever the input, return addresses and red zone counted; that is for
+ *     watch_check_certificate, which keeps the places of the records there, and all others take 1,600 at most. tools/stack reads the number off
+ *     the archive for each function, and tools/test-outside holds this one to it.
  *   - No heap, no statics, no locks, no system calls: the archive has no data that can be written, and calls nothing outside itself but C's
- *     memset, which clears a matrix that is filled; a compiler asks for it without an operating system too. Its stack is not in the number
- *     above. So every function is reentrant: threads, tasks and signal handlers may be in it at once, each with its own flow and pairs.
+ *     memset, which clears a matrix that is filled and the places of a certificate's records; a compiler asks for it without an operating system
+ *     too. Its stack is not in the number above. So every function is reentrant: threads, tasks and signal handlers may be in it at once, each
+ *     with its own flow and pairs.
  *   - The code uses the general registers, the registers of SSE2 and the 128 bytes below the stack pointer, the red zone. So it is not for a
  *     bare interrupt, nor for a kernel that leaves those to the task that it interrupts: wake a task, and call from there.
  *   - Every call ends; that is proved. Its work is bounded by the lengths that it is given, and grows as docs/PERFORMANCE.md shows.
@@ -200,10 +210,10 @@ extern "C" {
 #endif
 
 /* The version of the face that this header describes. */
-#define WATCH_VERSION 11
+#define WATCH_VERSION 12
 
 /* Bytes of stack that a call takes at most. */
-#define WATCH_MOST_STACK 1600
+#define WATCH_MOST_STACK 9920
 
 /* States are the numbers below this one. */
 #define WATCH_STATES 1024
@@ -278,6 +288,10 @@ extern "C" {
 #define WATCH_MOST_SEGMENT 65535
 #define WATCH_HELD_SIZE 4096
 
+/* Of a certificate: the bytes of a record, a flow record of such an automaton without its offset and a set, and the most records. */
+#define WATCH_NOTE_SIZE 204
+#define WATCH_MOST_NOTES 4096
+
 /* The refusals by name, and what is answered where there is none. The functions answer them as numbers. */
 enum watch_refusal {
     WATCH_PASSED = 0,
@@ -299,6 +313,7 @@ enum watch_refusal {
     WATCH_REFUSED_TOO_MANY = 16,
     WATCH_REFUSED_LENT_LISTS = 17,
     WATCH_REFUSED_SEGMENT = 18,
+    WATCH_REFUSED_CERTIFICATE = 22,
     WATCH_REFUSED_MACHINE = 24
 };
 
@@ -513,6 +528,13 @@ watch_part watch_due(uint32_t next,
                      uint32_t segment_start,
                      const uint8_t *segment, size_t segment_len);
 
+/* The check of a certificate that an automaton with bits and counters is a list's: 0, or 1 to 3, then 24, then 22. It makes a step of the list and
+ * of the automaton for each record and byte. */
+uint32_t watch_check_certificate(const uint8_t *list, size_t list_len,
+                                 const uint8_t *moves, size_t moves_len,
+                                 const uint8_t *programs, size_t programs_len,
+                                 const uint8_t *certificate, size_t certificate_len);
+
 /* A size as text within a sentence. */
 #define WATCH_TEXT_OF(tokens) #tokens
 #define WATCH_TEXT(size) WATCH_TEXT_OF(size)
@@ -564,6 +586,9 @@ static inline const char *watch_refusal_text(uint32_t n)
     case WATCH_REFUSED_SEGMENT:
         return "the segment has more than " WATCH_TEXT(WATCH_MOST_SEGMENT) " bytes, the held buffer is not of " WATCH_TEXT(WATCH_HELD_SIZE)
                " bytes or more are held, or the segment begins ahead and cannot be held";
+    case WATCH_REFUSED_CERTIFICATE:
+        return "the certificate has a wrong length, a record has a bad field or a configuration that another has, or it does not show that the automaton "
+               "is the list's";
     case WATCH_REFUSED_MACHINE:
         return "the moves or the programs have a wrong length, a target is no state, or a record has another kind, a bit, counter or signature "
                "that there is not, or an unused field that is not zero";

@@ -4,16 +4,23 @@ use crate::ordinary::Fed;
 const MOVE_SIZE: usize = 512;
 const PROGRAM_SIZE: usize = 32;
 pub const FLOW_SIZE: usize = 80;
-const OFF: u32 = 65536;
+pub const OFF: u32 = 65536;
 
 #[derive(Clone, Copy)]
-struct Config {
-    state: usize,
-    bits: u64,
-    counters: [u32; 16],
+pub struct Config {
+    pub state: usize,
+    pub bits: u64,
+    pub counters: [u32; 16],
 }
 
-fn two(b: &[u8]) -> u16 {
+/// What the start state's program runs on.
+pub const START: Config = Config {
+    state: 0,
+    bits: 0,
+    counters: [OFF; 16],
+};
+
+pub fn two(b: &[u8]) -> u16 {
     u16::from_le_bytes([b[0], b[1]])
 }
 
@@ -31,7 +38,7 @@ fn good_record(r: &[u8]) -> bool {
     }
 }
 
-fn check(moves: &[u8], programs: &[u8]) -> u32 {
+pub fn check(moves: &[u8], programs: &[u8]) -> u32 {
     let states = moves.len() / MOVE_SIZE;
     if moves.is_empty()
         || moves.len() % MOVE_SIZE != 0
@@ -51,7 +58,7 @@ fn check(moves: &[u8], programs: &[u8]) -> u32 {
     }
 }
 
-fn run(program: &[u8], x: &mut Config) -> [u64; 4] {
+pub fn run(program: &[u8], x: &mut Config) -> [u64; 4] {
     let mut alerts = [0u64; 4];
     for r in program.chunks_exact(4) {
         let (w, n) = (r[1] as usize, two(&r[2..]) as usize);
@@ -139,11 +146,7 @@ fn open(moves: &[u8], programs: &[u8], flow: &mut [u8], pairs: &mut [u32]) -> (u
     if flow.len() != FLOW_SIZE {
         return (4, 0);
     }
-    let mut x = Config {
-        state: 0,
-        bits: 0,
-        counters: [OFF; 16],
-    };
+    let mut x = START;
     let alerts = run(&programs[..PROGRAM_SIZE], &mut x);
     let n = many(&alerts);
     if pairs.len() / 2 < n {
@@ -386,7 +389,7 @@ pub fn proved(work: &Work, record: &mut [u8], pairs: &mut [u32]) -> Fed {
 // The rows
 
 /// The two lists of so many states, with the target of each state and byte, and the programs of some states.
-fn machine(
+pub fn machine(
     states: usize,
     lead: fn(usize, usize) -> usize,
     programs: &[(usize, &[(u8, u8, u16)])],

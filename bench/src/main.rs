@@ -8,6 +8,7 @@
 //! bench/count uses the other two: `bench rows` names the archive, and then for each row its number, how many calls a turn has, and its
 //! name; `bench turn SIDE ROW CALLS` makes these calls of one side, and says how many bytes each consumes, or - where the row is about calls. A
 //! third side, hash, is there for the split feed: Rust that looks the splits up in a hash map.
+mod certificates;
 mod clock;
 mod extended;
 mod inputs;
@@ -51,6 +52,7 @@ struct Side {
     build: fn(&[u8], ordinary::Lists) -> ordinary::Built,
     extended: fn(&extended::Work, &mut [u8], &mut [u32]) -> Fed,
     segment: fn(&resends::Work, &mut [u8]) -> Fed,
+    check_certificate: fn(&certificates::Work) -> u32,
 }
 
 const PROVED: Side = Side {
@@ -66,6 +68,7 @@ const PROVED: Side = Side {
     build: proved::build,
     extended: extended::proved,
     segment: resends::proved,
+    check_certificate: certificates::proved,
 };
 
 const ORDINARY: Side = Side {
@@ -81,6 +84,7 @@ const ORDINARY: Side = Side {
     build: ordinary::build,
     extended: extended::by_rust,
     segment: resends::by_rust,
+    check_certificate: certificates::by_rust,
 };
 
 /// What a row calls, and on what.
@@ -122,6 +126,7 @@ enum Call {
     Build,
     Extended(extended::Work),
     Segment(resends::Work),
+    CheckCertificate(certificates::Work),
 }
 
 /// A row of the table: its name, how many calls a turn of bench/count has, and what makes its list and call.
@@ -287,6 +292,7 @@ impl Work {
                 buffers.held.resize(resends::HELD_SIZE, 0xAA);
                 (side.segment)(work, &mut buffers.held)
             }
+            Call::CheckCertificate(work) => checked((side.check_certificate)(work)),
         }
     }
 
@@ -788,6 +794,13 @@ fn rows() -> Vec<Row> {
             name.to_string(),
             turn,
             Box::new(move || (Vec::new(), Call::Segment(make()))),
+        );
+    }
+    for (name, turn, make) in certificates::rows() {
+        row(
+            name.to_string(),
+            turn,
+            Box::new(move || (Vec::new(), Call::CheckCertificate(make()))),
         );
     }
     let wanted = std::env::var("ROWS").unwrap_or_default();

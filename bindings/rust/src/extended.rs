@@ -22,8 +22,8 @@
 //! # Ok::<(), watch::Refusal>(())
 //! ```
 
-use crate::{archive_version, pairs_in, raw, Fed, Pair, Refusal};
-use crate::{ENOUGH_WORDS, VERSION, X_COUNTERS, X_FLOW_SIZE, X_MOVES_SIZE, X_OFF};
+use crate::{archive_version, pairs_in, raw, Fed, List, Pair, Refusal};
+use crate::{ENOUGH_WORDS, NOTE_SIZE, VERSION, X_COUNTERS, X_FLOW_SIZE, X_MOVES_SIZE, X_OFF};
 
 /// An automaton with bits and counters that has passed its check.
 ///
@@ -73,6 +73,77 @@ impl<'a> Machine<'a> {
     /// The number of states.
     pub fn states(&self) -> usize {
         self.moves.len() / X_MOVES_SIZE
+    }
+}
+
+/// A certificate that has passed: the automaton is the list's. It is proved that from opening both feeds then tell the same pairs, however the bytes are
+/// cut; so the automaton may be run in the list's place, whoever made it.
+///
+/// It has at most [`MOST_NOTES`](crate::MOST_NOTES) records of [`NOTE_SIZE`] bytes, in any order: a flow record of the automaton without its offset,
+/// then a set of the list's states.
+///
+/// ```
+/// use watch::extended::{Certificate, Machine};
+/// use watch::{List, Refusal, NOTE_SIZE, SET_SIZE};
+///
+/// // A list of one state that loops on every byte, an automaton of one state, and the one configuration that it ever has.
+/// let rules = *b"\x01\x00\xFF\0\0\0\0\0\x02\0\0\0\0\0\0\0";
+/// let (list, machine) = (List::check(&rules)?, Machine::check(&[0; 512], &[0; 32])?);
+/// let mut bytes = vec![0; NOTE_SIZE];
+/// for counter in 0..16 {
+///     bytes[12 + 4 * counter + 2] = 1; // off: 65,536
+/// }
+/// bytes[NOTE_SIZE - SET_SIZE] = 1; // the set of state 0
+/// assert_eq!(Certificate::check(&list, &machine, &bytes)?.records(), 1);
+/// assert_eq!(Certificate::check(&list, &machine, &[]), Err(Refusal::Certificate));
+/// # Ok::<(), Refusal>(())
+/// ```
+#[derive(Clone, Copy, Debug, PartialEq, Eq)]
+pub struct Certificate<'a> {
+    list: List<'a>,
+    machine: Machine<'a>,
+    bytes: &'a [u8],
+}
+
+impl<'a> Certificate<'a> {
+    /// Checks a certificate: refusal 22. It works through each record on each byte, so its time is that of a walk of the list for each of them.
+    pub fn check(list: &List<'a>, machine: &Machine<'a>, bytes: &'a [u8]) -> Result<Certificate<'a>, Refusal> {
+        let rules = list.as_bytes();
+        // SAFETY: each pointer and length is that of a slice that is borrowed over the call.
+        let number = unsafe {
+            raw::watch_check_certificate(
+                rules.as_ptr(),
+                rules.len(),
+                machine.moves.as_ptr(),
+                machine.moves.len(),
+                machine.programs.as_ptr(),
+                machine.programs.len(),
+                bytes.as_ptr(),
+                bytes.len(),
+            )
+        };
+        Refusal::verdict(number)?;
+        Ok(Certificate { list: *list, machine: *machine, bytes })
+    }
+
+    /// The list whose pairs the automaton tells.
+    pub fn list(&self) -> List<'a> {
+        self.list
+    }
+
+    /// The automaton.
+    pub fn machine(&self) -> Machine<'a> {
+        self.machine
+    }
+
+    /// The certificate's bytes.
+    pub fn as_bytes(&self) -> &'a [u8] {
+        self.bytes
+    }
+
+    /// The number of records.
+    pub fn records(&self) -> usize {
+        self.bytes.len() / NOTE_SIZE
     }
 }
 

@@ -80,7 +80,8 @@
 //!
 //! # Bits and counters
 //!
-//! [`extended`] is another kind of automaton, for signatures whose lists would be huge, such as "a line longer than 300 after this word".
+//! [`extended`] is another kind of automaton, for signatures whose lists would be huge, such as "a line longer than 300 after this word". A
+//! [`Certificate`](extended::Certificate) that passes says that one of them tells just the pairs of a list.
 //!
 //! # Resends
 //!
@@ -127,6 +128,7 @@ pub use sizes::{
     MOST_SPLITS, OFFSET_AT, RECORD_SIZE, RESERVED_AT, ROWS_AT, ROW_SIZE, SET_SIZE, SIGNATURES, SLOTS, SPLIT_SIZE,
     STATES, UNUSED, VERSION, X_BITS, X_COUNTERS, X_FLOW_SIZE, X_MOVES_SIZE, X_OFF, X_PROGRAM_SIZE, X_STATES,
 };
+pub use sizes::{MOST_NOTES, NOTE_SIZE};
 
 use core::fmt;
 

@@ -258,4 +258,16 @@ extern "C" {
         segment: *const u8,
         segment_len: usize,
     ) -> WatchPart;
+
+    /// The check of a certificate that an automaton with bits and counters is a list's: refusals 1 to 3, then 24, then 22.
+    pub fn watch_check_certificate(
+        list: *const u8,
+        list_len: usize,
+        moves: *const u8,
+        moves_len: usize,
+        programs: *const u8,
+        programs_len: usize,
+        certificate: *const u8,
+        certificate_len: usize,
+    ) -> u32;
 }

@@ -4,8 +4,8 @@ use crate::{
 };
 use core::fmt;
 
-/// Why a call was refused. Each has a [`number`](Refusal::number), 1 to 18 or 24; of several that apply, the lowest is given, but 17 before 16, and 18
-/// of a segment's sizes and 24 before all others.
+/// Why a call was refused. Each has a [`number`](Refusal::number), 1 to 18, 22 or 24; of several that apply, the lowest is given, but 17 before 16, 18
+/// of a segment's sizes before all others, and 24 before all others that are not of a list.
 ///
 /// ```
 /// use watch::{List, Refusal, MOST_LIST, RECORD_SIZE};
@@ -60,6 +60,9 @@ pub enum Refusal {
     /// 18: a segment over [`MOST_SEGMENT`] bytes, or one that begins ahead and cannot be held: another is, or it has more than
     /// [`HELD_SIZE`] bytes.
     Segment = 18,
+    /// 22: a certificate's length or a field of it is bad, a configuration is there twice, the start configuration is not there with the start set, a step
+    /// leads to no record with the list's step of the set, or the alerts of a step or at opening are not what the set accepts.
+    Certificate = 22,
     /// 24: moves or programs have a wrong length, a target is no state, or a record has another kind, a bit over 63, a counter over 15, a
     /// signature over 255, or an unused field that is not zero.
     Machine = 24,
@@ -86,10 +89,11 @@ impl Refusal {
         Refusal::TooMany,
         Refusal::LentLists,
         Refusal::Segment,
+        Refusal::Certificate,
         Refusal::Machine,
     ];
 
-    /// The refusal's number, 1 to 18 or 24.
+    /// The refusal's number, 1 to 18, 22 or 24.
     pub const fn number(self) -> u32 {
         self as u32
     }
@@ -160,6 +164,10 @@ impl fmt::Display for Refusal {
             Refusal::Segment => write!(
                 f,
                 "a segment over {MOST_SEGMENT} bytes, or one that begins ahead while another is held or with more than {HELD_SIZE} bytes"
+            ),
+            Refusal::Certificate => f.write_str(
+                "a certificate's length or a field of it is bad, a configuration is there twice, the start configuration is not there with \
+                 the start set, a step leads to no record with the list's step of the set, or its alerts are not what that set accepts",
             ),
             Refusal::Machine => f.write_str(
                 "moves or programs have a wrong length, a target is no state, or a record has another kind, a bit over 63, \

@@ -2,7 +2,7 @@
 //! is written so. `tools/sizes` in the repository holds them to the constants of the proved code.
 
 /// The version of the C face that this crate is written for. [`List::check`](crate::List::check) compares it with the archive's.
-pub const VERSION: u32 = 11;
+pub const VERSION: u32 = 12;
 
 /// States are the numbers below this one.
 pub const STATES: usize = 1024;
@@ -114,3 +114,9 @@ pub const MOST_SEGMENT: usize = 65_535;
 
 /// Bytes of the held buffer.
 pub const HELD_SIZE: usize = 4096;
+
+/// Bytes in a record of a certificate: a flow record of an automaton with bits and counters without its offset, then a set of list states.
+pub const NOTE_SIZE: usize = X_FLOW_SIZE - 4 + SET_SIZE;
+
+/// The most records of a certificate.
+pub const MOST_NOTES: usize = 4096;

@@ -2,43 +2,13 @@
 //! compares each line with `crates/extended_vectors/stdout`; and feeds the worked example, `examples/long-line`, beside its list. Every buffer is a
 //! heap block of exactly its length. `WATCH_VECTORS` may name a smaller number of lines.
 
-use std::path::PathBuf;
+mod stream;
+
+use stream::{most_lines, read, Reader};
 use watch::extended::{Flow, Machine};
 use watch::{raw, List, Pair, Refusal, X_FLOW_SIZE, X_OFF};
 
 const WORD_FILL: u32 = 2_774_138_880;
-
-fn read(path: &str) -> Vec<u8> {
-    let path = PathBuf::from(env!("CARGO_MANIFEST_DIR")).join("../..").join(path);
-    std::fs::read(&path).unwrap_or_else(|error| panic!("{}: {error}", path.display()))
-}
-
-struct Reader<'a>(&'a [u8]);
-
-impl<'a> Reader<'a> {
-    fn take(&mut self, count: usize) -> &'a [u8] {
-        let (front, rest) = self.0.split_at(count);
-        self.0 = rest;
-        front
-    }
-
-    fn number(&mut self, count: usize) -> u64 {
-        self.take(count).iter().rev().fold(0, |n, byte| n << 8 | u64::from(*byte))
-    }
-
-    /// A length, and its bytes in runs: how many zeros, how many bytes after them, these bytes.
-    fn block(&mut self) -> Box<[u8]> {
-        let length = self.number(4) as usize;
-        let mut bytes = Vec::with_capacity(length);
-        while bytes.len() < length {
-            let (zeros, count) = (self.take(1)[0], self.take(1)[0]);
-            bytes.resize(bytes.len() + usize::from(zeros), 0);
-            bytes.extend(self.take(count.into()));
-        }
-        assert_eq!(bytes.len(), length, "runs of a block");
-        bytes.into()
-    }
-}
 
 fn digest(bytes: impl IntoIterator<Item = u8>) -> u64 {
     bytes.into_iter().fold(0, |h, byte| (h * 257 + u64::from(byte) + 1) % 4_294_967_291)
@@ -108,8 +78,7 @@ impl State {
 
 #[test]
 fn vectors() {
-    let most =
-        std::env::var("WATCH_VECTORS").map_or(usize::MAX, |text| text.parse().expect("WATCH_VECTORS is a number"));
+    let most = most_lines();
     let (stdin, stdout) = (read("crates/extended_vectors/stdin"), read("crates/extended_vectors/stdout"));
     let mut expected = std::str::from_utf8(&stdout).unwrap().lines().enumerate();
     let (mut reader, mut state, mut lines) = (Reader(&stdin), State::default(), 0);

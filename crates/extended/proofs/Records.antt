@@ -180,11 +180,11 @@ good-flow n R e =
     }
 
 -- counters read one by one
-pub counters-read : (R c : List ℕ) → length c ≡ counterCount → ((j : ℕ) → j < counterCount → getD c j 0 ≡ num 8 (take 4 (drop (16 + 4 * j) R))) → c ≡ configOf R .counters
-unfolding configAt
-counters-read R c l h =
-    ext-getD 0 c (fours counterCount (drop 16 R)) (l ∙ sym (fours-length counterCount (drop 16 R)))
-    (λ j m. h j (omega arith) ∙ sym (fours-at counterCount (drop 16 R) j (omega arith) ∙ ap (λ (b : List ℕ). num 8 (take 4 b)) (drop-drop (4 * j) 16 R)))
+pub counters-read : (b : List ℕ) (at : ℕ) (c : List ℕ) → length c ≡ counterCount
+    → ((j : ℕ) → j < counterCount → getD c j 0 ≡ num 8 (take 4 (drop (at + 4 * j) b))) → c ≡ fours counterCount (drop at b)
+counters-read b at c l h =
+    ext-getD 0 c (fours counterCount (drop at b)) (l ∙ sym (fours-length counterCount (drop at b)))
+    (λ j m. h j (omega arith) ∙ sym (fours-at counterCount (drop at b) j (omega arith) ∙ ap (λ (b : List ℕ). num 8 (take 4 b)) (drop-drop (4 * j) at b)))
 
 module _ (R : List ℕ) (h : Bytes R) where
   -- what is read of bytes has a record

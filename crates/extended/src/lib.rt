@@ -16,7 +16,7 @@ ghost use Rattle.feeds.specs.Opening.{Opens};
 ghost use Rattle.extended.specs.Program.{counterCount, programLength, lower, bitsBy, countersBy, alertNow, word};
 ghost use Rattle.extended.specs.Machine.{mostStates, byteValues, moveSize, programSize, stateCount, move, badLengths, goodTarget, goodInstruction, goodRecord};
 ghost use Rattle.extended.specs.Machine.{badMachine, machineRefusal, idle, machine};
-ghost use Rattle.extended.specs.Record.{flowSize, offsetOf, configOf, fourBytes, flowBytes, goodCounters, badFlow, flowRules};
+ghost use Rattle.extended.specs.Record.{flowSize, offsetOf, fours, configAt, configOf, fourBytes, flowBytes, goodCounters, badFlow, flowRules};
 ghost use Rattle.extended.specs.Extended.{firstRules, extendedOpen, feedRules, extendedFeed};
 ghost use Rattle.extended.specs.Ran.{Runs, Programs, TellsRoom, Leaves};
 
@@ -87,9 +87,9 @@ struct Counters {
 }
 
 // What a program leaves: the configuration, and the signatures that it alerts.
-struct Step {
-    config: Config,
-    alerts: SigSet,
+pub struct Step {
+    pub config: Config,
+    pub alerts: SigSet,
 }
 
 // What the loop of a feed leaves: the configuration, the bytes consumed and the words written.
@@ -171,7 +171,7 @@ fn good_programs(programs: &[u8]) -> bool
 }
 
 // Says whether rule 24 refuses the machine.
-fn bad_machine(moves: &[u8], programs: &[u8]) -> bool
+pub fn bad_machine(moves: &[u8], programs: &[u8]) -> bool
     ensures { λ r. ⌜ r ≡ badMachine (now (moves .entry)) (now (programs .entry)) ⌝ }
 {
     if bad_lengths(moves, programs) {
@@ -214,7 +214,7 @@ fn idle(programs: &[u8], q: usize) -> bool
 }
 
 // The state that byte c leads to from state q.
-fn target(moves: &[u8], q: usize, c: u8) -> usize
+pub fn target(moves: &[u8], q: usize, c: u8) -> usize
     requires { ⌜ q < stateCount (now moves) ⌝ }
     ensures { λ r. ⌜ r ≡ move (now (moves .entry)) q c ⌝ }
 {
@@ -306,7 +306,7 @@ fn run_record(programs: &[u8], i: usize, bits: u64, counters: &mut [u32], alerts
 }
 
 // Runs the program of state q on a configuration that is moved there.
-fn run_program(programs: &[u8], q: usize, x: Config) -> Step
+pub fn run_program(programs: &[u8], q: usize, x: Config) -> Step
     requires { ⌜ (programSize * q + programSize ≤ length (now programs)) × (every (programLength * q + programLength) (goodRecord (now programs)) ≡ true) ⌝ }
     ensures { λ s. ⌜ Programs (now (programs .entry)) q x s ⌝ }
 {
@@ -373,23 +373,23 @@ fn offset_of(flow: &[u8]) -> u64
     sets::number_at(flow, X_OFFSET_AT, 4)
 }
 
-// The counters of a record.
-fn counters_of(flow: &[u8]) -> Counters
-    requires { ⌜ length (now flow) ≡ flowSize ⌝ }
-    ensures { λ r. ⌜ r .values ≡ configOf (now (flow .entry)) .counters ⌝ }
+// The counters that stand at a place of a list of bytes, where they are all there.
+fn counters_at(b: &[u8], at: usize) -> Counters
+    requires { ⌜ at + 4 * counterCount ≤ length (now b) ⌝ }
+    ensures { λ r. ⌜ r .values ≡ fours counterCount (drop at (now (b .entry))) ⌝ }
 {
     let mut c = [0u32; X_COUNTERS];
     for i in 0..X_COUNTERS {
-        c[i] = sets::whole_number(flow, X_COUNTERS_AT + 4 * i, 4) as u32;
+        c[i] = sets::whole_number(b, at + 4 * i, 4) as u32;
     }
     Counters { values: c }
 }
 
 // Says whether no counter is over the number that says off.
-fn good_counters(counters: Counters) -> bool
-    ensures { λ r. ⌜ r ≡ goodCounters (counters .values) ⌝ }
+pub fn good_counters(x: Config) -> bool
+    ensures { λ r. ⌜ r ≡ goodCounters (x .counters) ⌝ }
 {
-    let c = counters.values;
+    let c = x.counters;
     let mut all = true;
     for i in 0..X_COUNTERS {
         all = all & (c[i] <= X_OFF);
@@ -397,18 +397,26 @@ fn good_counters(counters: Counters) -> bool
     all
 }
 
+// The configuration that stands at a place of a list of bytes, with its bits at a place behind that and the counters behind them, where all are there.
+pub fn config_at(b: &[u8], at: usize, bits: usize) -> Config
+    requires { ⌜ (at + 2 ≤ length (now b)) × (at + bits + 8 + 4 * counterCount ≤ length (now b)) ⌝ }
+    ensures { λ r. ⌜ r ≡ configAt bits (drop at (now (b .entry))) ⌝ }
+{
+    let counters = counters_at(b, at + bits + 8);
+    let values = counters.values;
+    Config {
+        state: sets::whole_number(b, at, 2) as usize,
+        bits: eight_bytes(b, at + bits),
+        counters: values,
+    }
+}
+
 // The configuration of a record.
 fn load(flow: &[u8]) -> Config
     requires { ⌜ length (now flow) ≡ flowSize ⌝ }
     ensures { λ r. ⌜ r ≡ configOf (now (flow .entry)) ⌝ }
 {
-    let counters = counters_of(flow);
-    let values = counters.values;
-    Config {
-        state: sets::whole_number(flow, 0, 2) as usize,
-        bits: eight_bytes(flow, X_BITS_AT),
-        counters: values,
-    }
+    config_at(flow, 0, X_BITS_AT)
 }
 
 // Says whether rule 4 refuses the record under so many states.
@@ -418,9 +426,9 @@ fn bad_flow(states: usize, flow: &[u8]) -> bool
     if flow.len() != X_FLOW_SIZE {
         return true;
     }
-    let state = sets::whole_number(flow, 0, 2) as usize;
+    let x = load(flow);
     let reserved = sets::whole_number(flow, 2, 2);
-    !(state < states) | (reserved != 0) | !good_counters(counters_of(flow))
+    !(x.state < states) | (reserved != 0) | !good_counters(x)
 }
 
 // The flow check: the number of the first of the rules 4 to 6 that refuses the piece under so many states, 0 where none does.

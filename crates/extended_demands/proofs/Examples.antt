@@ -16,13 +16,13 @@ use Rattle.extended.specs.Extended.{openPairs}
 use Rattle.extended_demands.specs.Examples.{Row, Agree, flowRows, openRows, feedRows, checkRows, examples}
 
 -- rows are compared by computing; what computes as the same is the same
-abbrev same : List ℕ → List ℕ → Bool
+abbrev pub same : List ℕ → List ℕ → Bool
 same [] [] = true
 same [] (y ∷ ys) = false
 same (x ∷ xs) [] = false
 same (x ∷ xs) (y ∷ ys) = eqb x y && same xs ys
 
-abbrev agree : List Row → Bool
+abbrev pub agree : List Row → Bool
 agree [] = true
 agree (r ∷ rs) = same (r .0) (r .1) && agree rs
 
@@ -38,13 +38,13 @@ same-sound (x ∷ xs) (y ∷ ys) t =
     let r = both (eqb x y) (same xs ys) t in
     ap₂ (λ (u : ℕ) (v : List ℕ). u ∷ v) (eqb→eq x y (r .0)) (same-sound xs ys (r .1))
 
-agree-sound : (rs : List Row) → T (agree rs) → Agree rs
+pub agree-sound : (rs : List Row) → T (agree rs) → Agree rs
 agree-sound [] t = tt
 agree-sound (r ∷ rs) t =
     let w = both (same (r .0) (r .1)) (agree rs) t in
     (same-sound (r .0) (r .1) (w .0), agree-sound rs (w .1))
 
-agree-append : (rs qs : List Row) → Agree rs → Agree qs → Agree (rs ++ qs)
+pub agree-append : (rs qs : List Row) → Agree rs → Agree qs → Agree (rs ++ qs)
 agree-append [] qs p q = q
 agree-append (r ∷ rs) qs p q = (p .0, agree-append rs qs (p .1) q)
 

@@ -17,6 +17,7 @@ ghost use Rattle.extended.specs.Machine.{machineRefusal};
 ghost use Rattle.extended.specs.Extended.{extendedOpen, extendedFeed};
 ghost use lib.ListN.{length};
 ghost use Rattle.resends.specs.Resend.{taking, due};
+ghost use Rattle.certificates.specs.Certificate.{certificateRefusal};
 ghost use Rattle.watch_c.specs.Face.{version, faceBuilt};
 ghost use Rattle.faces.specs.Faced.{held, heldOpen};
 ghost use Rattle.faces.specs.Resent.{heldPlace, partOf};
@@ -222,4 +223,11 @@ fn drive_segment(
         taken: taken,
         part: part,
     }
+}
+
+// Calls the exported name that checks a certificate.
+fn drive_certificate(list: &[u8], moves: &[u8], programs: &[u8], certificate: &[u8]) -> u32
+    ensures { λ r. ⌜ r ≡ certificateRefusal (now (list .entry)) (now (moves .entry)) (now (programs .entry)) (now (certificate .entry)) ⌝ }
+{
+    watch_c::watch_check_certificate(list, moves, programs, certificate)
 }

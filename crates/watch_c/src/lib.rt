@@ -1,4 +1,4 @@
-// The C face: the library's fifteen functions under names of their own, over numbers and slices, and the face's version. Nothing else is here.
+// The C face: the library's sixteen functions under names of their own, over numbers and slices, and the face's version. Nothing else is here.
 use feeds::Fed;
 ghost use mathlib.Core.Path.{_≡_};
 ghost use Rattle.lists.specs.List.{listRefusal};
@@ -15,9 +15,10 @@ ghost use lib.ListN.{length};
 ghost use Rattle.resends.specs.Resend.{taking, partDue};
 ghost use Rattle.watch_c.specs.Resent.{FaceTakes, FaceFinds};
 ghost use Rattle.watch_c.specs.Face.{version, Faces, FaceAnswers, FaceOpens, faceBuilt};
+ghost use Rattle.certificates.specs.Certificate.{certificateRefusal};
 
 // The version of the face, by which a caller compares its header with the archive.
-pub const VERSION: u32 = 11;
+pub const VERSION: u32 = 12;
 
 // What a feed answers, as C lays it out.
 #[repr(C)]
@@ -332,4 +333,18 @@ pub extern "C" fn watch_due(
         length: d.length as u64,
         source: d.source,
     }
+}
+
+// The check of a certificate that an automaton with bits and counters is a list's: the number of the first of the rules 1 to 3, 24 and 22 that
+// refuses it, 0 where none does.
+#[no_mangle]
+pub extern "C" fn watch_check_certificate(
+    list: &[u8],
+    moves: &[u8],
+    programs: &[u8],
+    certificate: &[u8],
+) -> u32
+    ensures { λ r. ⌜ r ≡ certificateRefusal (now (list .entry)) (now (moves .entry)) (now (programs .entry)) (now (certificate .entry)) ⌝ }
+{
+    certificates::check_certificate(list, moves, programs, certificate)
 }

@@ -1,4 +1,4 @@
--- `counters_of` reads four bytes for each counter. Assumes nothing.
+-- `counters_at` reads four bytes for each counter. Assumes nothing.
 use borrow.Author.Needs.{needs}
 use Prim.Native.Nat.{ℕ, _≤_, _<_, _-_, _+_, _*_}
 use mathlib.Core.Path.{_≡_, refl}
@@ -9,14 +9,14 @@ use Rattle.sets.proofs.Laws.{fill-more, num-take-lt}
 use Rattle.feeds.proofs.Runs.{bytes-drop}
 use Rattle.extended.specs.Program.{counterCount}
 use Rattle.extended.proofs.Records.{counters-read}
-use Rattle.extended.proofs.counters_of.Statement.{statement}
-use Rattle.extended.proofs.counters_of.Tie as tie
+use Rattle.extended.proofs.counters_at.Statement.{statement}
+use Rattle.extended.proofs.counters_at.Tie as tie
 
 abbrev Inv-loop : tie.InvT-loop
-Inv-loop flow c₀ i₀ c i = (i ≤ counterCount) × (length c ≡ counterCount) × ((j : ℕ) → j < i → getD c j 0 ≡ num 8 (take 4 (drop (16 + 4 * j) flow)))
+Inv-loop b at c₀ i₀ c i = (i ≤ counterCount) × (length c ≡ counterCount) × ((j : ℕ) → j < i → getD c j 0 ≡ num 8 (take 4 (drop (at + 4 * j) b)))
 
 abbrev μ-loop : tie.MeasureT-loop
-μ-loop flow c₀ i₀ c i = counterCount - i
+μ-loop b at c₀ i₀ c i = counterCount - i
 
 loop-holds : tie.Need-loop-holds Inv-loop μ-loop
 loop-holds c = (search needs, refl, (λ j h. absurd (omega arith)))
@@ -33,9 +33,9 @@ whole-number-requires c κs = search needs
 cast-c : tie.Need-cast-c Inv-loop μ-loop
 cast-c c =
     let k = c .before .before .before in
-    let R = k .before .args .flow .now in
-    let i = c .before .before .loop .i in
-    omega (arith, c .whole-number .ensures, num-take-lt 8 (drop (16 + 4 * i) R) (bytes-drop (16 + 4 * i) R (λ j. k .shared-slice-known .given j .fits)) 4)
+    let R = k .before .args .b .now in
+    let i = k .before .args .at + 4 * c .before .before .loop .i in
+    omega (arith, c .whole-number .ensures, num-take-lt 8 (drop i R) (bytes-drop i R (λ j. k .shared-slice-known .given j .fits)) 4)
 
 mul-c : tie.Need-mul-c Inv-loop μ-loop
 mul-c c = search needs
@@ -51,17 +51,18 @@ loop-less c = search needs
 
 loop-again : tie.Need-loop-again Inv-loop μ-loop
 loop-again c =
-    let R = c .before .before .before .before .args .flow .now in
+    let a = c .before .before .before .before .args in
     let l = c .before .before .loop in
-    (omega arith, search needs, rw (c .whole-number .ensures) (fill-more (λ (j : ℕ). num 8 (take 4 (drop (16 + 4 * j) R))) (l .c) (l .i) (omega arith) (l .inv .2)))
+    (omega arith, search needs, rw (c .whole-number .ensures) (fill-more (λ (j : ℕ). num 8 (take 4 (drop (a .at + 4 * j) (a .b .now)))) (l .c) (l .i) (omega arith) (l .inv .2)))
 
 returns : tie.Need-returns Inv-loop μ-loop
 returns c =
     let l = c .before .loop in
-    counters-read (c .before .before .before .args .flow .now) (l .c) (l .inv .1) (λ j h. l .inv .2 j (omega arith))
+    let a = c .before .before .before .args in
+    counters-read (a .b .now) (a .at) (l .c) (l .inv .1) (λ j h. l .inv .2 j (omega arith))
 
-pub counters-of-spec : {M : Type 1} → statement M
-counters-of-spec =
+pub counters-at-spec : {M : Type 1} → statement M
+counters-at-spec =
     tie.close
     (tie.spec
     Inv-loop

@@ -1,0 +1,5 @@
+pub mod Next
+pub mod Alike
+pub mod Examples
+pub mod Instance
+pub mod Driving

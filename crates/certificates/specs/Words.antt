@@ -1,0 +1,38 @@
+-- Rule 22 in words: what an accepted certificate shows, said of its records, of bytes and of signatures.
+use Prim.Native.Nat.{ℕ, _+_, _*_, _%_, _≤_, _<_}
+use mathlib.Core.Path.{_≡_}
+use mathlib.Core.List.{List}
+use lib.ListN.{length, getD}
+use Rattle.sets.specs.Set.{signatures, holds}
+use Rattle.lists.specs.Automaton.{start, step, accepted}
+use Rattle.feeds.specs.Engine.{Engine}
+use Rattle.extended.specs.declared.Config.{Config}
+use Rattle.extended.specs.Program.{counterCount, off}
+use Rattle.extended.specs.Machine.{byteValues, stateCount, machine, first, firstAlerts}
+use Rattle.extended.specs.Record.{reservedOf}
+use Rattle.certificates.specs.Certificate.{noteSize, mostNotes, notes, noteBytes, noteConfig, noteSet}
+
+-- some record has the configuration x and the set F
+abbrev pub Recorded : List ℕ → Config → ℕ → Type 0
+Recorded Z x F = (i : ℕ) × (i < notes Z) × (noteConfig Z i ≡ x) × (noteSet Z i ≡ F)
+
+-- the same signatures are in both
+abbrev pub Exactly : ℕ → ℕ → Type 0
+Exactly A B = (g : ℕ) → g < signatures → holds A g ≡ holds B g
+
+pub record Certified (L M P Z : List ℕ) : Type 0 where
+  -- whole records, at most 4,096
+  pub whole : length Z % noteSize ≡ 0
+  pub most : notes Z ≤ mostNotes
+  -- each has a state of the machine, zero in its reserved bytes, and no counter over off
+  pub states-in : (i : ℕ) → i < notes Z → noteConfig Z i .state < stateCount M
+  pub reserved : (i : ℕ) → i < notes Z → reservedOf (noteBytes Z i) ≡ 0
+  pub counters : (i : ℕ) → i < notes Z → (k : ℕ) → k < counterCount → getD (noteConfig Z i .counters) k 0 ≤ off
+  -- no configuration is there twice
+  pub once : (i j : ℕ) → i < notes Z → j < notes Z → noteConfig Z i ≡ noteConfig Z j → i ≡ j
+  -- the start configuration after its program is there with the start set, and that program alerts exactly the signatures which the start set accepts
+  pub begins : Recorded Z (first P) (start L)
+  pub opens : Exactly (firstAlerts P) (accepted L (start L))
+  -- each step on each byte leads to a recorded configuration with the list's step of the set, and alerts exactly the signatures which the new set accepts
+  pub steps : (i c : ℕ) → i < notes Z → c < byteValues → Recorded Z (machine M P .next (noteConfig Z i) c) (step L (noteSet Z i) c)
+  pub alerts : (i c : ℕ) → i < notes Z → c < byteValues → Exactly (machine M P .alerts (noteConfig Z i) c) (accepted L (step L (noteSet Z i) c))
