@@ -5,7 +5,7 @@
  * target/staticlib; it needs no other library than C's. bindings/c/breakfast.c is a whole program over it, and bindings/c/live.c one for a live line, which goes on from a saved
  * record after being killed.
  *
- * The functions keep nothing between calls and call nothing outside the archive but memset: no memory is allocated, no file is read. All that a
+ * The functions keep nothing between calls and call nothing outside the archive but memset and memcpy: no memory is allocated, no file is read. All that a
  * flow needs is in its record, which the caller keeps, copies, writes to a disk or hands to another process as it likes.
  *
  * Header and archive belong together. WATCH_VERSION is the header's version and watch_version() the archive's; compare them once at the
@@ -91,6 +91,21 @@
  * which the new set accepts; so does the program at opening. Records that nothing reaches are tested as the others are. From opening on, a flow
  * of that automaton and a flow of the list are then told the same pairs, however the bytes are cut.
  *
+ * A signature text is what people write; watch_compile makes a list of it.
+ *
+ *     a           a byte stands for itself, other than \ . [ ] ( ) | * + ? { } ^
+ *     \xHH \n     the byte of two hex digits; byte 10
+ *     \s          space, or one of bytes 9 to 13
+ *     .           any byte
+ *     [a-z\n]     a class: one of its bytes, escapes and ranges of two single bytes, low <= high; in it all but \ [ ] ^ - stand for themselves
+ *     [^a-z]      any byte but these
+ *     (x) x|y xy  a group, at most 16 deep; x or y; x and then y. A side of | may be empty
+ *     x* x+ x?    any number of times; once or more; once or not at all
+ *     x{m,n}      m to n times, m <= n <= 300, each of 1 to 3 digits
+ *
+ * A byte, an escape, a class or a group has at most one of the marks * + ? {m,n} behind it. The text may begin anywhere in the flow; with ^ in
+ * front of all of it, it begins at offset 0. Every end of every occurrence is told, not the longest alone.
+ *
  *
  * SEGMENTS
  *
@@ -110,7 +125,8 @@
  *
  * REFUSALS
  *
- * A refusal is one of these numbers, and 0 where there is none. Where several apply, the lowest is given, but 17 before 16, and 24 before all others than 1 to 3.
+ * A refusal is one of these numbers, and 0 where there is none. Where several apply, the lowest is given, but 17 before 16, 20 before 19, and 24 before all
+ * others than 1 to 3.
  *
  *      1   the list's length is 0, over WATCH_MOST_LIST, or no multiple of WATCH_RECORD_SIZE
  *      2   a record of the list has another kind, a reserved byte that is not zero, a byte 3 of an edge that is over 1, low > high, a
@@ -138,6 +154,10 @@
  *     17   building: a lent list is shorter than WATCH_LENT_CLASSES, WATCH_LENT_PARTS, WATCH_LENT_ROWS or WATCH_LENT_SPLITS bytes
  *     18   of a segment: it has more than WATCH_MOST_SEGMENT bytes, held_len is not WATCH_HELD_SIZE, held_length is over that; or it begins
  *          ahead, and another segment is held or it has more than WATCH_HELD_SIZE bytes
+ *     19   compiling: the text does not fit; place is the first byte, counted from 0, with which no continuation fits, or the text's length
+ *          where it is cut short
+ *     20   compiling: a seventeenth nested bracket opens before any such place
+ *     21   compiling: the list would have more than WATCH_STATES states or WATCH_MOST_RECORDS records, or be longer than the lent one
  *     22   of a certificate: not a whole number of records, or over WATCH_MOST_NOTES of them; or it does not show what it has to, as said above
  *     24   of an automaton with bits and counters: a list has a wrong length, or the two are of other numbers of states; a target is no state; a
  *          record has another kind, a bit that is not below WATCH_X_BITS, a counter that is not below WATCH_X_COUNTERS, a signature that is
@@ -151,7 +171,8 @@
  * The list check gives 1 to 3; opening 1 to 4 and 15; the plain feed 1 to 6; the table check 1 to 3 and 7 to 13; the split feed 1 to 9,
  * and 14 per byte; the filler of a matrix 1 to 3 and 8; the matrix feed 1 to 6 and 8; the filler of an index 1 to 3 and 7 to 13; the prepared
  * feed 4 to 6 and 8, and 14 per byte; building 1 to 3, then 17, then 16; taking a segment 18; the watch_x_ functions 24, their opening then
- * 4 and 15, their feed 4, 5 and 6; the check of a certificate 1 to 3, then 24, then 22. A refusal other than 14 and 16 changes no buffer.
+ * 4 and 15, their feed 4, 5 and 6; the check of a certificate 1 to 3, then 24, then 22; compiling 20, 19 and 21. A refusal
+ * other than 14 and 16 changes no buffer.
  *
  *
  * WHAT THE CALLER OWES
@@ -160,12 +181,12 @@
  * caller's, and a call that breaks it has no promise at all:
  *
  *   - Each pointer is good for its length, as C means it: x_len bytes can be read at x, and the flow_len bytes, the pairs_len words, the
- *     bytes of a matrix or an index that is filled, the four lists that watch_build is lent and the held buffer of watch_take can also be
- *     written. pairs is aligned as a uint32_t; nothing else has to be aligned.
+ *     bytes of a matrix or an index that is filled, the lists that watch_build and watch_compile are lent and the held buffer of watch_take can
+ *     also be written. pairs is aligned as a uint32_t; nothing else has to be aligned.
  *   - Through a pointer with length 0 nothing is read or written, so it may point anywhere. Give one that is not NULL, as the
  *     address of any object: the code takes NULL with length 0 today, and that is tested, but it is no part of what is proved. NULL
  *     with another length is an error.
- *   - flow and pairs are written, by a filler its matrix or index, by watch_build its four lists, and by watch_take the held buffer, so none
+ *   - flow and pairs are written, by a filler its matrix or index, by watch_build its four lists, by watch_compile its list, and by watch_take the held buffer, so none
  *     overlaps another buffer of the call. The buffers that are only read may overlap one another, or be the same.
  *   - Nobody else writes any buffer of a call, or reads flow or pairs, while the call runs. Calls in several threads may share lists and
  *     tables; each has its own flow and pairs.
@@ -175,12 +196,13 @@
  * COST AND CONTEXT
  *
  *   - Stack: WATCH_MOST_STACK bytes below the caller's frame at most, whatever the input, return addresses and red zone counted; that is for
- *     watch_check_certificate, which keeps the places of the records there, and all others take 1,600 at most. tools/stack reads the number off
- *     the archive for each function, and tools/test-outside holds this one to it.
+ *     watch_check_certificate, which keeps the places of the records there, and all others but one take 1,600 at most: watch_compile goes as deep as
+ *     the brackets do, and takes WATCH_COMPILE_STACK. tools/stack reads the number off the archive for each function, and tools/test-outside holds
+ *     these to it.
  *   - No heap, no statics, no locks, no system calls: the archive has no data that can be written, and calls nothing outside itself but C's
- *     memset, which clears a matrix that is filled and the places of a certificate's records; a compiler asks for it without an operating system
- *     too. Its stack is not in the number above. So every function is reentrant: threads, tasks and signal handlers may be in it at once, each
- *     with its own flow and pairs.
+ *     memset, which clears a matrix that is filled and the places of a certificate's records, and memcpy, in watch_compile; a compiler asks for both
+ *     without an operating system too. Their stack is not in the numbers above. So every function is reentrant: threads, tasks and signal handlers
+ *     may be in it at once, each with its own flow and pairs.
  *   - The code uses the general registers, the registers of SSE2 and the 128 bytes below the stack pointer, the red zone. So it is not for a
  *     bare interrupt, nor for a kernel that leaves those to the task that it interrupts: wake a task, and call from there.
  *   - Every call ends; that is proved. Its work is bounded by the lengths that it is given, and grows as docs/PERFORMANCE.md shows.
@@ -210,10 +232,11 @@ extern "C" {
 #endif
 
 /* The version of the face that this header describes. */
-#define WATCH_VERSION 12
+#define WATCH_VERSION 13
 
-/* Bytes of stack that a call takes at most. */
+/* Bytes of stack that a call takes at most, and that one of watch_compile does. */
 #define WATCH_MOST_STACK 9920
+#define WATCH_COMPILE_STACK 80832
 
 /* States are the numbers below this one. */
 #define WATCH_STATES 1024
@@ -313,6 +336,9 @@ enum watch_refusal {
     WATCH_REFUSED_TOO_MANY = 16,
     WATCH_REFUSED_LENT_LISTS = 17,
     WATCH_REFUSED_SEGMENT = 18,
+    WATCH_REFUSED_BAD_TEXT = 19,
+    WATCH_REFUSED_TOO_DEEP = 20,
+    WATCH_REFUSED_TOO_BIG = 21,
     WATCH_REFUSED_CERTIFICATE = 22,
     WATCH_REFUSED_MACHINE = 24
 };
@@ -364,11 +390,22 @@ struct watch_part {
 
 typedef struct watch_part watch_part;
 
+/* What compiling a text answers. */
+struct watch_compiled {
+    uint64_t place;   /* with 19, where the text goes wrong, counted from 0; else 0 */
+    uint64_t length;  /* bytes of the list, from the front of the lent one; 0 with every refusal */
+    uint32_t refusal; /* WATCH_PASSED, 0, or the number of the refusal */
+};
+
+typedef struct watch_compiled watch_compiled;
+
 #if defined(__cplusplus) && __cplusplus >= 201103L
 static_assert(sizeof(watch_held) == 12 && sizeof(watch_part) == 24 && offsetof(watch_part, where) == 16, "watch.h: the layout is that of x86-64");
 static_assert(sizeof(size_t) == 8 && sizeof(watch_fed) == 24, "watch.h: the layout is that of x86-64");
 static_assert(sizeof(watch_built) == 40 && offsetof(watch_built, parts) == 8 && offsetof(watch_built, rows) == 16 && offsetof(watch_built, splits) == 24 &&
               offsetof(watch_built, refusal) == 32, "watch.h: the layout is that of x86-64");
+static_assert(sizeof(watch_compiled) == 24 && offsetof(watch_compiled, length) == 8 && offsetof(watch_compiled, refusal) == 16,
+              "watch.h: the layout is that of x86-64");
 static_assert(sizeof(watch_opened) == 16 && offsetof(watch_opened, refusal) == 8, "watch.h: the layout is that of x86-64");
 static_assert(offsetof(watch_fed, pairs) == 8 && offsetof(watch_fed, refusal) == 16 && offsetof(watch_fed, all) == 20,
               "watch.h: the layout is that of x86-64");
@@ -377,6 +414,8 @@ _Static_assert(sizeof(watch_held) == 12 && sizeof(watch_part) == 24 && offsetof(
 _Static_assert(sizeof(size_t) == 8 && sizeof(watch_fed) == 24, "watch.h: the layout is that of x86-64");
 _Static_assert(sizeof(watch_built) == 40 && offsetof(watch_built, parts) == 8 && offsetof(watch_built, rows) == 16 && offsetof(watch_built, splits) == 24 &&
                offsetof(watch_built, refusal) == 32, "watch.h: the layout is that of x86-64");
+_Static_assert(sizeof(watch_compiled) == 24 && offsetof(watch_compiled, length) == 8 && offsetof(watch_compiled, refusal) == 16,
+               "watch.h: the layout is that of x86-64");
 _Static_assert(sizeof(watch_opened) == 16 && offsetof(watch_opened, refusal) == 8, "watch.h: the layout is that of x86-64");
 _Static_assert(offsetof(watch_fed, pairs) == 8 && offsetof(watch_fed, refusal) == 16 && offsetof(watch_fed, all) == 20,
                "watch.h: the layout is that of x86-64");
@@ -535,6 +574,15 @@ uint32_t watch_check_certificate(const uint8_t *list, size_t list_len,
                                  const uint8_t *programs, size_t programs_len,
                                  const uint8_t *certificate, size_t certificate_len);
 
+/* Compiles a signature text: the first length bytes of the lent list are then the list of its position automaton under the signature, whose
+ * records rise as strings of bytes; bytes behind them stay. That list passes 1 to 3 in every function here, and a flow under it tells
+ * (signature, k) exactly where the first k bytes end in a word of the text, or are one where the text begins with ^. WATCH_MOST_LIST bytes are room
+ * for any list. Refusals 20, 19 and 21 change nothing. The work grows with the text's length times the positions, and a repeated part is
+ * read again for each of its times: docs/landings/i.md has numbers. */
+watch_compiled watch_compile(const uint8_t *text, size_t text_len,
+                             uint8_t signature,
+                             uint8_t *list, size_t list_len);
+
 /* A size as text within a sentence. */
 #define WATCH_TEXT_OF(tokens) #tokens
 #define WATCH_TEXT(size) WATCH_TEXT_OF(size)
@@ -586,6 +634,12 @@ static inline const char *watch_refusal_text(uint32_t n)
     case WATCH_REFUSED_SEGMENT:
         return "the segment has more than " WATCH_TEXT(WATCH_MOST_SEGMENT) " bytes, the held buffer is not of " WATCH_TEXT(WATCH_HELD_SIZE)
                " bytes or more are held, or the segment begins ahead and cannot be held";
+    case WATCH_REFUSED_BAD_TEXT:
+        return "the text does not fit the grammar: the answer has the first place where no continuation fits";
+    case WATCH_REFUSED_TOO_DEEP:
+        return "the text opens a seventeenth nested bracket";
+    case WATCH_REFUSED_TOO_BIG:
+        return "the text's automaton has more states or records than a list, or more than the lent list has room for";
     case WATCH_REFUSED_CERTIFICATE:
         return "the certificate has a wrong length, a record has a bad field or a configuration that another has, or it does not show that the automaton "
                "is the list's";

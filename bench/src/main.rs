@@ -17,13 +17,14 @@ mod ordinary;
 mod proved;
 mod resends;
 mod sizes;
+mod texts;
 
 use inputs::{Bytes, Table};
 use later::black_box;
 use ordinary::Fed;
 use sizes::{
     BYTE_VALUES, CLASSES, ENTRY_BYTES, FLOW_BYTES, MOST_PARTS, MOST_RECORDS, MOST_SPLITS,
-    ROW_BYTES, SET_BYTES, SLOTS, SPLIT_BYTES, STATES,
+    RECORD_BYTES, ROW_BYTES, SET_BYTES, SLOTS, SPLIT_BYTES, STATES,
 };
 use std::io::{BufRead, BufReader, Write};
 use std::process::{Child, ChildStdin, ChildStdout, Command, Stdio};
@@ -53,6 +54,7 @@ struct Side {
     extended: fn(&extended::Work, &mut [u8], &mut [u32]) -> Fed,
     segment: fn(&resends::Work, &mut [u8]) -> Fed,
     check_certificate: fn(&certificates::Work) -> u32,
+    compile: fn(&texts::Work, &mut [u8]) -> Fed,
 }
 
 const PROVED: Side = Side {
@@ -69,6 +71,7 @@ const PROVED: Side = Side {
     extended: extended::proved,
     segment: resends::proved,
     check_certificate: certificates::proved,
+    compile: texts::proved,
 };
 
 const ORDINARY: Side = Side {
@@ -85,6 +88,7 @@ const ORDINARY: Side = Side {
     extended: extended::by_rust,
     segment: resends::by_rust,
     check_certificate: certificates::by_rust,
+    compile: texts::by_rust,
 };
 
 /// What a row calls, and on what.
@@ -127,6 +131,7 @@ enum Call {
     Extended(extended::Work),
     Segment(resends::Work),
     CheckCertificate(certificates::Work),
+    Compile(texts::Work),
 }
 
 /// A row of the table: its name, how many calls a turn of bench/count has, and what makes its list and call.
@@ -154,7 +159,7 @@ impl Row {
     }
 }
 
-/// The buffers that a call writes to: a flow record, the pairs, a matrix, an index, the held buffer, and the four lists of a table, which are empty unless the call builds one.
+/// The buffers that a call writes to: a flow record, the pairs, a matrix, an index, the held buffer, the four lists of a table, and a list; the last two are empty unless the call makes one.
 #[derive(Clone, PartialEq)]
 struct Buffers {
     flow: [u8; FLOW_BYTES],
@@ -163,6 +168,7 @@ struct Buffers {
     index: Vec<u8>,
     held: Vec<u8>,
     lists: [Vec<u8>; 4],
+    list: Vec<u8>,
 }
 
 /// The lengths of the lists that a table is built in.
@@ -186,6 +192,10 @@ impl Buffers {
             index: Vec::new(),
             held: Vec::new(),
             lists: lent.map(|n| vec![0xAA; n]),
+            list: match call {
+                Call::Compile(_) => vec![0xAA; MOST_RECORDS * RECORD_BYTES],
+                _ => Vec::new(),
+            },
         }
     }
 }
@@ -293,6 +303,7 @@ impl Work {
                 (side.segment)(work, &mut buffers.held)
             }
             Call::CheckCertificate(work) => checked((side.check_certificate)(work)),
+            Call::Compile(work) => (side.compile)(work, &mut buffers.list),
         }
     }
 
@@ -801,6 +812,13 @@ fn rows() -> Vec<Row> {
             name.to_string(),
             turn,
             Box::new(move || (Vec::new(), Call::CheckCertificate(make()))),
+        );
+    }
+    for (name, turn, make) in texts::rows() {
+        row(
+            name.to_string(),
+            turn,
+            Box::new(move || (Vec::new(), Call::Compile(make()))),
         );
     }
     let wanted = std::env::var("ROWS").unwrap_or_default();

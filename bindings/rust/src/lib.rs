@@ -88,6 +88,21 @@
 //! A sender that resends after a timeout, in pieces that overlap, numbers its bytes. [`Segments`] puts its segments in order by these numbers, holds
 //! one that comes too early, and drops what came before: each pair is told once, however often and however cut the bytes are sent.
 //!
+//! # Signature texts
+//!
+//! [`List::compile_in`], and with `std` `List::compile`, make the list of a signature that is written as text:
+//!
+//! | text | matches |
+//! |---|---|
+//! | a byte other than `\ . [ ] ( ) \| * + ? { } ^` | itself |
+//! | `\xHH`, `\n`, `\s`, `.` | the byte HH in hex; a line feed; a space or a byte 9 to 13; any byte |
+//! | `[ab\x00-\x1F\s]`, `[^a-c]` | one byte that is a member; that is none. A byte other than `\ [ ] ^ -` is a member itself, as are escapes and ranges |
+//! | `xy`, `x\|y`, `(x)` | one after the other; either, each may be empty; the same, at most 16 deep |
+//! | `x*`, `x+`, `x?`, `x{m,n}` | any number of times; once or more; once or not; m to n times, m ≤ n ≤ 300. One such mark for a byte, class or bracket |
+//! | `^x` | x from offset 0 on, where `^` is the very first byte; else a match may begin anywhere |
+//!
+//! All ends of all matches are told. `tools/signatures` in the repository makes one list of a file of texts.
+//!
 //! # Linking
 //!
 //! The code itself is the archive `libwatch_c.a`, for x86-64 and the System V calling convention. `tools/build-c` in the repository
@@ -96,16 +111,16 @@
 //! Where there is no archive, or the target is another one, `cargo check` and `cargo doc` still work, with a warning; a program
 //! does not link.
 //!
-//! The archive says which version of the face it has, and [`List::check`] compares it with [`VERSION`]: everything else begins with a list,
-//! so nothing runs over an archive that this crate is not written for.
+//! The archive says which version of the face it has, and [`List::check`] and [`List::compile_in`] compare it with [`VERSION`]: everything else begins
+//! with a list, so nothing runs over an archive that this crate is not written for.
 //!
 //! This wrapper is not proved. All that is unsafe in it is its calls of the archive: one of them takes nothing, and in the others slices are
 //! handed on as pointers and lengths.
 //!
 //! # Features
 //!
-//! `std`, which is on unless default features are turned off, makes [`Refusal`] and [`SplitError`] errors of the standard library, and has
-//! `Table::build`, which alone allocates memory. Without it the crate needs nothing but `core`. It builds with Rust 1.63 and later.
+//! `std`, which is on unless default features are turned off, makes [`Refusal`], [`SplitError`] and [`CompileError`] errors of the standard library, and
+//! has `Table::build` and `List::compile`, which alone allocate memory. Without it the crate needs nothing but `core`. It builds with Rust 1.63 and later.
 
 #![no_std]
 #![deny(missing_docs)]
@@ -119,6 +134,7 @@ pub mod raw;
 mod refusal;
 mod segments;
 mod sizes;
+mod text;
 
 pub use refusal::{Refusal, SplitError};
 pub use segments::{Held, Segments};
@@ -130,12 +146,22 @@ pub use sizes::{
 };
 pub use sizes::{MOST_NOTES, NOTE_SIZE};
 
+pub use text::CompileError;
+#[cfg(feature = "std")]
+pub use text::Compiled;
+
 use core::fmt;
 
 /// The version of the face that the linked archive has.
 pub fn archive_version() -> u32 {
     // SAFETY: it takes nothing and touches nothing.
     unsafe { raw::watch_version() }
+}
+
+/// Panics where the archive is for another version of this crate.
+fn assert_version() {
+    let archive = archive_version();
+    assert!(archive == VERSION, "libwatch_c.a has version {archive} of the face, and the crate watch is for {VERSION}");
 }
 
 /// A signature list that has passed its check.
@@ -165,11 +191,7 @@ impl<'a> List<'a> {
     /// assert_eq!(List::check(&[1, 0, 9, 0, 0, 0, 0, 0]), Err(Refusal::NoStart));
     /// ```
     pub fn check(bytes: &'a [u8]) -> Result<List<'a>, Refusal> {
-        let archive = archive_version();
-        assert!(
-            archive == VERSION,
-            "libwatch_c.a has version {archive} of the face, and the crate watch is for {VERSION}"
-        );
+        assert_version();
         // SAFETY: pointer and length are those of a slice that is borrowed over the call.
         let number = unsafe { raw::watch_check_list(bytes.as_ptr(), bytes.len()) };
         Refusal::verdict(number)?;
@@ -1230,10 +1252,14 @@ const _: () = {
     send_and_sync::<Pair>();
     send_and_sync::<Refusal>();
     send_and_sync::<SplitError>();
+    send_and_sync::<CompileError>();
     send_and_sync::<raw::WatchFed>();
     send_and_sync::<raw::WatchOpened>();
     send_and_sync::<raw::WatchBuilt>();
+    send_and_sync::<raw::WatchCompiled>();
     send_and_sync::<LentLists<'static>>();
     #[cfg(feature = "std")]
     send_and_sync::<Built<'static>>();
+    #[cfg(feature = "std")]
+    send_and_sync::<Compiled>();
 };

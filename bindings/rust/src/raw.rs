@@ -5,7 +5,7 @@
 //! # Safety
 //!
 //! Of every function here: each pointer is valid for its length (`pairs_len` counts words), for reads, and `flow`, `pairs`, the `matrix` that is
-//! filled and the four lists of `watch_build` for writes too; `pairs` is aligned; what is written overlaps nothing else of the call; nobody else
+//! filled, the four lists of `watch_build` and the list of `watch_compile` for writes too; `pairs` is aligned; what is written overlaps nothing else of the call; nobody else
 //! writes any of the buffers, or reads one that is written, during the call. A pointer with length 0 may dangle. There is no wrong content.
 
 /// What a feed answers, as C lays it out.
@@ -72,7 +72,28 @@ pub struct WatchPart {
     pub source: u32,
 }
 
+/// What compiling a text answers, as C lays it out.
+#[repr(C)]
+#[derive(Clone, Copy, Debug, PartialEq, Eq)]
+pub struct WatchCompiled {
+    /// With refusal 19 the first place where no continuation fits, else 0.
+    pub place: u64,
+    /// Bytes of the list, 0 where the text is refused.
+    pub length: u64,
+    /// 0, or the number of the refusal.
+    pub refusal: u32,
+}
+
 extern "C" {
+    /// Compiles a signature text into the front of a lent list: refusals 20, 19 with its place, and 21.
+    pub fn watch_compile(
+        text: *const u8,
+        text_len: usize,
+        signature: u8,
+        list: *mut u8,
+        list_len: usize,
+    ) -> WatchCompiled;
+
     /// Builds a table at bound 1: refusals 1 to 3, then 17, then 16.
     pub fn watch_build(
         list: *const u8,

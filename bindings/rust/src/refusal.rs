@@ -4,8 +4,8 @@ use crate::{
 };
 use core::fmt;
 
-/// Why a call was refused. Each has a [`number`](Refusal::number), 1 to 18, 22 or 24; of several that apply, the lowest is given, but 17 before 16, 18
-/// of a segment's sizes before all others, and 24 before all others that are not of a list.
+/// Why a call was refused. Each has a [`number`](Refusal::number), 1 to 22 or 24; of several that apply, the lowest is given, but 17 before 16, 18 of a
+/// segment's sizes before all others, 24 before all others that are not of a list, and of 19 and 20 the one that stands first in the text.
 ///
 /// ```
 /// use watch::{List, Refusal, MOST_LIST, RECORD_SIZE};
@@ -60,6 +60,13 @@ pub enum Refusal {
     /// 18: a segment over [`MOST_SEGMENT`] bytes, or one that begins ahead and cannot be held: another is, or it has more than
     /// [`HELD_SIZE`] bytes.
     Segment = 18,
+    /// 19: compiling: the text does not fit the grammar. A [`CompileError`](crate::CompileError) has the first place where no continuation fits.
+    BadText = 19,
+    /// 20: compiling: a seventeenth nested bracket opens, before the place of 19 or in a good text.
+    TooDeep = 20,
+    /// 21: compiling: the text's automaton has more than [`STATES`] states or [`MOST_RECORDS`](crate::MOST_RECORDS) records, or more records than the
+    /// lent list has room for.
+    TooBig = 21,
     /// 22: a certificate's length or a field of it is bad, a configuration is there twice, the start configuration is not there with the start set, a step
     /// leads to no record with the list's step of the set, or the alerts of a step or at opening are not what the set accepts.
     Certificate = 22,
@@ -89,11 +96,14 @@ impl Refusal {
         Refusal::TooMany,
         Refusal::LentLists,
         Refusal::Segment,
+        Refusal::BadText,
+        Refusal::TooDeep,
+        Refusal::TooBig,
         Refusal::Certificate,
         Refusal::Machine,
     ];
 
-    /// The refusal's number, 1 to 18, 22 or 24.
+    /// The refusal's number, 1 to 22 or 24.
     pub const fn number(self) -> u32 {
         self as u32
     }
@@ -164,6 +174,11 @@ impl fmt::Display for Refusal {
             Refusal::Segment => write!(
                 f,
                 "a segment over {MOST_SEGMENT} bytes, or one that begins ahead while another is held or with more than {HELD_SIZE} bytes"
+            ),
+            Refusal::BadText => f.write_str("the text does not fit the grammar"),
+            Refusal::TooDeep => f.write_str("the text opens a seventeenth nested bracket"),
+            Refusal::TooBig => f.write_str(
+                "the text's automaton has more states or records than a list may have, or more records than there is room for",
             ),
             Refusal::Certificate => f.write_str(
                 "a certificate's length or a field of it is bad, a configuration is there twice, the start configuration is not there with \

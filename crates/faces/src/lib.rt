@@ -1,5 +1,6 @@
 // The driver of the C face: code for no user. It calls each exported name, and promises that what they answer and leave is the definitions'.
 use watch_c::WatchBuilt;
+use watch_c::WatchCompiled;
 use watch_c::WatchFed;
 use watch_c::WatchHeld;
 use watch_c::WatchOpened;
@@ -18,7 +19,8 @@ ghost use Rattle.extended.specs.Extended.{extendedOpen, extendedFeed};
 ghost use lib.ListN.{length};
 ghost use Rattle.resends.specs.Resend.{taking, due};
 ghost use Rattle.certificates.specs.Certificate.{certificateRefusal};
-ghost use Rattle.watch_c.specs.Face.{version, faceBuilt};
+ghost use Rattle.watch_c.specs.Face.{version, faceBuilt, faceCompiled};
+ghost use Rattle.compile.specs.Compile.{Compiles};
 ghost use Rattle.faces.specs.Faced.{held, heldOpen};
 ghost use Rattle.faces.specs.Resent.{heldPlace, partOf};
 
@@ -230,4 +232,11 @@ fn drive_certificate(list: &[u8], moves: &[u8], programs: &[u8], certificate: &[
     ensures { λ r. ⌜ r ≡ certificateRefusal (now (list .entry)) (now (moves .entry)) (now (programs .entry)) (now (certificate .entry)) ⌝ }
 {
     watch_c::watch_check_certificate(list, moves, programs, certificate)
+}
+
+// Calls the exported name that compiles a text.
+fn drive_compile(text: &[u8], signature: u8, list: &mut [u8]) -> WatchCompiled
+    ensures { λ r. ⌜ Compiles (now (text .entry)) signature (now (list .entry)) (faceCompiled r) (now (list .exit)) ⌝ }
+{
+    watch_c::watch_compile(text, signature, list)
 }

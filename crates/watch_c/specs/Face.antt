@@ -7,13 +7,15 @@ use Rattle.feeds.specs.Opening.{Opening}
 use Rattle.feeds.specs.declared.Fed.{Fed}
 use Rattle.tables.specs.Table.{Table}
 use Rattle.build.specs.Build.{Building}
+use Rattle.compile.specs.declared.Compiled.{Compiled}
 use Rattle.watch_c.specs.declared.WatchBuilt.{WatchBuilt}
+use Rattle.watch_c.specs.declared.WatchCompiled.{WatchCompiled}
 use Rattle.watch_c.specs.declared.WatchFed.{WatchFed}
 use Rattle.watch_c.specs.declared.WatchOpened.{WatchOpened}
 
 -- the version of the face, which rises with each change of a name, a size, a limit or a meaning in it
 abbrev pub version : ℕ
-version = 12
+version = 13
 
 -- the same four values
 pub record Faces (f : Fed) (w : WatchFed) : Type 0 where
@@ -41,3 +43,7 @@ pub record FaceOpens (o : Opening) (w : WatchOpened) (ws sv : List ℕ) : Type 0
 -- what a caller of the builder holds: the answer, and the four lists at exit
 abbrev pub faceBuilt : WatchBuilt → Table → Building
 faceBuilt w T = record { refusal = w .refusal; classes = w .classes; parts = w .parts; rows = w .rows; splits = w .splits; lists = T }
+
+-- the compiler's answer, as the library gives it
+abbrev pub faceCompiled : WatchCompiled → Compiled
+faceCompiled w = record { refusal = w .refusal; place = w .place; length = w .length }

@@ -1,4 +1,4 @@
-// The C face: the library's sixteen functions under names of their own, over numbers and slices, and the face's version. Nothing else is here.
+// The C face: the library's seventeen functions under names of their own, over numbers and slices, and the face's version. Nothing else is here.
 use feeds::Fed;
 ghost use mathlib.Core.Path.{_≡_};
 ghost use Rattle.lists.specs.List.{listRefusal};
@@ -14,11 +14,12 @@ ghost use Rattle.extended.specs.Extended.{extendedOpen, extendedFeed};
 ghost use lib.ListN.{length};
 ghost use Rattle.resends.specs.Resend.{taking, partDue};
 ghost use Rattle.watch_c.specs.Resent.{FaceTakes, FaceFinds};
-ghost use Rattle.watch_c.specs.Face.{version, Faces, FaceAnswers, FaceOpens, faceBuilt};
+ghost use Rattle.watch_c.specs.Face.{version, Faces, FaceAnswers, FaceOpens, faceBuilt, faceCompiled};
 ghost use Rattle.certificates.specs.Certificate.{certificateRefusal};
+ghost use Rattle.compile.specs.Compile.{Compiles};
 
 // The version of the face, by which a caller compares its header with the archive.
-pub const VERSION: u32 = 12;
+pub const VERSION: u32 = 13;
 
 // What a feed answers, as C lays it out.
 #[repr(C)]
@@ -43,6 +44,14 @@ pub struct WatchBuilt {
     pub parts: u64,
     pub rows: u64,
     pub splits: u64,
+    pub refusal: u32,
+}
+
+// What compiling a text answers, as C lays it out: the place counts for 19 alone, the length without a refusal.
+#[repr(C)]
+pub struct WatchCompiled {
+    pub place: u64,
+    pub length: u64,
     pub refusal: u32,
 }
 
@@ -347,4 +356,16 @@ pub extern "C" fn watch_check_certificate(
     ensures { λ r. ⌜ r ≡ certificateRefusal (now (list .entry)) (now (moves .entry)) (now (programs .entry)) (now (certificate .entry)) ⌝ }
 {
     certificates::check_certificate(list, moves, programs, certificate)
+}
+// Compiles a signature text to a list in the front of a lent one; a refusal leaves it as it is.
+#[no_mangle]
+pub extern "C" fn watch_compile(text: &[u8], signature: u8, list: &mut [u8]) -> WatchCompiled
+    ensures { λ r. ⌜ Compiles (now (text .entry)) signature (now (list .entry)) (faceCompiled r) (now (list .exit)) ⌝ }
+{
+    let compiled = compile::compile(text, signature, list);
+    WatchCompiled {
+        place: compiled.place as u64,
+        length: compiled.length as u64,
+        refusal: compiled.refusal,
+    }
 }

@@ -1,0 +1,193 @@
+// From signature text to a list.
+use letters::run_count;
+use letters::span;
+use parser::Parsed;
+use parser::check_text;
+use records::put_arrows;
+use records::put_ends;
+use records::put_in;
+use records::start_record;
+use records::weigh;
+use sets::SigSet;
+use sets::StateSet;
+use shapes::Shape;
+use shapes::row;
+ghost use mathlib.Core.Path.{_≡_};
+ghost use mathlib.Core.Bool.{true, cond};
+ghost use Prim.Native.Nat.{ℕ, suc, _≤_, _<_, _+_, _*_};
+ghost use lib.ListN.{length};
+ghost use Rattle.sets.specs.Set.{states, setOf, sigsOf, holds, insert};
+ghost use Rattle.texts.specs.Exp.{size};
+ghost use Rattle.texts.specs.Grammar.{Text, textReads, okBody};
+ghost use Rattle.texts.specs.Records.{each, edgesTo, recordsOf};
+ghost use Rattle.records.specs.Front.{Writes};
+ghost use Rattle.shapes.specs.Rows.{Sums};
+ghost use Rattle.compile.specs.Compile.{expOf, freeOf, Arrive, Ends, refused, made, Gives, Compiles};
+
+// What compiling answers: a refusal's number or 0, the place of 19, and the length of the list.
+pub struct Compiled {
+    pub refusal: u32,
+    pub place: usize,
+    pub length: usize,
+}
+
+// The states that the edges to a state leave, and the bytes that they are taken on.
+struct Incoming {
+    from: StateSet,
+    letter: SigSet,
+}
+
+// Says whether one `^` binds a good text to the front.
+fn is_bound(text: &[u8]) -> bool
+    ensures { λ r. ⌜ ((x : Text) → okBody (x .body) ≡ true → textReads x ≡ now (text .entry) → r ≡ x .bound) ⌝ }
+{
+    if 0 < text.len() {
+        return text[0] == 94;
+    }
+    false
+}
+
+// The edges from state 0 to itself: on any byte, unless the text is bound.
+fn any_arrows(bound: bool) -> Incoming
+    ensures { λ r. ⌜ (setOf (r .from) ≡ cond bound 0 (insert states 0 0)) × ((c : ℕ) → c < 256 → holds (sigsOf (r .letter)) c ≡ true) ⌝ }
+{
+    let none = StateSet::EMPTY;
+    let letter = span(SigSet::EMPTY, 0, 255);
+    if bound {
+        return Incoming {
+            from: none,
+            letter: letter,
+        };
+    }
+    Incoming {
+        from: none.with(0),
+        letter: letter,
+    }
+}
+
+// The edges to state t of a good text's position automaton.
+fn arrows(text: &[u8], t: usize) -> Incoming
+    ensures { λ r. ⌜ ((x : Text) → okBody (x .body) ≡ true → textReads x ≡ now (text .entry) → size (expOf x) < states → t ≤ size (expOf x) → Arrive (freeOf x) (expOf x) t (setOf (r .from)) (holds (sigsOf (r .letter)))) ⌝ }
+{
+    if t == 0 {
+        return any_arrows(is_bound(text));
+    }
+    let shape = row(text, t);
+    let from = shape.prior;
+    let letter = shape.letter;
+    if shape.first {
+        return Incoming {
+            from: from.with(0),
+            letter: letter,
+        };
+    }
+    Incoming {
+        from: from,
+        letter: letter,
+    }
+}
+
+// The states that accept.
+fn ends_of(shape: Shape) -> StateSet
+    ensures { λ r. ⌜ ((x : Text) → Sums 0 1 (expOf x) shape → size (expOf x) < states → Ends (expOf x) (setOf r)) ⌝ }
+{
+    let last = shape.last;
+    if shape.null {
+        return last.with(0);
+    }
+    last
+}
+
+// How many edges a good text's position automaton has; it has m states.
+fn count_edges(text: &[u8], m: usize) -> usize
+    requires { ⌜ m ≤ states ⌝ }
+    ensures { λ r. ⌜ (r ≤ 263168 * m) × ((x : Text) → okBody (x .body) ≡ true → textReads x ≡ now (text .entry) → m ≡ suc (size (expOf x)) → r ≡ length (each (edgesTo (freeOf x) (expOf x)) m)) ⌝ }
+{
+    let mut total: usize = 0;
+    let mut t: usize = 0;
+    while t < m {
+        let a = arrows(text, t);
+        let from = a.from;
+        let letter = a.letter;
+        let runs = run_count(letter);
+        total = total + weigh(from, m, runs);
+        t = t + 1;
+    }
+    total
+}
+
+// Puts them into an empty front of the list.
+fn put_edges(text: &[u8], list: &mut [u8], m: usize) -> usize
+    requires { ⌜ m ≤ states ⌝ }
+    ensures { λ r. ⌜ ((x : Text) → okBody (x .body) ≡ true → textReads x ≡ now (text .entry) → m ≡ suc (size (expOf x)) → Writes (now (list .entry)) (now (list .exit)) 0 (each (edgesTo (freeOf x) (expOf x)) m) r) ⌝ }
+{
+    let mut k: usize = 0;
+    let mut t: usize = 0;
+    while t < m {
+        let a = arrows(text, t);
+        let from = a.from;
+        let letter = a.letter;
+        k = put_arrows(list, k, from, letter, t, m);
+        t = t + 1;
+    }
+    k
+}
+
+// Puts all records of a good text into an empty front of the list.
+fn put_all(text: &[u8], g: u8, list: &mut [u8], m: usize, ends: StateSet) -> usize
+    requires { ⌜ m ≤ states ⌝ }
+    ensures { λ r. ⌜ ((x : Text) → okBody (x .body) ≡ true → textReads x ≡ now (text .entry) → m ≡ suc (size (expOf x)) → Ends (expOf x) (setOf ends) → Writes (now (list .entry)) (now (list .exit)) 0 (recordsOf x g) r) ⌝ }
+{
+    let k = put_edges(text, list, m);
+    let j = put_in(list, k, start_record());
+    put_ends(list, j, ends, g, m)
+}
+
+// The answer of a refusal.
+fn refused(refusal: u32, place: usize) -> Compiled
+    ensures { λ r. ⌜ (r .refusal ≡ refusal) × (r .place ≡ place) × (r .length ≡ 0) ⌝ }
+{
+    Compiled {
+        refusal: refusal,
+        place: place,
+        length: 0,
+    }
+}
+
+// The list of a good text, or 21.
+fn build(text: &[u8], g: u8, list: &mut [u8]) -> Compiled
+    ensures { λ r. ⌜ ((x : Text) → okBody (x .body) ≡ true → textReads x ≡ now (text .entry) → Gives (made x g (now (list .entry))) r (now (list .exit))) ⌝ }
+{
+    let whole = row(text, 0);
+    let n = whole.size;
+    if sets::STATES <= n {
+        return refused(21, 0);
+    }
+    let m = n + 1;
+    let ends = ends_of(whole);
+    let count = count_edges(text, m) + 1 + weigh(ends, m, 1);
+    if lists::MOST_RECORDS < count {
+        return refused(21, 0);
+    }
+    if list.len() / 8 < count {
+        return refused(21, 0);
+    }
+    put_all(text, g, list, m, ends);
+    Compiled {
+        refusal: 0,
+        place: 0,
+        length: 8 * count,
+    }
+}
+
+// The list of a signature text, under a signature: 20, 19 with the place, 21, or the list in the front of the lent one and its length.
+pub fn compile(text: &[u8], signature: u8, list: &mut [u8]) -> Compiled
+    ensures { λ r. ⌜ Compiles (now (text .entry)) signature (now (list .entry)) r (now (list .exit)) ⌝ }
+{
+    let parsed = check_text(text);
+    match parsed {
+        Parsed::Good => build(text, signature, list),
+        Parsed::Bad(p) => refused(19, p),
+        Parsed::Deep => refused(20, 0),
+    }
+}

@@ -1,0 +1,144 @@
+-- The list that compiling wrote serves: it passes 1 to 3 everywhere, and flows under it tell the pairs of the text's language. Assumes nothing.
+use Prim.Native.Nat.{ℕ, zero, suc, _<_}
+use mathlib.Core.Path.{_≡_, refl, sym, ap, subst, _∙_}
+use mathlib.Core.Bool.{Bool, true, false}
+use mathlib.Core.List.{List, [], _∷_, _++_}
+use mathlib.Core.Logic.{_⊎_, inl, inr, _↔_}
+use native.Mathlib.Omega.{arith}
+use native.Mathlib.Decide.{ℕ-discrete}
+use lib.ListN.{length, take, drop}
+use lib.Seq.{take-append-seam}
+use Rattle.rules.specs.Rules as rules
+use Rattle.rules.proofs.Rules.{verdict-then}
+use Rattle.lists.specs.List.{listRules, listRefusal}
+use Rattle.feeds.specs.Calls.{Bytes}
+use Rattle.flows.specs.Flow.{flowLayout, offsetOf}
+use Rattle.plain.specs.Plain.{openFlow, plainFeed, pairsOf, opened}
+use Rattle.tables.specs.Table.{Table}
+use Rattle.splits.specs.Split.{splitFeed}
+use Rattle.extended.specs.Machine.{badMachine, machineRules}
+use Rattle.certificates.specs.Certificate.{badCertificate}
+use Rattle.demands.specs.Words.{Row, None, First, InWords, listWords, openingRows, flowWords, lengthWords, sizeWords, entryWords, orderWords, lentWords}
+use Rattle.demands.specs.Calls.{Call}
+use Rattle.demands.specs.Demands.{openTold, bytesOf, wordsOf, InBytes, Each, Swaps}
+use Rattle.demands.proofs.Demand1.{demand-1}
+use Rattle.demands.proofs.Due.{begins}
+use Rattle.demands.proofs.Swapping.{all-of, swapped}
+use Rattle.texts.specs.Grammar.{Text, okBody, textReads}
+use Rattle.texts.specs.Acceptor.{begin, live, verdict}
+use Rattle.texts.specs.Records.{listOf, tooBig}
+use Rattle.texts.proofs.Deep.{good-0}
+use Rattle.compile.specs.declared.Compiled.{Compiled}
+use Rattle.compile.specs.Compile.{Outcome, refused, written, made, Gives, Compiles}
+use Rattle.compile.proofs.Exactly.{Reading, compile-0}
+use Rattle.languages.specs.Language.{EndsIn, RecordsRise}
+use Rattle.languages.specs.Flows.{front, Past, PassesAll, Tells, Serves}
+use Rattle.segments.specs.Ways.{plainWay, splitWay}
+use Rattle.languages.proofs.Segments.{segment-past}
+use Rattle.languages.proofs.Pairs.{compiled-rises, compiled-passes, compiled-pairs}
+
+-- ---- a list that passes the check is refused with 1 to 3 nowhere
+
+-- the numbers of some rows are over 3
+abbrev Over : List Row → Type 0
+Over [] = Unit {0}
+Over (w ∷ ws) = (3 < w .0) × Over ws
+
+first-over : (ws : List Row) (n : ℕ) → Over ws → First ws n → 3 < n
+first-over [] n o f = absurd f
+first-over (w ∷ ws) n (l, o) (inl (e, p)) = subst (λ k. 3 < k) e l
+first-over (w ∷ ws) n (l, o) (inr (p, f)) = first-over ws n o f
+
+-- behind 1 to 3 a certificate's rules are 24 and 22
+certificate-past : (a b : Bool) → Past (rules.verdict ((24, a) ∷ ((22, b) ∷ [])))
+unfolding rules.verdict
+certificate-past true b = inr (omega arith)
+certificate-past false true = inr (omega arith)
+certificate-past false false = inl refl
+
+module _ (L : List ℕ) (z : listRefusal L ≡ 0) where
+  none : None (listWords L)
+  none = demand-1 .lists-said L .passes .0 z
+
+  skip : (ws : List Row) (n : ℕ) → First (listWords L ++ ws) n → First ws n
+  skip ws n (inl (e, p)) = absurd (none .0 p)
+  skip ws n (inr (a, inl (e, p))) = absurd (none .1 .0 p)
+  skip ws n (inr (a, inr (b, inl (e, p)))) = absurd (none .1 .1 .0 p)
+  skip ws n (inr (a, inr (b, inr (c, f)))) = f
+
+  past : (ws : List Row) (n : ℕ) → Over ws → InWords (listWords L ++ ws) n → Past n
+  past ws zero o w = inl refl
+  past ws (suc n) o w = inr (first-over ws (suc n) o (skip ws (suc n) (w .gives (suc n) (λ e. omega (arith, e)) .0 refl)))
+
+  pub passes-all : PassesAll L
+  passes-all =
+      record {
+        lists = z;
+        opens = λ R out. past (openingRows L R out) _ (omega arith, (omega arith, tt)) (demand-1 .opens-said L R out);
+        feeds = fed;
+        fills = λ X n left f. past (lengthWords L X) n (omega arith, tt) (demand-1 .fills-said L X n left f);
+        matrices = λ X R at piece out. past (flowWords L R at piece ++ lengthWords L X) _ (omega arith, (omega arith, (omega arith, (omega arith, tt)))) (demand-1 .matrices-said L X R at piece out);
+        tables = λ b T. past (sizeWords b T ++ entryWords L b T) _ (omega arith, (omega arith, (omega arith, (omega arith, (omega arith, (omega arith, (omega arith, tt))))))) (demand-1 .tables-said L b T);
+        splits = λ b T R at piece out. split b T R at piece out (splitFeed L b T R at piece out .refusal) refl;
+        indexes = λ b T X n left f. past _ n (omega arith, (omega arith, (omega arith, (omega arith, (omega arith, (omega arith, (omega arith, tt))))))) (demand-1 .indexes-said L b T X n left f);
+        builds = λ T o f. past _ (o .refusal) (omega arith, (omega arith, tt)) (demand-1 .builds-said L T o f);
+        certificates = λ M P Z. subst Past (sym (verdict-then (listRules L) (machineRules M P ++ ((22, badCertificate L M P Z) ∷ [])) refl z)) (certificate-past (badMachine M P) (badCertificate L M P Z));
+        segments = segment-past (plainWay L) flowLayout (λ R d out. fed R (offsetOf R) d out);
+        split-segments = λ b T. segment-past (splitWay L b T) flowLayout (λ R d out. split b T R (offsetOf R) d out (splitFeed L b T R (offsetOf R) d out .refusal) refl);
+      }
+    where
+      fed : (R : List ℕ) (at : ℕ) (piece out : List ℕ) → Past (plainFeed L R at piece out .refusal)
+      fed R at piece out = past (flowWords L R at piece) _ (omega arith, (omega arith, (omega arith, tt))) (demand-1 .feeds-said L R at piece out)
+
+      split : (b : ℕ) (T : Table) (R : List ℕ) (at : ℕ) (piece out : List ℕ) (n : ℕ) → splitFeed L b T R at piece out .refusal ≡ n → Past n
+      split b T R at piece out zero e = inl refl
+      split b T R at piece out (suc n) e = elim (ℕ-discrete (suc n) 14) [
+        | yes q ↦ inr (omega (arith, q))
+        | no q ↦ inr (first-over (flowWords L R at piece ++ (sizeWords b T ++ orderWords T)) (suc n) (omega arith, (omega arith, (omega arith, (omega arith, (omega arith, (omega arith, tt))))))
+            (skip (flowWords L R at piece ++ (sizeWords b T ++ orderWords T)) (suc n) (demand-1 .splits-said L b T R at piece out (suc n) (λ y. omega (arith, y)) q .0 e)))
+      ]
+
+-- ---- the list of a text
+
+module _ (x : Text) (g room : ℕ) (ok : okBody (x .body) ≡ true) (small : g < 256) (fits : tooBig room x g ≡ false) where
+  abbrev L : List ℕ
+  L = listOf x g
+
+  tells : (R out : List ℕ) → openFlow L R out .refusal ≡ 0 → (cs : List Call) → InBytes cs → Each (Swaps L) (openFlow L R out .saved) cs
+      → Tells x g (bytesOf (openFlow L R out .saved) cs) (openTold (openFlow L R out) ++ wordsOf (openFlow L R out .saved) cs)
+  tells R out z cs hb h =
+      let d = swapped L R out z cs hb h .due in
+      let q = begins L R out z in
+      let eaten : Bytes (bytesOf (openFlow L R out .saved) cs) = rw (q .1) (all-of L cs hb (rw (q .1) at h) .bytes) in
+      let p = compiled-pairs x g room ok small fits (bytesOf (openFlow L R out .saved) cs) eaten in
+      record { told = λ h k. rw (d .tells) (p h k); ordered = d .ordered }
+
+  pub list-serves : Serves x g L
+  list-serves = record { rises = compiled-rises x g room ok small fits; passes = passes-all L (compiled-passes x g room ok small fits); tells = tells }
+
+-- ---- what compiling wrote
+
+module _ (T : List ℕ) (g : ℕ) (A : List ℕ) (r : Compiled) (B : List ℕ) (bytes : Bytes T) (small : g < 256) (c : Compiles T g A r B) (z : r .refusal ≡ 0) where
+  no-verdict : verdict (live 0 begin) 0 T .0 ≡ 0
+  no-verdict = elim (ℕ-discrete (verdict (live 0 begin) 0 T .0) 0) [
+    | yes v ↦ v
+    | no v ↦ absurd (v (sym (c .bad v .refusal) ∙ z))
+  ]
+
+  fit : (x : Text) × Reading T x × (tooBig (length A) x g ≡ false)
+  fit =
+      let (x, ok, e) = good-0 T bytes .0 no-verdict .0 in
+      (x, (ok, e), go x (c .good no-verdict x ok e .refusal) (tooBig (length A) x g) refl)
+    where
+      go : (x : Text) → r .refusal ≡ made x g A .refusal → (b : Bool) → tooBig (length A) x g ≡ b → tooBig (length A) x g ≡ false
+      go x e true q = absurd (let w : r .refusal ≡ 21 = rw q at e in omega (arith, w, z))
+      go x e false q = q
+
+  -- without a refusal the front of the lent list is the text's: it rises, passes 1 to 3 in every entry point, and any flow under it tells exactly the pairs of the language
+  pub compiled-serves : (x : Text) × Reading T x × Serves x g (front r B)
+  compiled-serves =
+      let (x, (ok, e), small-enough) = fit in
+      let (a, n, b) = compile-0 T g A r B bytes c x (ok, e) (good-0 T bytes .0 no-verdict .1) small-enough in
+      let q : front r B ≡ listOf x g =
+      ap (λ (k : ℕ). take k B) n ∙ ap (take (length (listOf x g))) b ∙ take-append-seam (listOf x g) (drop (length (listOf x g)) A) in
+      (x, (ok, e), subst (Serves x g) (sym q) (list-serves x g (length A) ok small small-enough))

@@ -1,0 +1,10 @@
+pub mod Found
+pub mod Ran
+pub mod Bounds
+pub mod Members
+pub mod Automaton
+pub mod Checked
+pub mod Rise
+pub mod Pairs
+pub mod Segments
+pub mod Flows

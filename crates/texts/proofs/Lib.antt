@@ -1,0 +1,14 @@
+pub mod Words
+pub mod Places
+pub mod Runs
+pub mod Examples
+pub mod Reading
+pub mod Peeling
+pub mod Viable
+pub mod Scanned
+pub mod Passed
+pub mod Place
+pub mod Copies
+pub mod Meaning
+pub mod Deep
+pub mod Big

@@ -1,0 +1,6 @@
+pub mod Exp
+pub mod Grammar
+pub mod Records
+pub mod Acceptor
+pub mod Means
+pub mod Examples

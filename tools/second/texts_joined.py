@@ -1,0 +1,137 @@
+"""Tests how a program makes one list of a file of texts: the pairs of the joined list are those of its texts, a single text's list is as it is compiled, and
+each line that is refused is said.
+
+  python3 tools/second/texts_joined.py FOLDER COMMAND ...
+
+The command takes a file of texts and a file for the list behind it; `bindings/c/signatures.c` says what they hold. Files are made in the folder.
+"""
+
+import subprocess
+import sys
+
+sys.dont_write_bytecode = True
+
+from pathlib import Path
+
+import model
+import texts
+import texts_cases
+from dice import Dice
+from texts_examples import nested
+
+SEED, FILES, PIECES = 20261119, 60, 12
+FOLDER, COMMAND = Path(sys.argv[1]), sys.argv[2:]
+
+
+def run(lines):
+    """The exit status, what is said on standard error, and the list, or None where there is none."""
+    (FOLDER / "texts").write_bytes(b"".join(line + b"\n" for line in lines))
+    (FOLDER / "list").unlink(missing_ok=True)
+    ended = subprocess.run(COMMAND + [str(FOLDER / "texts"), str(FOLDER / "list")], stdout=subprocess.PIPE, stderr=subprocess.PIPE, check=False)
+    assert ended.stdout == b""
+    made = (FOLDER / "list").read_bytes() if (FOLDER / "list").exists() else None
+    return ended.returncode, ended.stderr.decode(), made
+
+
+def pairs(made, piece):
+    """The pairs of a flow under a list, by the model."""
+    words = [0] * 4096
+    opened = model.open_flow(made, bytes(model.FLOW_SIZE), words)
+    fed = model.plain_feed(made, opened.record, 0, words, piece)
+    assert opened.refusal == fed.refusal == 0 and fed.all
+    told = opened.words[:2 * opened.pairs] + fed.words[:2 * fed.pairs]
+    return [(told[i + 1], told[i]) for i in range(0, len(told), 2)]
+
+
+def text_of(dice):
+    while True:
+        text = texts_cases.good_text(dice, limit=30)
+        if b"\n" not in text:
+            return text
+
+
+def joined(dice):
+    """Random files: the pairs of the list are the union of those of the texts."""
+    told = 0
+    for _ in range(FILES):
+        signatures = [(dice.pick([1, 2, 3, 0, 255]), text_of(dice)) for _ in range(dice.pick([1, 2, 2, 3, 6]))]
+        lines = [str(number).encode() + b" " + text for number, text in signatures]
+        status, said, made = run([dice.pick([b"# " + line, b""]) for line in lines] + lines)
+        assert status == 0 and said.startswith("signatures: %d text" % len(lines)), said
+        records = [made[at:at + 8] for at in range(0, len(made), 8)]
+        assert all(one < other for one, other in zip(records, records[1:]))
+        if len(lines) == 1:
+            assert made == texts.compile_text(signatures[0][1], signatures[0][0], bytes(70000)).list[:len(made)]
+        for _ in range(PIECES):
+            piece = texts_cases.piece_of(dice, dice.below(16))
+            due = sorted({(offset, number) for number, text in signatures for offset in texts.ends(text, piece)})
+            assert pairs(made, piece) == due, (lines, piece)
+            told += len(due)
+    return told
+
+
+def refused():
+    """Lines that are refused are said, each with its number and the place; no list is written."""
+    shown = "    12 a{45,301}\n" + " " * (4 + 3 + 7) + "^\n"
+    status, said, made = run([b"7 ab", b"", b"12 a{45,301}", b"9 " + b"(" * 17, b"ab", b"256 a", b"8 " + nested(b"a", 2, b"{300,300}"), b"3 (a\xc3"])
+    assert (status, made) == (1, None)
+    for line in (3, 4, 5, 6, 7, 8):
+        assert "signatures: line %d: " % line in said, said
+    assert shown in said and "line 3: refused 19" in said and "line 4: refused 20" in said and "line 7: refused 21" in said, said
+    assert "    3 (a?\n" + " " * 9 + "^\n" in said, said
+    assert "line 1:" not in said and "line 2:" not in said
+    assert run([b"# nothing"])[0::2] == (1, None)
+
+
+def limits():
+    """1,024 states and 8,192 records pass, one more does not. The start states are shared."""
+    half = b"^a{300,300}b{211,211}"  # 511 positions
+    status, said, made = run([b"1 " + half, b"2 " + half])
+    assert (status, said) == (0, "signatures: 2 texts, 1023 states, 1025 records\n"), said
+    status, said, made = run([b"1 " + half, b"2 " + half, b"3 ^c"])
+    assert (status, said) == (0, "signatures: 3 texts, 1024 states, 1027 records\n"), said
+    assert run([b"1 " + half, b"2 " + half, b"3 ^cd"])[0::2] == (1, None)
+    assert run([b"1 " + half, b"2 " + half, b"3 c"])[0::2] == (1, None)
+    many = [b"5 ^" + texts_cases.RUNS + b"{63,63}", b"6 ^" + b"b{%d,%d}"]
+    status, said, made = run([many[0], many[1] % (125, 125)])
+    assert (status, len(made)) == (0, 8 * 8192), said
+    assert run([many[0], many[1] % (126, 126)])[0::2] == (1, None)
+
+
+def same_pairs(one, other):
+    """Whether two lists tell the same pairs of every flow: the frontiers that the same bytes lead to accept the same signatures."""
+    one, other = model.automaton(one), model.automaton(other)
+    seen = {(one.starts, other.starts)}
+    left = list(seen)
+    while left:
+        a, b = left.pop()
+        if one.signatures(a) != other.signatures(b):
+            return False
+        for byte in range(256):
+            pair = (one.step(a, byte), other.step(b, byte))
+            if pair not in seen:
+                seen.add(pair)
+                left.append(pair)
+    return True
+
+
+def example():
+    """The list of the example's text, and the one that is written record by record."""
+    folder = Path(__file__).resolve().parent.parent.parent / "examples" / "two-breakfasts"
+    lines = (folder / "signatures").read_bytes().splitlines()
+    status, said, made = run(lines)
+    assert (status, said) == (0, "signatures: 1 text, 16 states, 29 records\n"), said
+    rules = (folder / "rules.bin").read_bytes()
+    assert made != rules and same_pairs(made, rules)
+    assert not same_pairs(run([lines[-1].replace(b".*", b".+")])[2], rules)
+
+
+def main():
+    example()
+    limits()
+    told = joined(Dice(SEED))
+    refused()
+    print("texts_joined: %d files, %d pairs, all those of the texts" % (FILES, told))
+
+
+main()
