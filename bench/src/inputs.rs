@@ -201,6 +201,20 @@ pub fn either_case(mut list: Vec<u8>) -> Vec<u8> {
     list
 }
 
+/// A full list of one start and edges of one letter in either case, from every state to itself and from others: fed the other case, each
+/// record of a frontier of all states passes every test before its target is put.
+pub fn one_letter_list(letter: u8) -> Vec<u8> {
+    let mut dice = Dice(letter.into());
+    let mut list = vec![start(0)];
+    list.extend((0..STATES).map(|s| edge(letter, letter, s as u16, s as u16)));
+    while list.len() < MOST_RECORDS {
+        let (from, to) = (dice.state(), dice.state());
+        list.push(edge(letter, letter, from, to));
+    }
+    dice.mix(&mut list);
+    either_case(list.concat())
+}
+
 /// The orders of a line: each a letter and then its digit, "A0" to "H7". State 0 stays for ever; order i is at state 1 + i after its
 /// letter and at state 1 + ORDERS + i after its digit, which accepts.
 const ORDERS: u8 = 8;

@@ -520,6 +520,11 @@ fn rows() -> Vec<Row> {
             }),
         );
     }
+    row(
+        format!("plain feed, {full} records of one letter in either case, the other fed, frontier {STATES}"),
+        2,
+        Box::new(|| (inputs::one_letter_list(b'a'), fed(STATES, b"A".repeat(512)))),
+    );
     let traffic: [(&str, fn(usize) -> Vec<u8>); 2] = [
         (QUIET, inputs::quiet_bytes),
         (TELLING, inputs::telling_bytes),
