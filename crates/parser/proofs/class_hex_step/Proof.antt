@@ -34,14 +34,14 @@ returns : tie.Need-returns
 unfolding mode
 returns c =
     let x = c .before .before .before .before .args .c in
-    let h : isHex x ≡ true = cc in
+    let h : isHex x ≡ true = sym (c .before .before .before .is-hex .ensures) ∙ c .before .before .if1 .taken in
     λ d. rw (h, c .before .hex-value .ensures .0, c .hex-value2 .ensures .0)
 
 returns-2 : tie.Need-returns-2
 unfolding mode
 returns-2 c =
     let x = c .before .before .args .c in
-    let h : isHex x ≡ false = cc in
+    let h : isHex x ≡ false = sym (c .before .is-hex .ensures) ∙ c .if1 .left in
     λ d. rw h
 
 pub class-hex-step-spec : {M : Type 1} → statement M

@@ -20,13 +20,13 @@ is-hex-requires c κs = search needs
 returns : tie.Need-returns
 returns c =
     let x = c .before .before .args .c in
-    let h : isHex x ≡ true = cc in
+    let h : isHex x ≡ true = sym (c .before .is-hex .ensures) ∙ c .if1 .taken in
     rw h
 
 returns-2 : tie.Need-returns-2
 returns-2 c =
     let x = c .before .before .args .c in
-    let h : isHex x ≡ false = cc in
+    let h : isHex x ≡ false = sym (c .before .is-hex .ensures) ∙ c .if1 .left in
     rw h
 
 pub hex-step-spec : {M : Type 1} → statement M

@@ -5,7 +5,8 @@ use Rattle.texts.specs.Grammar.{isDigit, hexValue}
 use lib.Dec.{leb}
 use borrow.Author.Tests.{le-leb, lt-leb}
 use mathlib.Core.Bool.{true, false}
-use mathlib.Core.Path.{_≡_}
+use mathlib.Core.Path.{_≡_, sym, ap, _∙_}
+use Prim.Native.Nat.{_-_}
 use Rattle.parser.proofs.hex_value.Statement.{statement}
 use Rattle.parser.proofs.hex_value.Tie as tie
 use Rattle.parser.proofs.hex_value.Reads as reads
@@ -26,8 +27,8 @@ less-requires c κs = search needs
 returns : tie.Need-returns
 unfolding hexValue
 returns c =
-    let h : isDigit (c .before .before .before .before .args .c) ≡ true = cc in
-    (rw h (cc), omega arith)
+    let h : isDigit (c .before .before .before .before .args .c) ≡ true = sym (c .before .before .is-digit .ensures) ∙ c .before .if1 .taken in
+    (rw h (c .less .ensures ∙ ap (λ z. z - 48) (c .before .before .before .wide .ensures .0)), omega arith)
 
 less-requires-2 : tie.Need-less-requires-2
 less-requires-2 c κs = search needs
@@ -36,9 +37,9 @@ returns-2 : tie.Need-returns-2
 unfolding hexValue
 returns-2 c =
     let x = c .before .before .before .before .before .args .c in
-    let h : isDigit x ≡ false = cc in
+    let h : isDigit x ≡ false = sym (c .before .before .before .is-digit .ensures) ∙ c .before .before .if1 .left in
     let l : leb x 70 ≡ true = le-leb x 70 (omega arith) in
-    (rw (h, l) (cc), omega arith)
+    (rw (h, l) (c .less2 .ensures ∙ ap (λ z. z - 55) (c .before .before .before .before .wide .ensures .0)), omega arith)
 
 less-requires-3 : tie.Need-less-requires-3
 less-requires-3 c κs = search needs
@@ -47,9 +48,9 @@ returns-3 : tie.Need-returns-3
 unfolding hexValue
 returns-3 c =
     let x = c .before .before .before .before .before .args .c in
-    let h : isDigit x ≡ false = cc in
+    let h : isDigit x ≡ false = sym (c .before .before .before .is-digit .ensures) ∙ c .before .before .if1 .left in
     let l : leb x 70 ≡ false = lt-leb x 70 (omega arith) in
-    (rw (h, l) (cc), omega arith)
+    (rw (h, l) (c .less3 .ensures ∙ ap (λ z. z - 87) (c .before .before .before .before .wide .ensures .0)), omega arith)
 
 pub hex-value-spec : {M : Type 1} → statement M
 hex-value-spec =

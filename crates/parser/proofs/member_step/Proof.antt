@@ -30,7 +30,7 @@ unfolding members
 returns-2 c =
     let x = c .before .before .before .args .c in
     let e92 : eqb x 92 ≡ false = ne-eqb x 92 (λ z. omega arith) in
-    let h : amid x classSpecial ≡ true = cc in
+    let h : amid x classSpecial ≡ true = sym (c .before .class-special .ensures) ∙ c .if2 .taken in
     λ d. rw (e92, h)
 
 wide-requires : tie.Need-wide-requires
@@ -41,7 +41,7 @@ unfolding members
 returns-3 c =
     let x = c .before .before .before .before .args .c in
     let e92 : eqb x 92 ≡ false = ne-eqb x 92 (λ z. omega arith) in
-    let h : amid x classSpecial ≡ false = cc in
+    let h : amid x classSpecial ≡ false = sym (c .before .before .class-special .ensures) ∙ c .before .if2 .left in
     λ d. rw (e92, h, c .wide .ensures .0)
 
 pub member-step-spec : {M : Type 1} → statement M

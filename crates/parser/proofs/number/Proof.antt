@@ -110,7 +110,7 @@ loop-again c =
     let i = c .before .before .before .before .before .before .before .before .before .before .loop .inv in
     let e : getD T n 0 ≡ cond (a .second) 125 44 → ⊥ = λ z. c .before .before .before .before .before .before .before .if1 .left (z ∙ sym (c .before .before .before .before .before .before .before .before .before .before .before .before .pre .1)) in
     let p : n < length T = omega arith in
-    let g : isDigit (getD T n 0) ≡ true = cc in
+    let g : isDigit (getD T n 0) ≡ true = sym (c .before .before .before .before .before .is-digit .ensures) ∙ c .before .before .before .before .if4 .taken in
     let q : c .before .before .less .result ≡ getD T n 0 - 48 = c .before .before .less .ensures ∙ ap (λ z. z - 48) (c .before .before .before .wide .ensures .0) in
     let w : can (a .low) (r - 1) (10 * v + (getD T n 0 - 48)) ≡ true = sym (ap (λ z. can (a .low) (r - 1) (10 * v + z)) q) ∙ sym (c .before .can-end .ensures) ∙ c .if5 .taken in
     let s : 10 * v + (getD T n 0 - 48) ≤ 300 = can-small (a .low) (r - 1) (10 * v + (getD T n 0 - 48)) w in
@@ -126,7 +126,7 @@ returns-4 c =
     let i = c .before .before .before .before .before .before .before .before .before .before .loop .inv in
     let e : getD T n 0 ≡ cond (a .second) 125 44 → ⊥ = λ z. c .before .before .before .before .before .before .before .if1 .left (z ∙ sym (c .before .before .before .before .before .before .before .before .before .before .before .before .pre .1)) in
     let p : n < length T = omega arith in
-    let g : isDigit (getD T n 0) ≡ true = cc in
+    let g : isDigit (getD T n 0) ≡ true = sym (c .before .before .before .before .before .is-digit .ensures) ∙ c .before .before .before .before .if4 .taken in
     let q : c .before .before .less .result ≡ getD T n 0 - 48 = c .before .before .less .ensures ∙ ap (λ z. z - 48) (c .before .before .before .wide .ensures .0) in
     let w : can (a .low) (r - 1) (10 * v + (getD T n 0 - 48)) ≡ false = sym (ap (λ z. can (a .low) (r - 1) (10 * v + z)) q) ∙ sym (c .before .can-end .ensures) ∙ c .if5 .left in
     ((λ d l. i .4 d l ∙ num-over T n (a .second) (a .low) r v d l p e (λ z. omega arith) g w), tt)
@@ -141,7 +141,7 @@ returns-5 c =
     let i = c .before .before .before .before .before .before .loop .inv in
     let e : getD T n 0 ≡ cond (a .second) 125 44 → ⊥ = λ z. c .before .before .before .if1 .left (z ∙ sym (c .before .before .before .before .before .before .before .before .pre .1)) in
     let p : n < length T = omega arith in
-    let g : isDigit (getD T n 0) ≡ false = cc in
+    let g : isDigit (getD T n 0) ≡ false = sym (c .before .is-digit .ensures) ∙ c .if4 .left in
     ((λ d l. i .4 d l ∙ num-other T n (a .second) (a .low) r v d l p e (λ z. omega arith) g), tt)
 
 returns-6 : tie.Need-returns-6 Inv-loop μ-loop

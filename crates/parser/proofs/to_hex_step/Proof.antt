@@ -32,7 +32,7 @@ unfolding mode
 returns c =
     let x = c .before .before .before .before .args .c in
     let v = c .before .before .before .before .args .v in
-    let h : isHex x ≡ true = cc in
+    let h : isHex x ≡ true = sym (c .before .before .before .is-hex .ensures) ∙ c .before .before .if1 .taken in
     let l : leb v (16 * hexValue x + 15) ≡ true = le-leb v (16 * hexValue x + 15) (omega arith) in
     λ d. rw (h, l)
 
@@ -41,7 +41,7 @@ unfolding mode
 returns-2 c =
     let x = c .before .before .before .before .args .c in
     let v = c .before .before .before .before .args .v in
-    let h : isHex x ≡ true = cc in
+    let h : isHex x ≡ true = sym (c .before .before .before .is-hex .ensures) ∙ c .before .before .if1 .taken in
     let l : leb v (16 * hexValue x + 15) ≡ false = lt-leb v (16 * hexValue x + 15) (omega arith) in
     λ d. rw (h, l)
 
@@ -49,7 +49,7 @@ returns-3 : tie.Need-returns-3
 unfolding mode
 returns-3 c =
     let x = c .before .before .args .c in
-    let h : isHex x ≡ false = cc in
+    let h : isHex x ≡ false = sym (c .before .is-hex .ensures) ∙ c .if1 .left in
     λ d. rw h
 
 pub to-hex-step-spec : {M : Type 1} → statement M

@@ -36,7 +36,7 @@ returns c =
     let x = c .before .before .before .before .before .args .c in
     let v = c .before .before .before .before .before .args .v in
     let a = c .before .before .before .before .before .args .a in
-    let h : isHex x ≡ true = cc in
+    let h : isHex x ≡ true = sym (c .before .before .before .before .is-hex .ensures) ∙ c .before .before .before .if1 .taken in
     let l : leb v (16 * hexValue a + hexValue x) ≡ true = le-leb v (16 * hexValue a + hexValue x) (omega arith) in
     λ d. rw (h, l)
 
@@ -46,7 +46,7 @@ returns-2 c =
     let x = c .before .before .before .before .before .args .c in
     let v = c .before .before .before .before .before .args .v in
     let a = c .before .before .before .before .before .args .a in
-    let h : isHex x ≡ true = cc in
+    let h : isHex x ≡ true = sym (c .before .before .before .before .is-hex .ensures) ∙ c .before .before .before .if1 .taken in
     let l : leb v (16 * hexValue a + hexValue x) ≡ false = lt-leb v (16 * hexValue a + hexValue x) (omega arith) in
     λ d. rw (h, l)
 
@@ -54,7 +54,7 @@ returns-3 : tie.Need-returns-3
 unfolding mode
 returns-3 c =
     let x = c .before .before .args .c in
-    let h : isHex x ≡ false = cc in
+    let h : isHex x ≡ false = sym (c .before .is-hex .ensures) ∙ c .if1 .left in
     λ d. rw h
 
 pub to-last-step-spec : {M : Type 1} → statement M

@@ -30,7 +30,7 @@ unfolding mode
 returns-2 c =
     let x = c .before .before .before .args .c in
     let e92 : eqb x 92 ≡ false = ne-eqb x 92 (λ z. omega arith) in
-    let h : amid x classSpecial ≡ true = cc in
+    let h : amid x classSpecial ≡ true = sym (c .before .class-special .ensures) ∙ c .if2 .taken in
     λ d. rw (e92, h)
 
 wide-requires : tie.Need-wide-requires
@@ -42,7 +42,7 @@ returns-3 c =
     let x = c .before .before .before .before .before .args .c in
     let v = c .before .before .before .before .before .args .v in
     let e92 : eqb x 92 ≡ false = ne-eqb x 92 (λ z. omega arith) in
-    let h : amid x classSpecial ≡ false = cc in
+    let h : amid x classSpecial ≡ false = sym (c .before .before .before .class-special .ensures) ∙ c .before .before .if2 .left in
     let l : ltb x v ≡ true = lt-ltb x v (omega arith) in
     λ d. rw (e92, h, l)
 
@@ -52,7 +52,7 @@ returns-4 c =
     let x = c .before .before .before .before .before .args .c in
     let v = c .before .before .before .before .before .args .v in
     let e92 : eqb x 92 ≡ false = ne-eqb x 92 (λ z. omega arith) in
-    let h : amid x classSpecial ≡ false = cc in
+    let h : amid x classSpecial ≡ false = sym (c .before .before .before .class-special .ensures) ∙ c .before .before .if2 .left in
     let l : ltb x v ≡ false = le-ltb x v (omega arith) in
     λ d. rw (e92, h, l)
 
