@@ -14,7 +14,7 @@ from builders import a_piece, any_list, broken_list, good_table
 from dice import Dice
 from model import FLOW_SIZE, MOST_BOUND, MOST_OFFSET, STATES, Flow, Table, pack_flow, unpack_flow
 from resends import CIRCLE, HALF, HELD_SIZE, MOST_SEGMENT, Held
-from tape import digest, digest_words, u32
+from tape import block, digest, digest_words, u32
 
 SEED = 20261116
 MOST_WORDS = 600
@@ -45,15 +45,15 @@ class Tape:
 
     def load_list(self, data):
         self.list = data
-        self.commands.append(b"L" + u32(len(data)) + data)
+        self.commands.append(b"L" + block(data))
 
     def load_table(self, table):
         self.table = table
-        self.commands.append(b"T" + b"".join(u32(len(data)) + data for data in table))
+        self.commands.append(b"T" + b"".join(block(data) for data in table))
 
     def load_record(self, record):
         self.record = record
-        self.commands.append(b"R" + u32(len(record)) + record)
+        self.commands.append(b"R" + block(record))
 
     def sow_held(self, count, seed):
         self.held = Held(self.held.start, self.held.length, sown(count, seed))
@@ -65,7 +65,7 @@ class Tape:
 
     def load_segment(self, data):
         self.segment = data
-        self.commands.append(b"P" + u32(len(data)) + data)
+        self.commands.append(b"P" + block(data))
 
     def _due(self, after, held, start):
         found = resends.due(after, held, start, self.segment)

@@ -78,26 +78,6 @@ fn read_head() -> Head {
     }
 }
 
-// A number, or how many bytes there are where that is less.
-fn within(b: &[u8], n: usize) -> usize
-    ensures { λ r. ⌜ Counts r (now (b .entry)) ⌝ }
-{
-    if n < b.len() { n } else { b.len() }
-}
-
-// The first n bytes, or all where there are fewer.
-fn front(b: &[u8], n: usize) -> &[u8] {
-    let k = within(b, n);
-    &b[..k]
-}
-
-// A number, or how many words there are where that is less.
-fn within_words(out: &[u32], n: usize) -> usize
-    ensures { λ r. ⌜ Counts r (now (out .entry)) ⌝ }
-{
-    if n < out.len() { n } else { out.len() }
-}
-
 // A word as a longer number.
 fn wide(x: u32) -> u64 {
     x as u64
@@ -117,7 +97,7 @@ fn tell(pairs: &[u32]) {
 
 // Tells the pairs of the first n words, or of all where there are fewer.
 fn tell_first(pairs: &[u32], n: usize) {
-    let k = within_words(pairs, n);
+    let k = tape::within_words(pairs, n);
     tell(&pairs[..k]);
 }
 
@@ -194,12 +174,12 @@ fn hear_next(
     head: Head,
     s: State,
 ) -> State {
-    let k = within(segment, head.length);
+    let k = tape::within(segment, head.length);
     let n = io::read_full(0, &mut segment[..k]);
     if n < k {
         return s;
     }
-    hear(list, flow, held, s, head.start, front(segment, k))
+    hear(list, flow, held, s, head.start, tape::front(segment, k))
 }
 
 // Feeds all segments of the line; answers the refusal that ends the flow, 0 where none does.
@@ -254,7 +234,7 @@ pub fn start() {
     let mut segment = segment_buffer();
     let mut pairs = word_buffer();
     watch(
-        front(&list, n),
+        tape::front(&list, n),
         &mut flow,
         &mut held,
         &mut segment,

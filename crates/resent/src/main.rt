@@ -1,20 +1,7 @@
 // The program of the resend vectors: it replays the commands of standard input through the library, and writes a line for each that answers.
 use segments::Heard;
 ghost use mathlib.Core.Path.{_≡_};
-ghost use Prim.Native.Nat.{_<_, _≤_};
 ghost use lib.ListN.{length};
-ghost use Rattle.io.specs.Counts.{Counts};
-
-// The most commands that are replayed.
-const MOST_COMMANDS: usize = 1000000;
-
-// The number that a digest stays below, and the factor of its step.
-const MODULUS: u64 = 4294967291;
-
-const FACTOR: u64 = 257;
-
-// Words of the pairs buffer.
-const PAIR_WORDS: usize = 600;
 
 // How many bytes of each buffer are in use, the number of the flow's first byte, the held place, and whether commands are left.
 struct Sizes {
@@ -46,55 +33,6 @@ fn held_buffer() -> [u8; 4352]
     [0; 4352]
 }
 
-// Zeros for the words of the pairs.
-fn word_buffer() -> [u32; PAIR_WORDS]
-    ensures { λ r. ⌜ 600 ≡ length r ⌝ }
-{
-    [0; PAIR_WORDS]
-}
-
-// A number, or how many bytes there are where that is less.
-fn within(b: &[u8], n: usize) -> usize
-    ensures { λ r. ⌜ Counts r (now (b .entry)) ⌝ }
-{
-    if n < b.len() { n } else { b.len() }
-}
-
-// A number, or how many words there are where that is less.
-fn within_words(out: &[u32], n: usize) -> usize
-    ensures { λ r. ⌜ Counts r (now (out .entry)) ⌝ }
-{
-    if n < out.len() { n } else { out.len() }
-}
-
-// The first n bytes, or all where there are fewer.
-fn front(b: &[u8], n: usize) -> &[u8] {
-    let k = within(b, n);
-    &b[..k]
-}
-
-// The letter of the next command; 0 at the end of the input.
-fn read_command() -> u8 {
-    let mut b = [0u8; 1];
-    io::read_full(0, &mut b);
-    b[0]
-}
-
-// The next four bytes of the input as a number, low byte first.
-fn read_number() -> u32 {
-    let mut b = [0u8; 4];
-    io::read_full(0, &mut b);
-    (sets::number_at(&b, 0, 4) % 4294967296) as u32
-}
-
-// Reads a field, a length and its bytes, into a buffer; answers how many bytes it takes there.
-fn read_field(b: &mut [u8]) -> usize {
-    let n = read_number() as usize;
-    let k = within(b, n);
-    io::read_full(0, &mut b[..k]);
-    k
-}
-
 // Fills bytes from a seed: each is a little more than the one before, and a little more again after 256.
 fn sow(b: &mut [u8], seed: u32) {
     for i in 0..b.len() {
@@ -104,54 +42,11 @@ fn sow(b: &mut [u8], seed: u32) {
 
 // Reads a length and a seed, and fills so many bytes; answers how many.
 fn read_sown(b: &mut [u8]) -> usize {
-    let n = read_number() as usize;
-    let seed = read_number();
-    let k = within(b, n);
+    let n = tape::read_word() as usize;
+    let seed = tape::read_word();
+    let k = tape::within(b, n);
     sow(&mut b[..k], seed);
     k
-}
-
-// The digest with one more byte.
-fn digest_byte(h: u64, b: u8) -> u64
-    requires { ⌜ h < 4294967291 ⌝ }
-    ensures { λ r. ⌜ r < 4294967291 ⌝ }
-{
-    (h * FACTOR + b as u64 + 1) % MODULUS
-}
-
-// The digest with the four bytes of a word, low byte first.
-fn digest_word(h: u64, w: u32) -> u64
-    requires { ⌜ h < 4294967291 ⌝ }
-    ensures { λ r. ⌜ r < 4294967291 ⌝ }
-{
-    let a = digest_byte(h, (w % 256) as u8);
-    let b = digest_byte(a, (w / 256 % 256) as u8);
-    let c = digest_byte(b, (w / 65536 % 256) as u8);
-    digest_byte(c, (w / 16777216) as u8)
-}
-
-// The digest of bytes.
-fn digest(b: &[u8]) -> u64 {
-    let mut h = 0u64;
-    for i in 0..b.len() {
-        h = digest_byte(h, b[i]);
-    }
-    h
-}
-
-// The digest of words.
-fn digest_words(out: &[u32]) -> u64 {
-    let mut h = 0u64;
-    for i in 0..out.len() {
-        h = digest_word(h, out[i]);
-    }
-    h
-}
-
-// Writes a space and a number.
-fn put(n: u64) {
-    io::write_all(1, b" ");
-    io::print_decimal(1, n);
 }
 
 // Writes the part that is due, and the digest of its bytes.
@@ -171,52 +66,52 @@ fn put_due<'a>(
         start,
         segment.len(),
     );
-    put(d.source as u64);
-    put(d.at as u64);
-    put(d.length as u64);
+    tape::put(d.source as u64);
+    tape::put(d.at as u64);
+    tape::put(d.length as u64);
     let due = resends::due(next, held, held_start, held_length, start, segment);
-    put(digest(due));
-    io::write_all(1, b"\n");
+    tape::put(tape::digest(due));
+    tape::end();
 }
 
 // Replays taking a segment, and what is then due.
 fn take(held: &mut [u8], segment: &[u8]) {
-    let next = read_number();
-    let held_start = read_number();
-    let held_length = read_number();
-    let start = read_number();
+    let next = tape::read_word();
+    let held_start = tape::read_word();
+    let held_length = tape::read_word();
+    let start = tape::read_word();
     let h = resends::take(next, held, held_start, held_length, start, segment);
-    io::write_all(1, b"t");
-    put(h.refusal as u64);
-    put(h.start as u64);
-    put(h.length as u64);
-    put(digest(held));
+    tape::begin(b't');
+    tape::put(h.refusal as u64);
+    tape::put(h.start as u64);
+    tape::put(h.length as u64);
+    tape::put(tape::digest(held));
     put_due(next, held, h.start, h.length, start, segment);
 }
 
 // Replays what is due.
 fn due<'a>(held: &'a [u8], segment: &'a [u8]) {
-    let next = read_number();
-    let held_start = read_number();
-    let held_length = read_number();
-    let start = read_number();
-    io::write_all(1, b"d");
+    let next = tape::read_word();
+    let held_start = tape::read_word();
+    let held_length = tape::read_word();
+    let start = tape::read_word();
+    tape::begin(b'd');
     put_due(next, held, held_start, held_length, start, segment);
 }
 
 // Writes the line of a segment that was fed.
 fn put_heard(h: Heard, out: &[u32], flow: &[u8], held: &[u8]) {
-    io::write_all(1, b"g");
-    put(h.refusal as u64);
-    put(h.bytes as u64);
-    put(h.pairs as u64);
-    put(h.all as u64);
-    put(h.start as u64);
-    put(h.length as u64);
-    put(digest_words(out));
-    put(digest(flow));
-    put(digest(held));
-    io::write_all(1, b"\n");
+    tape::begin(b'g');
+    tape::put(h.refusal as u64);
+    tape::put(h.bytes as u64);
+    tape::put(h.pairs as u64);
+    tape::put(h.all as u64);
+    tape::put(h.start as u64);
+    tape::put(h.length as u64);
+    tape::put(tape::digest_words(out));
+    tape::put(tape::digest(flow));
+    tape::put(tape::digest(held));
+    tape::end();
 }
 
 // Replays feeding a segment, through the table at a bound or, at bound 0, by the list alone.
@@ -305,11 +200,11 @@ fn hear(
     segment: &[u8],
     s: Sizes,
 ) -> Sizes {
-    let bound = read_number();
-    let words = read_number() as usize;
-    let start = read_number();
-    let mut out = word_buffer();
-    let k = within_words(&out, words);
+    let bound = tape::read_word();
+    let words = tape::read_word() as usize;
+    let start = tape::read_word();
+    let mut out = tape::word_buffer();
+    let k = tape::within_words(&out, words);
     hear_words(
         list,
         classes,
@@ -328,16 +223,16 @@ fn hear(
 
 // Replays an opening: nothing is held then, and the flow's first byte has the number that follows.
 fn open(list: &[u8], flow: &mut [u8], mut s: Sizes) -> Sizes {
-    s.first = read_number();
+    s.first = tape::read_word();
     s.start = 0;
     s.length = 0;
-    let mut out = word_buffer();
+    let mut out = tape::word_buffer();
     let o = plain::open_flow(list, flow, &mut out);
-    io::write_all(1, b"o");
-    put(o.refusal as u64);
-    put(o.pairs as u64);
-    put(digest(flow));
-    io::write_all(1, b"\n");
+    tape::begin(b'o');
+    tape::put(o.refusal as u64);
+    tape::put(o.pairs as u64);
+    tape::put(tape::digest(flow));
+    tape::end();
     s
 }
 
@@ -376,10 +271,10 @@ fn load_table(
     splits: &mut [u8],
     mut s: Sizes,
 ) -> Sizes {
-    s.classes = read_field(classes);
-    s.parts = read_field(parts);
-    s.rows = read_field(rows);
-    s.splits = read_field(splits);
+    s.classes = tape::read_field(classes);
+    s.parts = tape::read_field(parts);
+    s.rows = tape::read_field(rows);
+    s.splits = tape::read_field(splits);
     s
 }
 
@@ -393,15 +288,15 @@ fn load(
     mut s: Sizes,
 ) -> Sizes {
     if command == b'L' {
-        s.list = read_field(list);
+        s.list = tape::read_field(list);
     } else if command == b'R' {
-        s.flow = read_field(flow);
+        s.flow = tape::read_field(flow);
     } else if command == b'H' {
         s.held = read_sown(held);
     } else if command == b'S' {
         s.segment = read_sown(segment);
     } else {
-        s.segment = read_field(segment);
+        s.segment = tape::read_field(segment);
     }
     s
 }
@@ -424,7 +319,7 @@ fn replay_one(
     segment: &mut [u8],
     s: Sizes,
 ) -> Sizes {
-    let command = read_command();
+    let command = tape::read_command();
     if command == 0 {
         return ended(s);
     }
@@ -434,18 +329,18 @@ fn replay_one(
     if command < b'a' {
         return load(command, list, flow, held, segment, s);
     }
-    let f = within(flow, s.flow);
-    let h = within(held, s.held);
+    let f = tape::within(flow, s.flow);
+    let h = tape::within(held, s.held);
     answer(
         command,
-        front(list, s.list),
-        front(classes, s.classes),
-        front(parts, s.parts),
-        front(rows, s.rows),
-        front(splits, s.splits),
+        tape::front(list, s.list),
+        tape::front(classes, s.classes),
+        tape::front(parts, s.parts),
+        tape::front(rows, s.rows),
+        tape::front(splits, s.splits),
         &mut flow[..f],
         &mut held[..h],
-        front(segment, s.segment),
+        tape::front(segment, s.segment),
         s,
     )
 }
@@ -475,7 +370,7 @@ fn replay(
         start: 0,
         length: 0,
     };
-    for _ in 0..MOST_COMMANDS {
+    for _ in 0..tape::MOST_COMMANDS {
         s = replay_one(list, classes, parts, rows, splits, flow, held, segment, s);
         if !s.more {
             return;
