@@ -23,6 +23,14 @@ const MODULUS: u64 = 4294967291;
 
 const FACTOR: u64 = 257;
 
+// Where each list of a table ends, in a buffer that has them one after the other.
+pub struct Table {
+    pub classes: usize,
+    pub parts: usize,
+    pub rows: usize,
+    pub splits: usize,
+}
+
 // Zeros for the words of the pairs.
 pub fn word_buffer() -> [u32; MOST_WORDS]
     ensures { λ r. ⌜ 1200 ≡ length r ⌝ }
@@ -55,6 +63,13 @@ pub fn within_words(out: &[u32], n: usize) -> usize
 pub fn front(b: &[u8], n: usize) -> &[u8] {
     let k = within(b, n);
     &b[..k]
+}
+
+// The bytes from one place to another, or to the end where there are fewer.
+fn part(b: &[u8], from: usize, to: usize) -> &[u8] {
+    let f = front(b, to);
+    let k = within(f, from);
+    &f[k..]
 }
 
 // The letter of the next command; 0 at the end of the input.
@@ -126,6 +141,63 @@ pub fn read_field(b: &mut [u8]) -> usize {
     let n = read_number(4) as usize;
     let k = within(b, n);
     read_runs(&mut b[..k]);
+    k
+}
+
+// Reads a field to a place of a buffer; answers the place after it.
+fn read_field_at(b: &mut [u8], at: usize) -> usize {
+    let from = within(b, at);
+    let n = read_field(&mut b[from..]);
+    place_after(b, from, n)
+}
+
+// Reads a table, its four lists one after the other, into a buffer; answers where each ends.
+pub fn read_table(b: &mut [u8]) -> Table {
+    let classes = read_field(b);
+    let parts = read_field_at(b, classes);
+    let rows = read_field_at(b, parts);
+    let splits = read_field_at(b, rows);
+    Table {
+        classes: classes,
+        parts: parts,
+        rows: rows,
+        splits: splits,
+    }
+}
+
+// The classes of a table.
+pub fn classes(b: &[u8], t: Table) -> &[u8] {
+    front(b, t.classes)
+}
+
+// The parts of a table.
+pub fn parts(b: &[u8], t: Table) -> &[u8] {
+    part(b, t.classes, t.parts)
+}
+
+// The rows of a table.
+pub fn rows(b: &[u8], t: Table) -> &[u8] {
+    part(b, t.parts, t.rows)
+}
+
+// The splits of a table.
+pub fn splits(b: &[u8], t: Table) -> &[u8] {
+    part(b, t.rows, t.splits)
+}
+
+// Fills bytes from a seed: each is a little more than the one before, and a little more again after 256.
+fn sow(b: &mut [u8], seed: u32) {
+    for i in 0..b.len() {
+        b[i] = ((seed as usize % 256 + 7 * (i % 256) + i / 256 % 256) % 256) as u8;
+    }
+}
+
+// Reads a length and a seed, and fills so many bytes of a buffer; answers how many.
+pub fn read_sown(b: &mut [u8]) -> usize {
+    let n = read_word() as usize;
+    let seed = read_word();
+    let k = within(b, n);
+    sow(&mut b[..k], seed);
     k
 }
 

@@ -1,4 +1,6 @@
 // The program of the vectors: it replays the commands of standard input through the library, and writes a line for each that answers.
+use replays::Call;
+use tape::Table;
 ghost use mathlib.Core.Path.{_≡_};
 ghost use lib.ListN.{length};
 
@@ -6,10 +8,7 @@ ghost use lib.ListN.{length};
 struct Sizes {
     more: bool,
     list: usize,
-    classes: usize,
-    parts: usize,
-    rows: usize,
-    splits: usize,
+    table: Table,
     matrix: usize,
     record: usize,
 }
@@ -21,18 +20,11 @@ fn list_buffer() -> [u8; 65792]
     [0; 65792]
 }
 
-// Zeros for the parts of a table: 1,024 sets, and 256 bytes more.
-fn parts_buffer() -> [u8; 131328]
-    ensures { λ r. ⌜ 131328 ≡ length r ⌝ }
+// Zeros for the lists of a table, one after the other: the classes, 1,024 parts, their rows on four classes and 4,096 splits, and 256 bytes more of each.
+fn table_buffer() -> [u8; 1213696]
+    ensures { λ r. ⌜ 1213696 ≡ length r ⌝ }
 {
-    [0; 131328]
-}
-
-// Zeros for the rows or the splits of a table: 4,096 splits, and 256 bytes more.
-fn long_buffer() -> [u8; 557312]
-    ensures { λ r. ⌜ 557312 ≡ length r ⌝ }
-{
-    [0; 557312]
+    [0; 1213696]
 }
 
 // Zeros for a matrix: 8 states, and 256 bytes more.
@@ -42,305 +34,114 @@ fn matrix_buffer() -> [u8; 262400]
     [0; 262400]
 }
 
-// Zeros for a record, or for the classes of a table.
-fn short_buffer() -> [u8; 512]
+// Zeros for a record.
+fn record_buffer() -> [u8; 512]
     ensures { λ r. ⌜ 512 ≡ length r ⌝ }
 {
     [0; 512]
 }
 
-// Replays a check of the list.
-fn check_list(list: &[u8]) {
-    let n = lists::check_list(list);
-    tape::put_check(b'c', n);
-}
-
-// Replays an opening into words.
-fn open_words(list: &[u8], record: &mut [u8], out: &mut [u32]) {
-    tape::fill(out);
-    let opened = plain::open_flow(list, record, out);
-    tape::put_opening(b'o', opened, out, record);
-}
-
-// Replays an opening.
+// Replays an opening: the input says how many words there are.
 fn open(list: &[u8], record: &mut [u8]) {
     let words = tape::read_number(4) as usize;
     let mut out = tape::word_buffer();
     let k = tape::within_words(&out, words);
-    open_words(list, record, &mut out[..k]);
+    replays::open(list, record, &mut out[..k]);
 }
 
-// Replays a plain feed into words.
-fn feed_words(list: &[u8], record: &mut [u8], at: u64, piece: &[u8], out: &mut [u32]) {
-    tape::fill(out);
-    let fed = plain::feed(list, record, at, piece, out);
-    tape::put_feed(b'f', fed, out, record);
-}
-
-// Replays a plain feed.
-fn feed(list: &[u8], record: &mut [u8]) {
-    let at = tape::read_number(8);
-    let words = tape::read_number(4) as usize;
-    let mut piece = tape::piece_buffer();
-    let n = tape::read_field(&mut piece);
-    let mut out = tape::word_buffer();
-    let k = tape::within_words(&out, words);
-    feed_words(list, record, at, tape::front(&piece, n), &mut out[..k]);
-}
-
-// Replays a check of the table.
-fn check_table(list: &[u8], classes: &[u8], parts: &[u8], rows: &[u8], splits: &[u8]) {
-    let bound = tape::read_number(8);
-    let n = tables::check_table(list, bound, classes, parts, rows, splits);
-    tape::put_check(b'k', n);
-}
-
-// Replays a split feed into words.
-fn split_words(
-    list: &[u8],
-    bound: u64,
-    classes: &[u8],
-    parts: &[u8],
-    rows: &[u8],
-    splits: &[u8],
-    record: &mut [u8],
-    at: u64,
-    piece: &[u8],
-    out: &mut [u32],
-) {
-    tape::fill(out);
-    let fed = splits::feed(
-        list,
-        bound,
-        classes,
-        parts,
-        rows,
-        splits,
-        record,
-        at,
-        piece,
-        out,
-    );
-    tape::put_feed(b's', fed, out, record);
-}
-
-// Replays a split feed.
-fn split_feed(
-    list: &[u8],
-    classes: &[u8],
-    parts: &[u8],
-    rows: &[u8],
-    splits: &[u8],
-    record: &mut [u8],
-) {
-    let bound = tape::read_number(8);
-    let at = tape::read_number(8);
+// Replays a feed: the input says where it starts, how many words there are, and the piece.
+fn feed(mut call: Call, list: &[u8], table: &[u8], matrix: &[u8], record: &mut [u8]) {
+    call.start = tape::read_number(8);
     let words = tape::read_number(4) as usize;
     let mut piece = tape::piece_buffer();
     let n = tape::read_field(&mut piece);
     let mut out = tape::word_buffer();
     let k = tape::within_words(&out, words);
     let p = tape::front(&piece, n);
-    split_words(
-        list,
-        bound,
-        classes,
-        parts,
-        rows,
-        splits,
-        record,
-        at,
-        p,
-        &mut out[..k],
-    );
+    replays::feed(call, list, table, matrix, record, p, &mut out[..k]);
 }
 
-// Replays a filling of the matrix.
-fn fill_matrix(list: &[u8], matrix: &mut [u8]) {
-    let n = matrix::fill(list, matrix);
-    tape::put_filling(b'm', n, matrix);
-}
-
-// Replays a matrix feed into words.
-fn matrix_words(
-    list: &[u8],
-    matrix: &[u8],
-    record: &mut [u8],
-    at: u64,
-    piece: &[u8],
-    out: &mut [u32],
-) {
-    tape::fill(out);
-    let fed = matrix::feed(list, matrix, record, at, piece, out);
-    tape::put_feed(b'x', fed, out, record);
-}
-
-// Replays a matrix feed.
-fn matrix_feed(list: &[u8], matrix: &[u8], record: &mut [u8]) {
-    let at = tape::read_number(8);
-    let words = tape::read_number(4) as usize;
-    let mut piece = tape::piece_buffer();
-    let n = tape::read_field(&mut piece);
-    let mut out = tape::word_buffer();
-    let k = tape::within_words(&out, words);
-    matrix_words(
-        list,
-        matrix,
-        record,
-        at,
-        tape::front(&piece, n),
-        &mut out[..k],
-    );
-}
-
-// Replays a filling of the index.
-fn fill_index(
-    list: &[u8],
-    classes: &[u8],
-    parts: &[u8],
-    rows: &[u8],
-    splits: &[u8],
-    index: &mut [u8],
-) {
-    let bound = tape::read_number(8);
-    let n = indexes::fill(list, bound, classes, parts, rows, splits, index);
-    tape::put_filling(b'i', n, index);
-}
-
-// Replays a prepared feed into words.
-fn prepared_words(
-    classes: &[u8],
-    splits: &[u8],
-    index: &[u8],
-    record: &mut [u8],
-    at: u64,
-    piece: &[u8],
-    out: &mut [u32],
-) {
-    tape::fill(out);
-    let fed = prepared::feed(classes, splits, index, record, at, piece, out);
-    tape::put_feed(b'p', fed, out, record);
-}
-
-// Replays a prepared feed.
-fn prepared_feed(classes: &[u8], splits: &[u8], index: &[u8], record: &mut [u8]) {
-    let at = tape::read_number(8);
-    let words = tape::read_number(4) as usize;
-    let mut piece = tape::piece_buffer();
-    let n = tape::read_field(&mut piece);
-    let mut out = tape::word_buffer();
-    let k = tape::within_words(&out, words);
-    let p = tape::front(&piece, n);
-    prepared_words(classes, splits, index, record, at, p, &mut out[..k]);
+// The bound of a call, which stands before what else its command has; 0 where the command has none.
+fn read_bound(command: u8) -> u64 {
+    if command == b'k' {
+        return tape::read_number(8);
+    }
+    if command == b's' {
+        return tape::read_number(8);
+    }
+    if command == b'i' {
+        return tape::read_number(8);
+    }
+    0
 }
 
 // Replays a command that answers, on the list, the table, the matrix or index and the record in use.
-fn answer(
-    command: u8,
-    list: &[u8],
-    classes: &[u8],
-    parts: &[u8],
-    rows: &[u8],
-    splits: &[u8],
-    matrix: &mut [u8],
-    record: &mut [u8],
-) {
-    if command == b'c' {
-        check_list(list);
-    } else if command == b'o' {
+fn answer(call: Call, list: &[u8], table: &[u8], matrix: &mut [u8], record: &mut [u8]) {
+    let letter = call.letter;
+    if letter == b'o' {
         open(list, record);
-    } else if command == b'f' {
-        feed(list, record);
-    } else if command == b'k' {
-        check_table(list, classes, parts, rows, splits);
-    } else if command == b's' {
-        split_feed(list, classes, parts, rows, splits, record);
-    } else if command == b'm' {
-        fill_matrix(list, matrix);
-    } else if command == b'x' {
-        matrix_feed(list, matrix, record);
-    } else if command == b'i' {
-        fill_index(list, classes, parts, rows, splits, matrix);
-    } else if command == b'p' {
-        prepared_feed(classes, splits, matrix, record);
+    } else if letter == b'c' {
+        replays::check(call, list, table);
+    } else if letter == b'k' {
+        replays::check(call, list, table);
+    } else if letter == b'm' {
+        replays::fill(call, list, table, matrix);
+    } else if letter == b'i' {
+        replays::fill(call, list, table, matrix);
+    } else {
+        feed(call, list, table, matrix, record);
     }
 }
 
-// Reads a list.
-fn load_list(list: &mut [u8], mut s: Sizes) -> Sizes {
-    s.list = tape::read_field(list);
-    s
-}
-
-// Reads a table.
-fn load_table(
-    classes: &mut [u8],
-    parts: &mut [u8],
-    rows: &mut [u8],
-    splits: &mut [u8],
+// Reads a list, a table, a matrix or index, or a record, by its letter; at the end of the input, where the letter is 0, no commands are left.
+fn load(
+    command: u8,
+    list: &mut [u8],
+    table: &mut [u8],
+    matrix: &mut [u8],
+    record: &mut [u8],
     mut s: Sizes,
 ) -> Sizes {
-    s.classes = tape::read_field(classes);
-    s.parts = tape::read_field(parts);
-    s.rows = tape::read_field(rows);
-    s.splits = tape::read_field(splits);
-    s
-}
-
-// Reads a matrix.
-fn load_matrix(matrix: &mut [u8], mut s: Sizes) -> Sizes {
-    s.matrix = tape::read_field(matrix);
-    s
-}
-
-// Reads a record.
-fn load_record(record: &mut [u8], mut s: Sizes) -> Sizes {
-    s.record = tape::read_field(record);
-    s
-}
-
-// The sizes at the end of the input.
-fn ended(mut s: Sizes) -> Sizes {
-    s.more = false;
+    if command == b'L' {
+        s.list = tape::read_field(list);
+    } else if command == b'T' {
+        let t = tape::read_table(table);
+        s.table = t;
+    } else if command == b'M' {
+        s.matrix = tape::read_field(matrix);
+    } else if command == b'R' {
+        s.record = tape::read_field(record);
+    } else {
+        s.more = false;
+    }
     s
 }
 
 // Replays one command; answers the sizes after it.
 fn replay_one(
     list: &mut [u8],
-    classes: &mut [u8],
-    parts: &mut [u8],
-    rows: &mut [u8],
-    splits: &mut [u8],
+    table: &mut [u8],
     matrix: &mut [u8],
     record: &mut [u8],
     s: Sizes,
 ) -> Sizes {
     let command = tape::read_command();
-    if command == 0 {
-        return ended(s);
+    if command < b'a' {
+        return load(command, list, table, matrix, record, s);
     }
-    if command == b'L' {
-        return load_list(list, s);
-    }
-    if command == b'T' {
-        return load_table(classes, parts, rows, splits, s);
-    }
-    if command == b'R' {
-        return load_record(record, s);
-    }
-    if command == b'M' {
-        return load_matrix(matrix, s);
-    }
+    let t = s.table;
+    let call = Call {
+        letter: command,
+        bound: read_bound(command),
+        start: 0,
+        table: t,
+    };
     let m = tape::within(matrix, s.matrix);
     let k = tape::within(record, s.record);
     answer(
-        command,
+        call,
         tape::front(list, s.list),
-        tape::front(classes, s.classes),
-        tape::front(parts, s.parts),
-        tape::front(rows, s.rows),
-        tape::front(splits, s.splits),
+        table,
         &mut matrix[..m],
         &mut record[..k],
     );
@@ -348,27 +149,21 @@ fn replay_one(
 }
 
 // Replays the commands of the input.
-fn replay(
-    list: &mut [u8],
-    classes: &mut [u8],
-    parts: &mut [u8],
-    rows: &mut [u8],
-    splits: &mut [u8],
-    matrix: &mut [u8],
-    record: &mut [u8],
-) {
+fn replay(list: &mut [u8], table: &mut [u8], matrix: &mut [u8], record: &mut [u8]) {
     let mut s = Sizes {
         more: true,
         list: 0,
-        classes: 0,
-        parts: 0,
-        rows: 0,
-        splits: 0,
+        table: Table {
+            classes: 0,
+            parts: 0,
+            rows: 0,
+            splits: 0,
+        },
         matrix: 0,
         record: 0,
     };
     for _ in 0..tape::MOST_COMMANDS {
-        s = replay_one(list, classes, parts, rows, splits, matrix, record, s);
+        s = replay_one(list, table, matrix, record, s);
         if !s.more {
             return;
         }
@@ -378,19 +173,8 @@ fn replay(
 // The program.
 fn main() {
     let mut list = list_buffer();
-    let mut classes = short_buffer();
-    let mut parts = parts_buffer();
-    let mut rows = long_buffer();
-    let mut splits = long_buffer();
+    let mut table = table_buffer();
     let mut matrix = matrix_buffer();
-    let mut record = short_buffer();
-    replay(
-        &mut list,
-        &mut classes,
-        &mut parts,
-        &mut rows,
-        &mut splits,
-        &mut matrix,
-        &mut record,
-    );
+    let mut record = record_buffer();
+    replay(&mut list, &mut table, &mut matrix, &mut record);
 }

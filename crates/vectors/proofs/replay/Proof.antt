@@ -7,12 +7,15 @@ use Rattle.vectors.proofs.replay.Statement.{statement}
 use Rattle.vectors.proofs.replay.Tie as tie
 
 abbrev Inv-loop : tie.InvT-loop
-Inv-loop list₀ classes₀ parts₀ rows₀ splits₀ matrix₀ record₀ s₀ counter₀ list classes parts rows splits matrix «record» s counter =
-    (counter ≤ 1000000) × (length list ≡ length list₀) × (length classes ≡ length classes₀) × (length parts ≡ length parts₀) × (length rows ≡ length rows₀) × (length splits ≡ length splits₀) × (length matrix ≡ length matrix₀) × (length «record» ≡ length record₀)
+Inv-loop list₀ table₀ matrix₀ record₀ s₀ counter₀ list table matrix «record» s counter =
+    (counter ≤ 1000000)
+    × (length list ≡ length list₀)
+    × (length table ≡ length table₀)
+    × (length matrix ≡ length matrix₀)
+    × (length «record» ≡ length record₀)
 
 abbrev μ-loop : tie.MeasureT-loop
-μ-loop list₀ classes₀ parts₀ rows₀ splits₀ matrix₀ record₀ s₀ counter₀ list classes parts rows splits matrix «record» s counter =
-    1000000 - counter
+μ-loop list₀ table₀ matrix₀ record₀ s₀ counter₀ list table matrix «record» s counter = 1000000 - counter
 
 loop-holds : tie.Need-loop-holds Inv-loop μ-loop
 loop-holds c = search needs
@@ -32,15 +35,6 @@ same-length-3 c = search needs
 same-length-4 : tie.Need-same-length-4 Inv-loop μ-loop
 same-length-4 c = search needs
 
-same-length-5 : tie.Need-same-length-5 Inv-loop μ-loop
-same-length-5 c = search needs
-
-same-length-6 : tie.Need-same-length-6 Inv-loop μ-loop
-same-length-6 c = search needs
-
-same-length-7 : tie.Need-same-length-7 Inv-loop μ-loop
-same-length-7 c = search needs
-
 returns : tie.Need-returns Inv-loop μ-loop
 returns c = search needs
 
@@ -53,26 +47,17 @@ loop-less c = search needs
 loop-again : tie.Need-loop-again Inv-loop μ-loop
 loop-again c = search needs
 
+same-length-5 : tie.Need-same-length-5 Inv-loop μ-loop
+same-length-5 c = search needs
+
+same-length-6 : tie.Need-same-length-6 Inv-loop μ-loop
+same-length-6 c = search needs
+
+same-length-7 : tie.Need-same-length-7 Inv-loop μ-loop
+same-length-7 c = search needs
+
 same-length-8 : tie.Need-same-length-8 Inv-loop μ-loop
 same-length-8 c = search needs
-
-same-length-9 : tie.Need-same-length-9 Inv-loop μ-loop
-same-length-9 c = search needs
-
-same-length-10 : tie.Need-same-length-10 Inv-loop μ-loop
-same-length-10 c = search needs
-
-same-length-11 : tie.Need-same-length-11 Inv-loop μ-loop
-same-length-11 c = search needs
-
-same-length-12 : tie.Need-same-length-12 Inv-loop μ-loop
-same-length-12 c = search needs
-
-same-length-13 : tie.Need-same-length-13 Inv-loop μ-loop
-same-length-13 c = search needs
-
-same-length-14 : tie.Need-same-length-14 Inv-loop μ-loop
-same-length-14 c = search needs
 
 returns-2 : tie.Need-returns-2 Inv-loop μ-loop
 returns-2 c = search needs
@@ -89,18 +74,12 @@ replay-spec =
     same-length-2
     same-length-3
     same-length-4
-    same-length-5
-    same-length-6
-    same-length-7
     returns
     add-counter
     loop-less
     loop-again
+    same-length-5
+    same-length-6
+    same-length-7
     same-length-8
-    same-length-9
-    same-length-10
-    same-length-11
-    same-length-12
-    same-length-13
-    same-length-14
     returns-2)

@@ -3,8 +3,8 @@ use borrow.Author.Needs.{needs}
 use Prim.Native.Nat.{_≤_, _-_}
 use lib.ListN.{length}
 use mathlib.Core.Path.{_≡_}
-use Rattle.resent.proofs.sow.Statement.{statement}
-use Rattle.resent.proofs.sow.Tie as tie
+use Rattle.tape.proofs.sow.Statement.{statement}
+use Rattle.tape.proofs.sow.Tie as tie
 
 abbrev Inv-loop : tie.InvT-loop
 Inv-loop b₀ seed i₀ i-end b i = (i ≤ i-end) × (i-end ≡ length b) × (length b ≡ length b₀)

@@ -1,0 +1,304 @@
+// The calls that the programs `vectors` and `resent` replay: each function makes one call of the matcher, with the buffers in use and what its command says, and
+// writes the line of its answer. Here it is shown alone that the calls are safe and end, so that the programs above need to know nothing of what the matcher
+// promises.
+use feeds::Fed;
+use segments::Heard;
+use tape::Table;
+
+// What a command says of its call: the letter, the bound, the offset or number where the bytes start, and where each list of the table ends.
+pub struct Call {
+    pub letter: u8,
+    pub bound: u64,
+    pub start: u64,
+    pub table: Table,
+}
+
+// The number of a flow's first byte, and the held place.
+pub struct Place {
+    pub first: u32,
+    pub start: u32,
+    pub length: u32,
+}
+
+// Checks a table.
+fn check_table(call: Call, list: &[u8], table: &[u8]) -> u32 {
+    let t = call.table;
+    tables::check_table(
+        list,
+        call.bound,
+        tape::classes(table, t),
+        tape::parts(table, t),
+        tape::rows(table, t),
+        tape::splits(table, t),
+    )
+}
+
+// Replays a check, of the list or of the table.
+pub fn check(call: Call, list: &[u8], table: &[u8]) {
+    if call.letter == b'c' {
+        tape::put_check(b'c', lists::check_list(list));
+        return;
+    }
+    tape::put_check(b'k', check_table(call, list, table));
+}
+
+// Fills an index.
+fn fill_index(call: Call, list: &[u8], table: &[u8], index: &mut [u8]) -> u32 {
+    let t = call.table;
+    indexes::fill(
+        list,
+        call.bound,
+        tape::classes(table, t),
+        tape::parts(table, t),
+        tape::rows(table, t),
+        tape::splits(table, t),
+        index,
+    )
+}
+
+// Replays a filling, of the matrix or of the index.
+pub fn fill(call: Call, list: &[u8], table: &[u8], matrix: &mut [u8]) {
+    if call.letter == b'm' {
+        let n = matrix::fill(list, matrix);
+        tape::put_filling(b'm', n, matrix);
+        return;
+    }
+    let n = fill_index(call, list, table, matrix);
+    tape::put_filling(b'i', n, matrix);
+}
+
+// Replays an opening.
+pub fn open(list: &[u8], record: &mut [u8], out: &mut [u32]) {
+    tape::fill(out);
+    let opened = plain::open_flow(list, record, out);
+    tape::put_opening(b'o', opened, out, record);
+}
+
+// Replays an opening of which the words are not told.
+pub fn open_silent(list: &[u8], record: &mut [u8], out: &mut [u32]) {
+    let opened = plain::open_flow(list, record, out);
+    tape::begin(b'o');
+    tape::put(opened.refusal as u64);
+    tape::put(opened.pairs as u64);
+    tape::put(tape::digest(record));
+    tape::end();
+}
+
+// Feeds through a table.
+fn split_feed(
+    call: Call,
+    list: &[u8],
+    table: &[u8],
+    record: &mut [u8],
+    piece: &[u8],
+    out: &mut [u32],
+) -> Fed {
+    let t = call.table;
+    splits::feed(
+        list,
+        call.bound,
+        tape::classes(table, t),
+        tape::parts(table, t),
+        tape::rows(table, t),
+        tape::splits(table, t),
+        record,
+        call.start,
+        piece,
+        out,
+    )
+}
+
+// Feeds by an index.
+fn prepared_feed(
+    call: Call,
+    table: &[u8],
+    index: &[u8],
+    record: &mut [u8],
+    piece: &[u8],
+    out: &mut [u32],
+) -> Fed {
+    let t = call.table;
+    prepared::feed(
+        tape::classes(table, t),
+        tape::splits(table, t),
+        index,
+        record,
+        call.start,
+        piece,
+        out,
+    )
+}
+
+// Feeds by the letter: by the list alone, through the table, by the matrix or by the index.
+fn feed_by(
+    call: Call,
+    list: &[u8],
+    table: &[u8],
+    matrix: &[u8],
+    record: &mut [u8],
+    piece: &[u8],
+    out: &mut [u32],
+) -> Fed {
+    if call.letter == b'f' {
+        return plain::feed(list, record, call.start, piece, out);
+    }
+    if call.letter == b's' {
+        return split_feed(call, list, table, record, piece, out);
+    }
+    if call.letter == b'x' {
+        return matrix::feed(list, matrix, record, call.start, piece, out);
+    }
+    prepared_feed(call, table, matrix, record, piece, out)
+}
+
+// Replays a feed.
+pub fn feed(
+    call: Call,
+    list: &[u8],
+    table: &[u8],
+    matrix: &[u8],
+    record: &mut [u8],
+    piece: &[u8],
+    out: &mut [u32],
+) {
+    tape::fill(out);
+    let fed = feed_by(call, list, table, matrix, record, piece, out);
+    tape::put_feed(call.letter, fed, out, record);
+}
+
+// Writes the part that is due, and the digest of its bytes.
+fn put_due<'a>(
+    next: u32,
+    held: &'a [u8],
+    held_start: u32,
+    held_length: u32,
+    start: u32,
+    segment: &'a [u8],
+) {
+    let d = resends::part_due(
+        next,
+        held.len(),
+        held_start,
+        held_length,
+        start,
+        segment.len(),
+    );
+    tape::put(d.source as u64);
+    tape::put(d.at as u64);
+    tape::put(d.length as u64);
+    let due = resends::due(next, held, held_start, held_length, start, segment);
+    tape::put(tape::digest(due));
+    tape::end();
+}
+
+// Replays what is due, after the segment is taken where the letter says so; the input has the next number, the held place and the segment's start.
+pub fn take(letter: u8, held: &mut [u8], segment: &[u8]) {
+    let next = tape::read_word();
+    let held_start = tape::read_word();
+    let held_length = tape::read_word();
+    let start = tape::read_word();
+    tape::begin(letter);
+    if letter == b'd' {
+        put_due(next, held, held_start, held_length, start, segment);
+        return;
+    }
+    let h = resends::take(next, held, held_start, held_length, start, segment);
+    tape::put(h.refusal as u64);
+    tape::put(h.start as u64);
+    tape::put(h.length as u64);
+    tape::put(tape::digest(held));
+    put_due(next, held, h.start, h.length, start, segment);
+}
+
+// Feeds a segment through a table.
+fn split_hear(
+    call: Call,
+    place: Place,
+    list: &[u8],
+    table: &[u8],
+    flow: &mut [u8],
+    held: &mut [u8],
+    segment: &[u8],
+    out: &mut [u32],
+) -> Heard {
+    let t = call.table;
+    let start = (call.start % 4294967296) as u32;
+    segments::split_feed_segment(
+        list,
+        call.bound,
+        tape::classes(table, t),
+        tape::parts(table, t),
+        tape::rows(table, t),
+        tape::splits(table, t),
+        flow,
+        place.first,
+        held,
+        place.start,
+        place.length,
+        start,
+        segment,
+        out,
+    )
+}
+
+// Feeds a segment through the table at a bound or, at bound 0, by the list alone.
+fn hear_by(
+    call: Call,
+    place: Place,
+    list: &[u8],
+    table: &[u8],
+    flow: &mut [u8],
+    held: &mut [u8],
+    segment: &[u8],
+    out: &mut [u32],
+) -> Heard {
+    if call.bound != 0 {
+        return split_hear(call, place, list, table, flow, held, segment, out);
+    }
+    segments::feed_segment(
+        list,
+        flow,
+        place.first,
+        held,
+        place.start,
+        place.length,
+        (call.start % 4294967296) as u32,
+        segment,
+        out,
+    )
+}
+
+// Writes the line of a segment that was fed.
+fn put_heard(h: Heard, out: &[u32], flow: &[u8], held: &[u8]) {
+    tape::begin(b'g');
+    tape::put(h.refusal as u64);
+    tape::put(h.bytes as u64);
+    tape::put(h.pairs as u64);
+    tape::put(h.all as u64);
+    tape::put(h.start as u64);
+    tape::put(h.length as u64);
+    tape::put(tape::digest_words(out));
+    tape::put(tape::digest(flow));
+    tape::put(tape::digest(held));
+    tape::end();
+}
+
+// Replays feeding a segment; answers the held place that it leaves.
+pub fn hear(
+    call: Call,
+    place: Place,
+    list: &[u8],
+    table: &[u8],
+    flow: &mut [u8],
+    held: &mut [u8],
+    segment: &[u8],
+    out: &mut [u32],
+) -> Place {
+    let h = hear_by(call, place, list, table, flow, held, segment, out);
+    put_heard(h, out, flow, held);
+    Place {
+        first: place.first,
+        start: h.start,
+        length: h.length,
+    }
+}

@@ -1,0 +1,2 @@
+-- The laws of the tape.
+pub mod Zeros
