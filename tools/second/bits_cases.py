@@ -2,6 +2,7 @@
 
 import bits
 from bits_examples import ALERTING, COUNTING, ONE, TWO, program
+from dice import make_groups
 
 LAST = bits.MOST_OFFSET
 
@@ -258,7 +259,5 @@ GROUPS = [worked, instructions, faulty_records, targets, lengths, most_states, o
           long_pieces]
 
 
-def make(tape, dice):
-    for group in GROUPS:
-        tape.group(group.__name__)
-        group(tape, dice)
+def make(tape, seed):
+    make_groups(tape, seed, GROUPS)

@@ -9,7 +9,6 @@ from pathlib import Path
 import bits_cases
 import bits_examples
 import bits_tape
-from dice import Dice
 
 SEED = 20261116
 NEEDED = {"c": [0, 24], "o": [0, 4, 15, 24], "f": [0, 4, 5, 6, 24]}
@@ -39,7 +38,7 @@ def main():
         assert tape.stdout() == (TARGET / "stdout").read_bytes()
         return
     tape = bits_tape.Tape()
-    bits_cases.make(tape, Dice(SEED))
+    bits_cases.make(tape, SEED)
     text = counts_text(tape.counts, tape.groups)
     (TARGET / "stdin").write_bytes(tape.stdin())
     (TARGET / "stdout").write_bytes(tape.stdout())

@@ -33,7 +33,10 @@ class Tape:
     # Commands that answer, each in the group named last.
 
     def group(self, name):
+        """Begins a group, with everything current empty."""
         self.groups.append([name, 0])
+        self.moves = self.programs = self.record = b""
+        self.commands += [letter + block(b"") for letter in (b"M", b"P", b"R")]
 
     def _answer(self, command, name, values):
         self.commands.append(command)

@@ -8,6 +8,7 @@ import model
 import orders
 from builders import (Sample, a_piece, accept, any_flow, any_frontier, any_list, broken_list,
                       crowded_list, edge, good_table, naming, short_length, start, word_count)
+from dice import make_groups
 from faults import BAD_BOUNDS
 from model import (BYTE_VALUES, ENOUGH_WORDS, FLOW_SIZE, MOST_BOUND, MOST_OFFSET, MOST_PARTS,
                    MOST_RECORDS, MOST_SPLITS, OFFSET_AT, RECORD_SIZE, RESERVED_AT, ROWS_AT,
@@ -1538,7 +1539,5 @@ GROUPS = [worked, lists, longest_lists, list_limits, openings, record_limits, pl
           matrices, *index_cases.GROUPS]
 
 
-def make(tape, dice):
-    for group in GROUPS:
-        tape.group(group.__name__)
-        group(tape, dice)
+def make(tape, seed):
+    make_groups(tape, seed, GROUPS)

@@ -9,6 +9,7 @@ from certificate import MOST_NOTES, NOTE_SIZE, pack
 from certificate_bases import (any_base, by_sets, counted, inserted, packed, put, quiet, remembered, told_at_once, with_note, without_note)
 from certificate_examples import GOOD, MOVES, NOTES, PROGRAMS, REFUSED
 from certificate_explore import moves_by, program
+from dice import make_groups
 from examples import LIST
 
 SEEN = {}  # how many cases break one clause alone, by its name
@@ -371,16 +372,13 @@ GROUPS = [worked, orders, lengths, fields, twice, openings, missing, changed_set
           larger]
 
 
-def make(tape, dice):
+def make(tape, seed):
     """The cases of the stream."""
     SEEN.clear()
-    for group in GROUPS:
-        tape.group(group.__name__)
-        group(tape, dice)
+    make_groups(tape, seed, GROUPS)
     return SEEN
 
 
-def make_longest(tape, dice):
+def make_longest(tape, seed):
     """Those that are replayed from outside."""
-    tape.group(most.__name__)
-    most(tape, dice)
+    make_groups(tape, seed, [most])

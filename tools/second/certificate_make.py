@@ -12,7 +12,6 @@ import certificate_examples
 import certificate_tape
 from certificate import MOST_NOTES
 from certificate_clauses import CLAUSES
-from dice import Dice
 
 SEED = 20261117
 NEEDED = [0, 1, 2, 3, 22, 24]
@@ -44,9 +43,9 @@ def main():
             certificate_tape.replay(commands.read_bytes(), tape)
             assert tape.stdout() == lines.read_bytes()
         return
-    dice, tapes = Dice(SEED), [certificate_tape.Tape(most) for _, _, most in STREAMS]
-    seen = certificate_cases.make(tapes[0], dice)
-    certificate_cases.make_longest(tapes[1], dice)
+    tapes = [certificate_tape.Tape(most) for _, _, most in STREAMS]
+    seen = certificate_cases.make(tapes[0], SEED)
+    certificate_cases.make_longest(tapes[1], SEED)
     text = counts_text(tapes[0].counts, tapes[0].groups + tapes[1].groups, seen)
     TARGET.mkdir(exist_ok=True)
     for tape, (commands, lines, _) in zip(tapes, STREAMS):

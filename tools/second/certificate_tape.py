@@ -56,7 +56,10 @@ class Tape:
     # Commands that answer, each in the group named last.
 
     def group(self, name):
+        """Begins a group, with everything current empty."""
         self.groups.append([name, 0])
+        self.list = self.moves = self.programs = self.certificate = b""
+        self.commands += [letter + block(b"") for letter in (b"L", b"M", b"P", b"Z")]
 
     def _answer(self, command, name, values):
         self.commands.append(command)

@@ -34,3 +34,14 @@ class Dice:
 
     def subset(self, items, percent):
         return frozenset(item for item in items if self.chance(percent))
+
+
+def make_groups(tape, seed, groups):
+    """The cases of each group. Its dice go by the seed and its name alone, and its tape begins with
+    nothing current, so that no line of a group hangs on another group."""
+    for group in groups:
+        state = seed
+        for byte in group.__name__.encode("ascii"):
+            state = (state * 257 + byte + 1) % 2 ** 64
+        tape.group(group.__name__)
+        group(tape, Dice(state))

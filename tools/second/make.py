@@ -47,7 +47,7 @@ def counts_text(counts, groups):
 def main():
     examples.check()
     tape = Tape()
-    cases.make(tape, Dice(SEED))
+    cases.make(tape, SEED)
     here = Path(__file__).resolve().parent
     target = here.parent.parent / "crates" / "vectors"
     target.mkdir(parents=True, exist_ok=True)

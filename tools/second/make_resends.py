@@ -11,7 +11,7 @@ import examples
 import model
 import resends
 from builders import a_piece, any_list, broken_list, good_table
-from dice import Dice
+from dice import make_groups
 from model import FLOW_SIZE, MOST_BOUND, MOST_OFFSET, STATES, Flow, Table, pack_flow, unpack_flow
 from resends import CIRCLE, HALF, HELD_SIZE, MOST_SEGMENT, Held
 from tape import block, digest, digest_words, u32
@@ -34,7 +34,14 @@ class Tape:
         self.held, self.segment, self.first = Held(0, 0, b""), b"", 0
 
     def group(self, name):
+        """Begins a group, with everything current empty and no flow opened."""
         self.groups.append([name, 0])
+        self.load_list(b"")
+        self.load_table(Table(b"", b"", b"", b""))
+        self.load_record(b"")
+        self.sow_held(0, 0)
+        self.load_segment(b"")
+        self.opened = False
 
     def _say(self, letter, values):
         self.lines.append("%s %s\n" % (letter, " ".join(str(int(value)) for value in values)))
@@ -85,12 +92,13 @@ class Tape:
 
     def open(self, first):
         self.commands.append(b"o" + u32(first))
-        self.first, self.held = first, Held(0, 0, self.held.buffer)
+        self.first, self.held, self.opened = first, Held(0, 0, self.held.buffer), True
         opened = model.open_flow(self.list, self.record, [0] * MOST_WORDS)
         self.record = opened.record
         self._say("o", [opened.refusal, opened.pairs, digest(self.record)])
 
     def hear(self, bound, words, start):
+        assert self.opened
         self.commands.append(b"g" + b"".join(map(u32, (bound, words, start))))
 
         def feed(record, at, room, piece):
@@ -324,10 +332,8 @@ GROUPS = (worked, sizes, places, flows, limits, refusals, still_due)
 
 
 def make():
-    tape, dice = Tape(), Dice(SEED)
-    for group in GROUPS:
-        tape.group(group.__name__)
-        group(tape, dice)
+    tape = Tape()
+    make_groups(tape, SEED, GROUPS)
     return tape
 
 

@@ -21,6 +21,8 @@ BEYOND = 256
 MOST_TABLE = model.Table(model.BYTE_VALUES, model.MOST_PARTS * model.SET_SIZE,
                          4 * model.MOST_PARTS * model.SET_SIZE,
                          model.MOST_SPLITS * model.SPLIT_SIZE)
+# The table of four empty lists.
+EMPTY = model.Table(b"", b"", b"", b"")
 # The most states of a matrix.
 MOST_MATRIX_STATES = 8
 MOST_MATRIX = MOST_MATRIX_STATES * model.ROW_SIZE + BEYOND
@@ -68,7 +70,7 @@ class Tape:
         self.counts = {}
         self.groups = []  # names, each with its number of lines
         self.list = b""
-        self.table = model.Table(b"", b"", b"", b"")
+        self.table = EMPTY
         self.matrix = b""
         self.record = b""
 
@@ -103,7 +105,10 @@ class Tape:
     # Commands that answer, each in the group named last.
 
     def group(self, name):
+        """Begins a group, with everything current empty."""
         self.groups.append([name, 0])
+        self.list, self.table, self.matrix, self.record = b"", EMPTY, b"", b""
+        self.commands += [b"L" + block(b""), b"T" + 4 * block(b""), b"M" + block(b""), b"R" + block(b"")]
 
     def _answer(self, command, name, values):
         self.commands.append(command)
@@ -125,7 +130,7 @@ class Tape:
     def open(self, words=None):
         """With so many words; where that is not said, as many as are needed, or one or two more."""
         if words is None:
-            words = self.first_words() + len(self.lines) % 3
+            words = self.first_words() + self.groups[-1][1] % 3
         assert words <= MOST_WORDS
         buffer = [WORD_FILL + i for i in range(words)]
         opened = model.open_flow(self.list, self.record, buffer)

@@ -1,6 +1,7 @@
 """The cases for signature texts, in groups."""
 
 import texts
+from dice import make_groups
 from texts_examples import BAD, GOOD, MANY, TOO_BIG, nested
 
 PLAIN = [bytes([b]) for b in range(256) if b not in texts.SPECIAL]
@@ -356,7 +357,5 @@ GROUPS = [worked, each_byte, escapes, ranges, classes, counts, few_times, marks,
           void, most_positions, most_records, long_texts]
 
 
-def make(tape, dice):
-    for group in GROUPS:
-        tape.group(group.__name__)
-        group(tape, dice)
+def make(tape, seed):
+    make_groups(tape, seed, GROUPS)

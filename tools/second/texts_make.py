@@ -10,7 +10,6 @@ import model
 import texts_cases
 import texts_examples
 import texts_tape
-from dice import Dice
 from tape import WORD_FILL, digest_words
 
 SEED = 20261117
@@ -62,7 +61,7 @@ def main():
         assert tape.stdout() == (TARGET / "stdout").read_bytes()
         return
     tape = Tape()
-    texts_cases.make(tape, Dice(SEED))
+    texts_cases.make(tape, SEED)
     text = counts_text(tape.counts, tape.groups)
     TARGET.mkdir(exist_ok=True)
     (TARGET / "stdin").write_bytes(tape.stdin())

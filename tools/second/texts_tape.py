@@ -19,11 +19,14 @@ class Tape:
         self.groups = []  # names, each with its number of lines
         self.text = b""
         self.signature = None  # that of the list in use, where there is one
-        self.compiled_text = b""
+        self.compiled_text = None  # the text that was compiled last
         self.list = b""
 
     def group(self, name):
+        """Begins a group, with the empty text and nothing compiled."""
         self.groups.append([name, 0])
+        self.text, self.compiled_text = b"", None
+        self.commands.append(b"T" + block(b""))
 
     def _answer(self, command, name, values):
         self.commands.append(command)
@@ -52,7 +55,7 @@ class Tape:
 
     def match(self, words, piece):
         """Opens a flow on the list and feeds it the piece, with the words behind the pairs of the opening."""
-        assert words <= MOST_WORDS and len(piece) <= MOST_PIECE
+        assert words <= MOST_WORDS and len(piece) <= MOST_PIECE and self.compiled_text is not None
         return self._answer(b"m" + u32(words) + block(piece), "m", self.told(words, piece))
 
     def told(self, words, piece):
