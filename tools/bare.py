@@ -1,0 +1,41 @@
+#!/usr/bin/env python3
+"""Takes the code away from a copy of a crate: every function of src/ with its comment, and every function's folder of proofs/. What is left are
+types, constants, definitions and laws, which prove by themselves, since no law cites a function.
+
+  python3 tools/bare.py CRATE-FOLDER..
+"""
+import re
+import shutil
+import sys
+from pathlib import Path
+
+FUNCTION = re.compile(r'( *)(pub )?(extern "C" )?fn ')
+
+
+def without_functions(text):
+    """The source without its functions. In the layout of `rt fmt` one ends with a brace as far in as it begins."""
+    kept, held, end = [], [], None
+    for line in text.split("\n"):
+        found = FUNCTION.match(line)
+        if end is not None:
+            end = None if line == end else end
+        elif found:
+            held, end = [], None if line.endswith("}") else found[1] + "}"
+        elif re.match(r" *(//|#\[)", line):
+            held.append(line)
+        else:
+            kept, held = kept + held + [line], []
+    return "\n".join(kept + held)
+
+
+def take_away(crate):
+    for source in (crate / "src").glob("*.rt"):
+        source.write_text(without_functions(source.read_text()))
+    for part in (crate / "proofs").glob("*/"):
+        if part.is_dir():
+            shutil.rmtree(part)
+
+
+if __name__ == "__main__":
+    for word in sys.argv[1:]:
+        take_away(Path(word))
