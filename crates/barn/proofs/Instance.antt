@@ -2,12 +2,13 @@
 use Prim.Native.Nat.{ℕ, zero, suc, _/_, _^_, _<_}
 use mathlib.Core.Path.{_≡_, refl, sym, _∙_}
 use mathlib.Core.List.{List, [], _∷_, _++_}
+use mathlib.Core.Logic.{inl, inr}
 use native.Mathlib.Omega.{arith}
 use lib.ListN.{replicate}
 use lib.Dec.{lit<}
 use Rattle.sets.specs.Set.{digits, setBytes}
 use Rattle.lists.specs.List.{badLength}
-use Rattle.rules.specs.Rules.{verdict}
+use Rattle.rules.specs.Rules.{Rule, verdict}
 use Rattle.rules.proofs.Rules.{stop}
 use Rattle.feeds.specs.Calls.{Bytes}
 use Rattle.feeds.proofs.Runs.{bytes-append}
@@ -17,14 +18,11 @@ use Rattle.matrix.specs.Matrix.{filled}
 use Rattle.indexes.specs.Index.{filledIndex}
 use Rattle.prepared.specs.Prepared.{preparedRules}
 use Rattle.prepared.proofs.Feeding.{lists-said, prepared-passes}
-use Rattle.demands.specs.Calls.{Via, byList, byTable, byMatrix, Call, rulesOf}
-use Rattle.demands.specs.Prepared.{Step, called, byIndex, Demand3Steps, SwappedSteps}
-use Rattle.demands.specs.Demands.{InBytes, Demand2Opened, Demand3, Swapped}
+use Rattle.demands.specs.Calls.{Via, byList, byTable, byMatrix, byIndex, Call, InBytes}
+use Rattle.demands.specs.Demands.{Flows, Demand2, Demand3, Swapped}
 use Rattle.barn.specs.Examples.{L, L₀, splitOf₂, s0, s01, s02, T₃, T₁, a, b, room, full, begin, swaps}
 use Rattle.barn.proofs.Examples.{open-agrees, opened-agrees, accepted-agrees, accepted-agrees₁, accepted-agrees₀}
-use Rattle.demands.proofs.Demand3.{demand-3}
-use Rattle.demands.proofs.Swapping.{demand-2-opened, swapped}
-use Rattle.demands.proofs.Prepared.{swapped-steps, demand-3-steps}
+use Rattle.demands.proofs.Swapping.{demand-2-opened, demand-3, swapped}
 
 -- four calls: "aba"; start 0 again, which is refused with 5; an empty list, which is refused with 1; then "b" from 3
 abbrev fed : Via → List ℕ → ℕ → List ℕ → Call
@@ -56,22 +54,20 @@ accepts = one-number (tableRefusal L₀ 2 T₃) 0 [] [] accepted-agrees₀
 passes : begin full 5 .refusal ≡ 0
 passes = one-number (begin full 5 .refusal) 0 _ _ opened-agrees
 
--- a call on the empty list is refused
-by-none : (P : Type 0) (via : Via) (R : List ℕ) (at : ℕ) (piece : List ℕ) → verdict (rulesOf via [] R at piece) ≡ 0 → P
+-- a call whose first rule is that of a list of no records is refused
+none : (P : Type 0) (rest : List Rule) → verdict ((1, badLength []) ∷ rest) ≡ 0 → P
 unfolding badLength
-by-none P byList R at piece v = absurd (omega (arith, sym (stop 1 _ refl) ∙ v))
-by-none P (byTable n T) R at piece v = absurd (omega (arith, sym (stop 1 _ refl) ∙ v))
-by-none P (byMatrix X) R at piece v = absurd (omega (arith, sym (stop 1 _ refl) ∙ v))
+none P rest v = absurd (omega (arith, sym (stop 1 _ refl) ∙ v))
 
-pub plain-applies : Demand2Opened L₀ (begin full 5) (calls byList)
+pub plain-applies : Flows L₀ (begin full 5) (calls byList) × Demand2 L₀ (begin full 5 .saved) (calls byList)
 plain-applies =
     demand-2-opened L₀ full (replicate 5 9) passes (calls byList) (in-bytes byList)
-    (λ v. (refl, refl), (λ v. (refl, refl), (λ v. by-none _ byList _ 3 (b ∷ []) v, (λ v. (refl, refl), tt))))
+    (λ v. (refl, refl), (λ v. (refl, refl), (λ v. none _ _ v, (λ v. (refl, refl), tt))))
 
 pub split-applies : Demand3 L₀ 2 T₃ (begin full 5) (calls (byTable 2 T₃))
 split-applies =
     demand-3 L₀ 2 T₃ accepts full (replicate 5 9) passes (calls (byTable 2 T₃)) (in-bytes (byTable 2 T₃))
-    (λ v. (refl, refl), (λ v. (refl, refl), (λ v. by-none _ (byTable 2 T₃) _ 3 (b ∷ []) v, (λ v. (refl, refl), tt))))
+    (λ v. (refl, inl refl), (λ v. (refl, inl refl), (λ v. none _ _ v, (λ v. (refl, inl refl), tt))))
 
 -- "abab" with the engine swapped twice
 two : Bytes (a ∷ b ∷ [])
@@ -102,16 +98,16 @@ mixed =
 pub mixed-applies : Swapped L₀ (begin full 5) mixed
 mixed-applies =
     swapped L₀ full (replicate 5 9) passes mixed (three, (one b (lit< tt), (one b (lit< tt), (one b (lit< tt), (one b (lit< tt), tt)))))
-    (λ v. (refl, tt), (λ v. (refl, tt), (λ v. by-none _ (byTable 2 T₃) _ 3 (b ∷ []) v, (λ v. (refl, accepts), (λ v. (refl, refl), tt)))))
+    (λ v. (refl, tt), (λ v. (refl, tt), (λ v. none _ _ v, (λ v. (refl, accepts), (λ v. (refl, refl), tt)))))
 
--- five steps of "abab": "a" plain; "b" by the index of T; an index of no bytes, which is refused with 8; "a" by the index of the table of bound 1, and "b" by the list's matrix
-abbrev byIndexOf : ℕ → Table → List ℕ → ℕ → List ℕ → Step
-byIndexOf n T X at piece = byIndex L n T X at piece (room 1)
+-- five calls of "abab": "a" plain; "b" by the index of T; an index of no bytes, which is refused with 8; "a" by the index of the table of bound 1, and "b" by the list's matrix
+abbrev along : Via → ℕ → List ℕ → Call
+along via at piece = record { list = L; via = via; at = at; piece = piece; out = room 1 }
 
-abbrev stepped : List Step
-stepped =
-    called (record { list = L; via = byList; at = 0; piece = a ∷ []; out = room 1 }) ∷ byIndexOf 2 T₃ (filledIndex L T₃) 1 (b ∷ []) ∷ byIndexOf 2 T₃ [] 2 (a ∷ [])
-    ∷ byIndexOf 1 T₁ (filledIndex L T₁) 2 (a ∷ []) ∷ called (record { list = L; via = byMatrix (filled L); at = 3; piece = b ∷ []; out = room 1 }) ∷ []
+abbrev indexed : List Call
+indexed =
+    along byList 0 (a ∷ []) ∷ along (byIndex 2 T₃ (filledIndex L T₃)) 1 (b ∷ []) ∷ along (byIndex 2 T₃ []) 2 (a ∷ [])
+    ∷ along (byIndex 1 T₁ (filledIndex L T₁)) 2 (a ∷ []) ∷ along (byMatrix (filled L)) 3 (b ∷ []) ∷ []
 
 -- an index of no bytes is refused
 no-index : (P : Type 0) (R : List ℕ) → verdict (preparedRules (T₃ .classes) (T₃ .splits) [] R 2 (a ∷ [])) ≡ 0 → P
@@ -138,14 +134,12 @@ bytes₃ = splits-bytes s0 s01 s02 (split-bytes 1 0 65535) (split-bytes 3 0 1) (
 bytes₁ : Bytes (T₁ .splits)
 bytes₁ = splits-bytes (splitOf₂ 1 0 65535) (splitOf₂ 3 1 65535) (splitOf₂ 5 2 65535) (split-bytes 1 0 65535) (split-bytes 3 1 65535) (split-bytes 5 2 65535)
 
-pub stepped-applies : SwappedSteps L (openFlow L full []) stepped
-stepped-applies =
-    swapped-steps L full [] opens stepped
-    (one a (lit< tt), ((one b (lit< tt), bytes₃), ((one a (lit< tt), bytes₃), ((one a (lit< tt), bytes₁), (one b (lit< tt), tt)))))
-    (λ v. (refl, tt), (λ v. (refl, (accepts₂, refl)), (λ v. no-index _ _ v, (λ v. (refl, (accepts₁, refl)), (λ v. (refl, refl), tt)))))
+pub indexed-applies : Swapped L (openFlow L full []) indexed
+indexed-applies =
+    swapped L full [] opens indexed (one a (lit< tt), (one b (lit< tt), (one a (lit< tt), (one a (lit< tt), (one b (lit< tt), tt)))))
+    (λ v. (refl, tt), (λ v. (refl, (accepts₂, refl, bytes₃)), (λ v. no-index _ _ v, (λ v. (refl, (accepts₁, refl, bytes₁)), (λ v. (refl, refl), tt)))))
 
--- two steps through T at 2, split and then prepared
-pub through-applies : Demand3Steps L 2 T₃ (openFlow L full []) (called (record { list = L; via = byTable 2 T₃; at = 0; piece = a ∷ []; out = room 1 }) ∷ byIndexOf 2 T₃ (filledIndex L T₃) 1 (b ∷ []) ∷ [])
+-- two calls through T at 2, split and then prepared
+pub through-applies : Demand3 L 2 T₃ (openFlow L full []) (along (byTable 2 T₃) 0 (a ∷ []) ∷ along (byIndex 2 T₃ (filledIndex L T₃)) 1 (b ∷ []) ∷ [])
 through-applies =
-    demand-3-steps L full [] opens _ (one a (lit< tt), ((one b (lit< tt), bytes₃), tt)) 2 T₃ accepts₂
-    (λ v. (refl, refl), (λ v. (refl, (refl, (refl, refl))), tt))
+    demand-3 L 2 T₃ accepts₂ full [] opens _ (one a (lit< tt), (one b (lit< tt), tt)) (λ v. (refl, inl refl), (λ v. (refl, inr (refl, bytes₃)), tt))

@@ -17,8 +17,7 @@ use Rattle.indexes.specs.Index.{entrySize, sigsPlace, notePlace, entryPlace, fi
 use Rattle.prepared.specs.Prepared.{preparedFeed}
 use Rattle.classes.specs.Classes.{mostClasses, alike}
 use Rattle.build.specs.Build.{mostRows, steps, lower, partsOf, splitsOf}
-use Rattle.demands.specs.Calls.{Via, byList, byTable, byMatrix, Call, outcome}
-use Rattle.demands.specs.Demands.{wordsOf, after}
+use Rattle.demands.specs.Calls.{Via, byList, byTable, byMatrix, Call, outcome, wordsOf, after}
 
 -- a row: what a definition gives, and what the example says
 abbrev pub Row : Type 0

@@ -15,7 +15,8 @@ use Rattle.sets.proofs.Laws.{num-digits, length-digits}
 use Rattle.sets.proofs.Sets.{join-comm, join-empty}
 use Rattle.lists.specs.List.{word, listRefusal}
 use Rattle.lists.specs.Automaton.{start, step}
-use Rattle.sets.proofs.Order.{Smaller, before-exactly}
+use Rattle.sets.specs.Order.{Smaller}
+use Rattle.sets.proofs.Order.{before-exactly}
 use Rattle.rules.proofs.Scanning.{some-intro}
 use Rattle.rules.proofs.Stacks.{stack-length, stack-entry, stack-part, stack-at}
 use Rattle.lists.proofs.Steps.{step-lt}
@@ -24,22 +25,10 @@ use Rattle.rules.specs.Scan.{rising, stack}
 use Rattle.tables.proofs.Accepted.{accepts}
 use Rattle.classes.specs.Classes.{mostClasses, classOf, classesOf, classTotal}
 use Rattle.build.specs.Build.{Reach, In, Reached, lower, slotBytes, partsOf, rowOf, rowsOf, splitsOf, tableOf}
+use Rattle.build.specs.Words.{Tabled}
 use Rattle.build.proofs.Reached.{reach-start, reach-step, reach-lt}
 use Rattle.classes.proofs.Classes.{lowest-step}
 use Rattle.classes.proofs.Totals.{class-length, class-at, class-lt}
-
--- what the table of a list holds: one part for each set that can be reached and no other, in rising order of their bytes; for each part one split, of its
--- set, with that one slot; for each byte its class, and the row that a part and a byte select
-pub record Tabled (L : List ℕ) (T : Table) : Type 0 where
-  pub sound : (p : ℕ) → p < partCount (T .parts) → Reach L (part (T .parts) p)
-  pub all : (S : ℕ) → Reach L S → (p : ℕ) × (p < partCount (T .parts)) × (part (T .parts) p ≡ S)
-  pub rise : (i j : ℕ) → i < j → j < partCount (T .parts)
-      → Smaller setSize (λ k. getD (setBytes (part (T .parts) i)) k 0) (λ k. getD (setBytes (part (T .parts) j)) k 0)
-  pub as-many : splitCount (T .splits) ≡ partCount (T .parts)
-  pub same-set : (i : ℕ) → i < partCount (T .parts) → splitSet (T .splits) i ≡ part (T .parts) i
-  pub one-slot : (i : ℕ) → i < partCount (T .parts) → slots (T .splits) i ≡ i ∷ (65535 ∷ (65535 ∷ (65535 ∷ [])))
-  pub class-of : (c : ℕ) → c < byteValues → getD (T .classes) c 0 ≡ classOf L c
-  pub row-of : (p c : ℕ) → p < partCount (T .parts) → c < byteValues → row (T .classes) (T .rows) p c ≡ step L (part (T .parts) p) c
 
 pub slots-long : (i : ℕ) → length (slotBytes i) ≡ 8
 slots-long i = simp (length-append, length-digits, length-replicate)

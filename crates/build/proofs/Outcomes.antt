@@ -17,6 +17,7 @@ use Rattle.rules.proofs.Rules.{verdict-first, verdict-then, passes-front, stop,
 use Rattle.tables.specs.Table.{Table, byteValues, mostParts, splitSize, tableRefusal}
 use Rattle.classes.specs.Classes.{mostClasses, classTotal, classesOf}
 use Rattle.build.specs.Build.{mostRows, Many, partsOf, rowsOf, splitsOf, Building, tooShort, earlyRules, over, nothing, Builds, refuses, passesLimits, builds}
+use Rattle.build.specs.Words.{fronts}
 use Rattle.build.specs.Loops.{setsOf, Sought}
 use Rattle.classes.proofs.Totals.{class-length}
 use Rattle.build.proofs.Exploring.{sets-length}
@@ -96,15 +97,6 @@ module _ (L : List ℕ) (T : Table) (C P R W : List ℕ) (n k : ℕ) (good : lis
 
 pub fronts-of : (front lent : List ℕ) → take (length front) (over front lent) ≡ front
 fronts-of front lent = take-at front _ (length front) refl
-
-abbrev pub fronts : Building → Table
-fronts o =
-    record {
-      classes = take (o .classes) (o .lists .classes);
-      parts = take (o .parts) (o .lists .parts);
-      rows = take (o .rows) (o .lists .rows);
-      splits = take (o .splits) (o .lists .splits);
-    }
 
 pub build-accepted : (L : List ℕ) (T : Table) (o : Building) → Builds L T o → o .refusal ≡ 0 → tableRefusal L 1 (fronts o) ≡ 0
 build-accepted L T o (refuses n e) z = absurd (n (sym (ap (λ (x : Building). x .refusal) e) ∙ z))

@@ -18,35 +18,10 @@ use Rattle.classes.specs.Classes.{mostClasses, classesOf, classTotal}
 use Rattle.classes.proofs.Totals.{class-length}
 use Rattle.classes.proofs.Numbers.{zeros-get}
 use Rattle.build.specs.Build.{mostRows, Many, partsOf, rowsOf, splitsOf, Building, tooShort, earlyRules, over, Builds, refuses, passesLimits, builds}
+use Rattle.build.specs.Words.{fronts, Tabled, Nowhere, Untouched, Ends, ZerosBehind}
 use Rattle.build.proofs.Reached.{not-both}
-use Rattle.build.proofs.Accepts.{Tabled, tabled, part-length, row-length, split-length}
-use Rattle.build.proofs.Outcomes.{fronts, fronts-of, enough}
-
--- no lengths
-pub record Nowhere (o : Building) : Type 0 where
-  pub classes : o .classes ≡ 0
-  pub parts : o .parts ≡ 0
-  pub rows : o .rows ≡ 0
-  pub splits : o .splits ≡ 0
-
--- no lengths, and the lists as they were lent
-pub record Untouched (T : Table) (o : Building) : Type 0 where
-  pub classes : o .classes ≡ 0
-  pub parts : o .parts ≡ 0
-  pub rows : o .rows ≡ 0
-  pub splits : o .splits ≡ 0
-  pub lists : o .lists ≡ T
-
--- b is as long as the list lent, and has zeros from n to its very end
-abbrev pub Ends : List ℕ → List ℕ → ℕ → Type 0
-Ends lent b n = (length b ≡ length lent) × ((i : ℕ) → n ≤ i → getD b i 0 ≡ 0)
-
--- so have all four, from the lengths answered on
-pub record ZerosBehind (T : Table) (o : Building) : Type 0 where
-  pub classes : Ends (T .classes) (o .lists .classes) (o .classes)
-  pub parts : Ends (T .parts) (o .lists .parts) (o .parts)
-  pub rows : Ends (T .rows) (o .lists .rows) (o .rows)
-  pub splits : Ends (T .splits) (o .lists .splits) (o .splits)
+use Rattle.build.proofs.Accepts.{tabled, part-length, row-length, split-length}
+use Rattle.build.proofs.Outcomes.{fronts-of, enough}
 
 over-ends : (front lent : List ℕ) → length front ≤ length lent → Ends lent (over front lent) (length front)
 over-ends front lent h = (

@@ -8,20 +8,18 @@ use Rattle.sets.specs.Set.{signatures, members}
 use Rattle.lists.specs.List.{listRefusal}
 use Rattle.lists.specs.Automaton.{start}
 use Rattle.feeds.specs.Engine.{Engine, run, pairsAt, told}
-use Rattle.feeds.specs.Calls.{Bytes, Follows, allBytes}
-use Rattle.feeds.proofs.Runs.{bytes-take, bytes-append, told-append}
+use Rattle.feeds.specs.Calls.{Bytes, Follows}
+use Rattle.feeds.proofs.Runs.{told-append}
 use Rattle.feeds.proofs.Follows.{told-same}
 use Rattle.plain.specs.Plain.{plain, openPairs, openFlow, pairsOf}
-use Rattle.demands.specs.Demands.{Due}
-use Rattle.demands.specs.Prepared.{SwappedSteps}
+use Rattle.demands.specs.Demands.{Due, Swapped}
 use Rattle.demands.proofs.Due.{due-all}
-use Rattle.demands.proofs.Prepared.{swapped-steps}
+use Rattle.demands.proofs.Swapping.{swapped}
 use Rattle.extended.specs.declared.Config.{Config}
 use Rattle.extended.specs.Machine.{machineRefusal, machine, first}
 use Rattle.extended.specs.Record.{flowLayout}
 use Rattle.extended.specs.Extended as ext
-use Rattle.extended_demands.specs.Calls.{Call, InBytes, outcome, bytesOf}
-use Rattle.extended_demands.proofs.Demand2.{demand-2-opened}
+use Rattle.extended_demands.proofs.Demand2.{demand-2-opened, calls-bytes}
 use Rattle.certificates.specs.Certificate.{certificateRefusal}
 use Rattle.certificates.specs.Words.{Recorded, Certified}
 use Rattle.certificates.proofs.Accepts.{certificate-refuses, accepts-exactly, gives-22, list-first, machine-second}
@@ -31,13 +29,6 @@ use Rattle.certificate_demands.proofs.Next.{next-alike}
 
 pub demand-1 : Demand1
 demand-1 = record { checks = certificate-refuses; said-0 = accepts-exactly; said-22 = gives-22; said-list = list-first; said-machine = machine-second }
-
--- what calls consume is bytes
-bytes-in : (R : List ℕ) (cs : List Call) → InBytes cs → Bytes (bytesOf R cs)
-unfolding allBytes
-bytes-in R [] h = λ i. lit< tt
-bytes-in R (c ∷ cs) h =
-    bytes-append (take (outcome R c .bytes) (c .piece)) (bytesOf (outcome R c .saved) cs) (bytes-take (outcome R c .bytes) (c .piece) (h .0)) (bytes-in (outcome R c .saved) cs (h .1))
 
 module _ (L M P Z : List ℕ) (ok : certificateRefusal L M P Z ≡ 0) where
   -- the machine follows the list where a configuration is recorded with a set
@@ -61,15 +52,17 @@ module _ (L M P Z : List ℕ) (ok : certificateRefusal L M P Z ≡ 0) where
   pairs-both bs h = ap₂ (λ (xs ys : List ℕ). xs ++ ys) open-both (told-both bs h)
 
 -- a flow of the list changes between what is checked
-pub list-swaps : (L : List ℕ) (f : ListFlow L) → SwappedSteps L (openFlow L (f .flow) (f .out)) (f .steps)
-list-swaps L f = swapped-steps L (f .flow) (f .out) (f .opens) (f .steps) (f .in-bytes) (f .by-list)
+pub list-swaps : (L : List ℕ) (f : ListFlow L) → Swapped L (openFlow L (f .flow) (f .out)) (f .calls)
+list-swaps L f = swapped L (f .flow) (f .out) (f .opens) (f .calls) (f .in-bytes) (f .by-list)
 
 -- what a flow of the list has told is what its definition says of the bytes consumed, and what a flow of the machine has told
 list-tells : (L : List ℕ) (f : ListFlow L) → listWords L f ≡ pairsOf L (listBytes L f)
-list-tells L f = list-swaps L f .due .tells
+unfolding openPairs
+list-tells L f = list-swaps L f .flows .due .tells
 
 machine-tells : (M P : List ℕ) → Bytes M → Bytes P → (g : MachineFlow M P) → machineWords M P g ≡ ext.pairsOf M P (machineBytes M P g)
-machine-tells M P hm hp g = demand-2-opened M P hm hp (g .flow) (g .out) (g .opens) (g .calls) (g .in-bytes) (g .by-machine) .due .tells
+unfolding ext.openPairs
+machine-tells M P hm hp g = demand-2-opened M P hm hp (g .flow) (g .out) (g .opens) (g .calls) (g .in-bytes) (g .by-machine) .flows .due .tells
 
 -- a front of the bytes tells a front of the words
 front-told : (L bs cs xs ys : List ℕ) → xs ≡ pairsOf L bs → ys ≡ pairsOf L cs → Front bs cs → Front xs ys
@@ -82,7 +75,7 @@ front-told L bs cs xs ys p q w = (
 module _ (L M P Z : List ℕ) (hm : Bytes M) (hp : Bytes P) (ok : certificateRefusal L M P Z ≡ 0) where
   -- what a flow of the machine has told is what the list tells of the bytes consumed
   machine-is : (g : MachineFlow M P) → machineWords M P g ≡ pairsOf L (machineBytes M P g)
-  machine-is g = machine-tells M P hm hp g ∙ pairs-both L M P Z ok (machineBytes M P g) (bytes-in _ (g .calls) (g .in-bytes))
+  machine-is g = machine-tells M P hm hp g ∙ pairs-both L M P Z ok (machineBytes M P g) (calls-bytes _ (g .calls) (g .in-bytes))
 
   accepted : (listRefusal L ≡ 0) × (machineRefusal M P ≡ 0) × Certified L M P Z
   accepted = accepts-exactly L M P Z .0 ok
@@ -94,7 +87,7 @@ module _ (L M P Z : List ℕ) (hm : Bytes M) (hp : Bytes P) (ok : certificateRef
         ahead = λ f g. front-told L (listBytes L f) (machineBytes M P g) (listWords L f) (machineWords M P g) (list-tells L f) (machine-is g);
         behind = λ f g. front-told L (machineBytes M P g) (listBytes L f) (machineWords M P g) (listWords L f) (machine-is g) (list-tells L f);
         due = λ g. rw (machine-is g) (due-all L (machineBytes M P g) (told (plain L) (start L) 0 (machineBytes M P g)) refl);
-        next = λ f g e. next-alike L M P hm hp (accepted .0) (accepted .1) (Recorded Z) (follows L M P Z ok) (begins-recorded L M P Z ok) f g e (bytes-in _ (g .calls) (g .in-bytes));
+        next = λ f g e. next-alike L M P hm hp (accepted .0) (accepted .1) (Recorded Z) (follows L M P Z ok) (begins-recorded L M P Z ok) f g e (calls-bytes _ (g .calls) (g .in-bytes));
       }
 
 pub certified-alike : CertifiedAlike

@@ -7,16 +7,16 @@ use Rattle.rules.proofs.Rules.{refuses}
 use Rattle.feeds.specs.Fed.{Answers}
 use Rattle.feeds.specs.Opening.{Opens}
 use Rattle.feeds.specs.Calls.{Bytes, allBytes, allTold, recordAfter}
-use Rattle.plain.specs.Plain.{openFlow, pairsOf, plainFeed}
+use Rattle.plain.specs.Plain.{openPairs, openFlow, pairsOf, plainFeed}
 use Rattle.demands.specs.Calls as list
 use Rattle.demands.specs.Demands.{Due}
-use Rattle.demands.specs.Prepared.{called, stepBytes, stepWords, stepAfter}
+use Rattle.feeds.specs.Demands.{Answered}
 use Rattle.demands.proofs.Demand1.{demand-1}
 use Rattle.extended.specs.Extended.{extendedOpen, extendedFeed}
 use Rattle.extended_demands.specs.Drivers.{Seen, Sighted}
 use Rattle.extended_demands.proofs.Demand1 as machine
 use Rattle.certificates.specs.Certificate.{certificateRules, certificateRefusal}
-use Rattle.certificate_demands.specs.Alike.{ListFlow, listBytes, listWords, MachineFlow, machineBytes, machineWords, Answered, Alike}
+use Rattle.certificate_demands.specs.Alike.{ListFlow, listBytes, listWords, MachineFlow, machineBytes, machineWords, Alike}
 use Rattle.certificate_demands.specs.Drivers.{wordsSeen, bytesSeen, Likewise, BothDriven}
 use Rattle.certificate_demands.proofs.Alike.{list-swaps, alike}
 
@@ -38,21 +38,21 @@ module _ (L R : List ℕ) (o : Sighted) (S : List ℕ) (s : Seen) (T : List ℕ)
         flow = R;
         out = o .out;
         opens = sym (opens .refusal) ∙ z;
-        steps = called (record { list = L; via = list.byList; at = s .at; piece = s .piece; out = s .out }) ∷ [];
+        calls = record { list = L; via = list.byList; at = s .at; piece = s .piece; out = s .out } ∷ [];
         in-bytes = (hs, tt);
         by-list = (λ v. (refl, tt), tt);
       }
 
   -- and before its feed
   list-begun : o .opened .refusal ≡ 0 → ListFlow L
-  list-begun z = record { flow = R; out = o .out; opens = sym (opens .refusal) ∙ z; steps = []; in-bytes = tt; by-list = tt }
+  list-begun z = record { flow = R; out = o .out; opens = sym (opens .refusal) ∙ z; calls = []; in-bytes = tt; by-list = tt }
 
   list-bytes : (z : o .opened .refusal ≡ 0) → listBytes L (list-flow z) ≡ bytesSeen s
-  unfolding list-flow stepBytes
+  unfolding list-flow allBytes
   list-bytes z = append-nil _ ∙ ap (λ (n : ℕ). take n (s .piece)) (sym (list-is .bytes))
 
   list-words : (z : o .opened .refusal ≡ 0) → listWords L (list-flow z) ≡ wordsSeen o s
-  unfolding list-flow stepWords
+  unfolding list-flow allTold
   list-words z =
       ap₂ (λ (x y : List ℕ). x ++ y) (ap₂ (λ (n : ℕ) (ws : List ℕ). take (2 * n) ws) (sym (opens .pairs)) (sym (opens .words)))
       (append-nil _ ∙ ap₂ (λ (n : ℕ) (ws : List ℕ). take (2 * n) ws) (sym (list-is .pairs)) (sym (list-is .words)))
@@ -60,7 +60,7 @@ module _ (L R : List ℕ) (o : Sighted) (S : List ℕ) (s : Seen) (T : List ℕ)
   list-due : o .opened .refusal ≡ 0 → Due L (bytesSeen s) (wordsSeen o s)
   list-due z =
       let f = list-flow z in
-      due-as L (listBytes L f) (bytesSeen s) (listWords L f) (wordsSeen o s) (list-bytes z) (list-words z) (list-swaps L f .due)
+      due-as L (listBytes L f) (bytesSeen s) (listWords L f) (wordsSeen o s) (list-bytes z) (list-words z) (list-swaps L f .flows .due)
 
 -- ---- the machine
 
@@ -107,7 +107,7 @@ module _ (L M P Z : List ℕ) (R : List ℕ) (o : Sighted) (S : List ℕ) (s : S
   -- the two feeds on the records that the openings left, as they answered
   first-alike : certificateRefusal L M P Z ≡ 0 → (z : o .opened .refusal ≡ 0) (w : p .opened .refusal ≡ 0)
       → Answered (plainFeed L (openFlow L R (o .out) .saved) (s .at) (s .piece) (s .out)) (extendedFeed M P (extendedOpen M P Q (p .out) .saved) (s .at) (s .piece) (s .out))
-  unfolding stepBytes stepAfter allBytes recordAfter list-begun machine-begun
+  unfolding allBytes recordAfter list-begun machine-begun
   first-alike ok z w =
       alike L M P Z hm hp ok .next (list-begun L R o S s T opens feeds hs z) (machine-begun M P Q p U t W opens₂ feeds₂ ht w) refl (s .at) (s .piece) (s .out) hs
 
@@ -131,11 +131,12 @@ module _ (L M P Z : List ℕ) (R : List ℕ) (o : Sighted) (S : List ℕ) (s : S
       lent at by piece part out words i j k h = rw (← i, ← j, ← k) h
 
   pub both-driven : (checked : ℕ) → checked ≡ certificateRefusal L M P Z → BothDriven L M P Z checked R o s Q p t
+  unfolding openPairs
   both-driven checked e =
       record {
         checks = rw e (refuses (certificateRules L M P Z) refl);
-        list-opens = rw (opens .refusal) (demand-1 .opens L R (o .out));
-        machine-opens = rw (opens₂ .refusal) (machine.demand-1 .opens M P Q (p .out));
+        list-opens = rw (opens .refusal) (demand-1 .opens L R (o .out) .refuses);
+        machine-opens = rw (opens₂ .refusal) (machine.demand-1 .opens M P Q (p .out) .refuses);
         likewise = λ c z w i j k. likewise (sym e ∙ c) z w i j k;
         list-due = λ c z. list-due L R o S s T opens feeds hs z;
         machine-due = λ c z. machine-due M P Q p U t W opens₂ feeds₂ ht L (alike L M P Z hm hp (sym e ∙ c)) z;

@@ -11,7 +11,6 @@ use Rattle.feeds.specs.Opening.{opening}
 use Rattle.feeds.specs.Calls.{allTold, allBytes}
 use Rattle.flows.specs.Flow.{flowBytes, badFlow}
 use Rattle.plain.specs.Plain.{openPairs}
-use Rattle.demands.specs.Prepared.{stepBytes, stepWords}
 use Rattle.extended.specs.Program.{without, bitsBy, countersBy, alertsBy, after, alerted}
 use Rattle.extended.specs.Machine.{badLengths, goodInstruction, badMachine}
 use Rattle.extended.specs.Record.{fours, fourBytes, configAt}
@@ -24,7 +23,7 @@ use Rattle.certificates.specs.Certificate.{noteConfig, noteSet, goodNote, sameC
 use Rattle.certificate_demands.specs.Examples.{toldRows, acceptedRows, missingRows, fieldRows, alertRows, orderRows, examples}
 
 pub told-rows : Agree toldRows
-unfolding num digits holds join within insert setAt before compare size members some every gather verdict goodRecord badLength badRecord noStart start step accepted namedBy run costs due pairsAt told consumed ended feed opening allTold allBytes openPairs flowBytes badFlow stepBytes stepWords without bitsBy countersBy alertsBy after alerted badLengths goodInstruction badMachine fours fourBytes configAt ext.flowBytes ext.badFlow mach.openPairs noteConfig noteSet goodNote sameConfig noted allOnce goodOpening goodStep goodSteps goodNotes cert.badLength badCertificate toldRows
+unfolding num digits holds join within insert setAt before compare size members some every gather verdict goodRecord badLength badRecord noStart start step accepted namedBy run costs due pairsAt told consumed ended feed opening allTold allBytes openPairs flowBytes badFlow without bitsBy countersBy alertsBy after alerted badLengths goodInstruction badMachine fours fourBytes configAt ext.flowBytes ext.badFlow mach.openPairs noteConfig noteSet goodNote sameConfig noted allOnce goodOpening goodStep goodSteps goodNotes cert.badLength badCertificate toldRows
 told-rows = agree-sound toldRows tt
 
 accepted-rows : Agree acceptedRows

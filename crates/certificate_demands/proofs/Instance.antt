@@ -12,7 +12,7 @@ use Rattle.plain.specs.Plain.{openFlow}
 use Rattle.extended.specs.Extended.{extendedOpen}
 use Rattle.certificates.specs.Certificate.{certificateRefusal}
 use Rattle.certificate_demands.specs.Alike.{ListFlow, listBytes, listWords, MachineFlow, machineBytes, machineWords, Alike}
-use Rattle.certificate_demands.specs.Examples.{L₁, M₁, P₁, note, listBegun, listSteps, machineBegun, machineCalls, toldRows}
+use Rattle.certificate_demands.specs.Examples.{L₁, M₁, P₁, note, listBegun, listCalls, machineBegun, machineCalls, toldRows}
 use Rattle.certificate_demands.proofs.Examples.{told-rows}
 use Rattle.certificate_demands.proofs.Alike.{certified-alike}
 
@@ -40,7 +40,7 @@ list-flow =
       flow = replicate 144 7;
       out = replicate 3 8;
       opens = ap (λ (ws : List ℕ). getD ws 0 0) refusals;
-      steps = listSteps;
+      calls = listCalls;
       in-bytes = (small-bytes (97 ∷ 98 ∷ []) refl, tt);
       by-list = (λ v. (refl, tt), tt);
     }

@@ -5,12 +5,12 @@ use mathlib.Core.Logic.{_↔_}
 use mathlib.Core.Path.{_≡_}
 use Rattle.rules.specs.Rules.{Refuses}
 use Rattle.lists.specs.List.{listRefusal}
-use Rattle.feeds.specs.Engine.{Outcome}
 use Rattle.feeds.specs.Calls.{Bytes}
 use Rattle.feeds.specs.Opening.{Opening}
 use Rattle.plain.specs.Plain.{openFlow, plainFeed}
-use Rattle.demands.specs.Demands.{Due, openTold}
-use Rattle.demands.specs.Prepared.{Step, EachStep, StepsInBytes, StepSwaps, stepBytes, stepWords, stepAfter}
+use Rattle.feeds.specs.Demands.{openTold, Answered}
+use Rattle.demands.specs.Calls as list
+use Rattle.demands.specs.Demands.{Due, Swaps}
 use Rattle.extended.specs.Machine.{machineRefusal}
 use Rattle.extended.specs.Extended.{extendedOpen, extendedFeed}
 use Rattle.extended_demands.specs.Calls.{Call, InBytes, Each, bytesOf, wordsOf, after}
@@ -39,20 +39,20 @@ pub record ListFlow (L : List ℕ) : Type 0 where
   pub opens : openFlow L flow out .refusal ≡ 0
   -- each is the plain feed on L, a split feed through a table that the check accepts at its bound, the matrix feed by the matrix that the
   -- filler writes, or the prepared feed by the index that its filler writes; one that is refused may hold anything
-  pub steps : List Step
-  pub in-bytes : StepsInBytes steps
-  pub by-list : EachStep (StepSwaps L) (openFlow L flow out .saved) steps
+  pub calls : List list.Call
+  pub in-bytes : list.InBytes calls
+  pub by-list : list.Each (Swaps L) (openFlow L flow out .saved) calls
 
 -- all bytes that it consumed, and all words that it told, those of the opening first
 abbrev pub listBytes : (L : List ℕ) → ListFlow L → List ℕ
-listBytes L f = stepBytes (openFlow L (f .flow) (f .out) .saved) (f .steps)
+listBytes L f = list.bytesOf (openFlow L (f .flow) (f .out) .saved) (f .calls)
 
 abbrev pub listWords : (L : List ℕ) → ListFlow L → List ℕ
-listWords L f = let o = openFlow L (f .flow) (f .out) in openTold o ++ stepWords (o .saved) (f .steps)
+listWords L f = let o = openFlow L (f .flow) (f .out) in openTold o ++ list.wordsOf (o .saved) (f .calls)
 
 -- the record that it left
 abbrev pub listAfter : (L : List ℕ) → ListFlow L → List ℕ
-listAfter L f = stepAfter (openFlow L (f .flow) (f .out) .saved) (f .steps)
+listAfter L f = list.after (openFlow L (f .flow) (f .out) .saved) (f .calls)
 
 -- ---- a flow of the machine: so with the moves M and the programs P
 
@@ -76,14 +76,6 @@ abbrev pub machineWords : (M P : List ℕ) → MachineFlow M P → List ℕ
 machineWords M P g = let o = extendedOpen M P (g .flow) (g .out) in openTold o ++ wordsOf (o .saved) (g .calls)
 
 -- ---- both
-
--- two feeds that answer the same and leave the same words
-pub record Answered (o p : Outcome) : Type 0 where
-  pub refusal : o .refusal ≡ p .refusal
-  pub bytes : o .bytes ≡ p .bytes
-  pub pairs : o .pairs ≡ p .pairs
-  pub all : o .all ≡ p .all
-  pub words : o .words ≡ p .words
 
 -- xs is a front of ys
 abbrev pub Front : List ℕ → List ℕ → Type 0

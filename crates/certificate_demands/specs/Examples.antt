@@ -5,9 +5,8 @@ use lib.ListN.{replicate, take, drop, set}
 use Rattle.rules.specs.Rules.{verdict}
 use Rattle.feeds.specs.Opening.{Opening}
 use Rattle.plain.specs.Plain.{openFlow}
-use Rattle.demands.specs.Calls.{byList}
-use Rattle.demands.specs.Demands.{openTold}
-use Rattle.demands.specs.Prepared.{Step, called, stepBytes, stepWords}
+use Rattle.feeds.specs.Demands.{openTold}
+use Rattle.demands.specs.Calls as list
 use Rattle.extended.specs.Program.{off}
 use Rattle.extended.specs.Extended.{extendedOpen}
 use Rattle.extended_demands.specs.Calls.{Call, bytesOf, wordsOf}
@@ -177,8 +176,8 @@ orderRows =
 abbrev pub listBegun : Opening
 listBegun = openFlow L₁ (replicate 144 7) (replicate 3 8)
 
-abbrev pub listSteps : List Step
-listSteps = called (record { list = L₁; via = byList; at = 0; piece = 97 ∷ 98 ∷ []; out = replicate 4 8 }) ∷ []
+abbrev pub listCalls : List list.Call
+listCalls = record { list = L₁; via = list.byList; at = 0; piece = 97 ∷ 98 ∷ []; out = replicate 4 8 } ∷ []
 
 abbrev pub machineBegun : Opening
 machineBegun = extendedOpen M₁ P₁ (replicate 80 7) (replicate 2 8)
@@ -192,9 +191,9 @@ machineCalls = machineFed 0 97 ∷ (machineFed 0 97 ∷ (machineFed 1 98 ∷ [])
 unfoldable pub toldRows : List Row
 toldRows =
     (listBegun .refusal ∷ machineBegun .refusal ∷ certificateRefusal L₁ M₁ P₁ (note 0 0 1) ∷ [], 0 ∷ 0 ∷ 0 ∷ [])
-    ∷ (stepBytes (listBegun .saved) listSteps, 97 ∷ 98 ∷ [])
+    ∷ (list.bytesOf (listBegun .saved) listCalls, 97 ∷ 98 ∷ [])
     ∷ (bytesOf (machineBegun .saved) machineCalls, 97 ∷ 98 ∷ [])
-    ∷ (openTold listBegun ++ stepWords (listBegun .saved) listSteps, 7 ∷ 0 ∷ 7 ∷ 1 ∷ 7 ∷ 2 ∷ [])
+    ∷ (openTold listBegun ++ list.wordsOf (listBegun .saved) listCalls, 7 ∷ 0 ∷ 7 ∷ 1 ∷ 7 ∷ 2 ∷ [])
     ∷ (openTold machineBegun ++ wordsOf (machineBegun .saved) machineCalls, 7 ∷ 0 ∷ 7 ∷ 1 ∷ 7 ∷ 2 ∷ [])
     ∷ []
 

@@ -14,7 +14,8 @@ use Rattle.lists.specs.List.{records, from, listRefusal}
 use Rattle.lists.specs.Automaton.{step}
 use Rattle.rules.proofs.Scanning.{some-intro, none-some, every-at, every-all, first-found}
 use Rattle.lists.proofs.Listed.{good-edge, edge-good}
-use Rattle.lists.proofs.Steps.{Takes, step-checked, good-at}
+use Rattle.lists.specs.Words.{Takes}
+use Rattle.lists.proofs.Steps.{step-checked, good-at}
 use Rattle.tables.specs.Table.{byteValues}
 use Rattle.classes.specs.Classes.{alike, count, lowestLike, leads, classOf, lowestOf}
 

@@ -15,29 +15,18 @@ use Rattle.rules.specs.Scan.{first}
 use Rattle.rules.proofs.Scanning.{some-elim, none-some, first-found}
 use Rattle.lists.specs.List.{records, from, target, listRefusal}
 use Rattle.lists.specs.Automaton.{step}
-use Rattle.lists.proofs.Steps.{Takes, step-checked}
+use Rattle.lists.proofs.Steps.{step-checked}
 use Rattle.tables.specs.Table.{byteValues, largest}
 use Rattle.tables.proofs.Entries.{largest-exactly}
 use Rattle.classes.specs.Classes.{alike, count, lowestLike, leads, classOf, classesOf, classTotal, lowestOf}
+use Rattle.classes.specs.Words.{Moves, Alike, Needs}
 use Rattle.classes.proofs.Pigeons.{pigeons}
 use Rattle.classes.proofs.Classes.{same-truth, at-alike, alike-step, count-one, lowest-like, lowest-upto, class-alike, alike-class, class-lead, class-low, class-hit}
 use Rattle.classes.proofs.Totals.{class-length, class-at, class-lt}
 
--- some edge leads from s to t on byte c
-abbrev pub Moves : List ℕ → ℕ → ℕ → ℕ → Type 0
-Moves L s c t = (i : ℕ) × (i < records L) × Takes L c i × (from L i ≡ s) × (target L i ≡ t)
-
--- every state steps alike on both bytes
-abbrev pub Alike : List ℕ → ℕ → ℕ → Type 0
-Alike L c d = (s t : ℕ) → Moves L s c t ↔ Moves L s d t
-
 -- no byte below c shares its class
 abbrev pub Lowest : List ℕ → ℕ → Type 0
 Lowest L c = (b : ℕ) → b < c → classOf L b ≡ classOf L c → ⊥
-
--- n classes are needed: there are n bytes, numbered, of which no two step alike
-abbrev pub Needs : List ℕ → ℕ → Type 0
-Needs L n = (f : ℕ → ℕ) × ((i : ℕ) → i < n → f i < byteValues) × ((i j : ℕ) → i < n → j < n → Alike L (f i) (f j) → i ≡ j)
 
 -- ---- which bytes share a class
 

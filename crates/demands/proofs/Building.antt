@@ -10,14 +10,19 @@ use Rattle.rules.proofs.Rules.{passes-front}
 use Rattle.lists.specs.List.{listRules, listRefusal}
 use Rattle.tables.specs.Table.{Table, mostParts, tableRefusal}
 use Rattle.classes.specs.Classes.{mostClasses, classTotal}
-use Rattle.classes.proofs.Words.{Needs, needs-exactly}
+use Rattle.classes.specs.Words.{Needs}
+use Rattle.classes.proofs.Words.{needs-exactly}
 use Rattle.build.specs.Build.{Many, Building, tooShort, earlyRules, Builds, refuses, passesLimits, builds}
 use Rattle.build.proofs.Reached.{not-both}
-use Rattle.build.proofs.Outcomes.{fronts, build-accepted}
-use Rattle.build.proofs.Words.{Nowhere, Untouched, keeps, empties, fills, short-exactly}
-use Rattle.demands.specs.Words.{Row, None, First, InWords, listWords, lentWords, earlyWords, buildWords}
+use Rattle.build.specs.Words.{fronts}
+use Rattle.build.proofs.Outcomes.{build-accepted}
+use Rattle.build.specs.Words.{Nowhere, Untouched}
+use Rattle.build.proofs.Words.{keeps, empties, fills, short-exactly}
+use Rattle.rules.specs.Words.{Row, None, First, InWords}
+use Rattle.demands.specs.Words.{listWords, lentWords, earlyWords, buildWords}
 use Rattle.demands.specs.Drivers.{BuildKept}
-use Rattle.demands.proofs.Saying.{Says, says-append, tells, list-says}
+use Rattle.rules.proofs.Saying.{Says, says-append, tells}
+use Rattle.demands.proofs.Saying.{list-says}
 
 -- ---- one table of words behind another
 

@@ -5,25 +5,26 @@ use mathlib.Core.Bool.{true}
 use mathlib.Core.List.{List, [], _∷_, _++_}
 use mathlib.Core.Logic.{_⊎_, inl, inr, _↔_}
 use native.Mathlib.Omega.{arith}
-use native.Mathlib.Nat.{zero-add}
-use lib.ListN.{length, take}
+use lib.ListN.{length, getD, take}
 use lib.Pow.{pow-pos}
 use Rattle.sets.specs.Set.{signatures, size, holds}
 use Rattle.rules.specs.Rules.{verdict}
 use Rattle.rules.proofs.Scanning.{choose}
-use Rattle.lists.specs.Automaton.{start, accepted}
+use Rattle.lists.specs.Automaton.{start, step, accepted}
 use Rattle.lists.proofs.Steps.{start-lt, accepted-exactly}
 use Rattle.feeds.specs.Pairs.{Pair}
 use Rattle.feeds.specs.Engine.{run, told}
 use Rattle.feeds.specs.Opening.{Opening}
 use Rattle.feeds.proofs.Runs.{run-more}
 use Rattle.feeds.proofs.Told.{told-exactly}
-use Rattle.feeds.proofs.Opening.{opens, opening-refusal, opening-tells, flow-exactly, flow-ordered}
+use Rattle.feeds.proofs.Opening.{opens, opening-refusal, opening-tells}
+use Rattle.feeds.proofs.Opening as flow
 use Rattle.flows.specs.Flow.{frontierOf, offsetOf, rowsOf}
 use Rattle.flows.proofs.Records.{frontier-flow, offset-flow, rows-flow}
-use Rattle.plain.specs.Plain.{plain, opened, openPairs, openRules, openFlow, pairsOf}
+use Rattle.plain.specs.Plain.{plain, opened, openPairs, openRules, openFlow}
 use Rattle.plain.proofs.Opening.{openPairs-long}
-use Rattle.demands.specs.Demands.{openTold, Due}
+use Rattle.feeds.specs.Demands.{openTold}
+use Rattle.demands.specs.Demands.{Due, DueSaid}
 
 -- ---- the bytes fed
 
@@ -40,39 +41,32 @@ told-due L F k bs g o =
       λ w. let q = rw (run-more (plain L) F bs (w .0) (w .1)) at (w .3) in e .1 (w .0, w .1, w .2, accepted-below L _ g q, q),
     )
 
--- so from the start set on
-told-start : (L bs : List ℕ) (g k : ℕ) → Pair (told (plain L) (start L) 0 bs) g k
-    ↔ ((n : ℕ) × (n < length bs) × (k ≡ suc n) × (holds (accepted L (run (plain L) (start L) (take (suc n) bs))) g ≡ true))
-told-start L bs g k =
-    let e = told-due L (start L) 0 bs g k in (
-      λ p. let w = e .0 p in (w .0, w .1, w .2 ∙ zero-add (suc (w .0)), w .3),
-      λ w. e .1 (w .0, w .1, w .2 ∙ sym (zero-add (suc (w .0))), w .3),
-    )
-
 -- ---- from opening on
 
-flow-due : (L bs : List ℕ) (g k : ℕ) → Pair (pairsOf L bs) g k ↔ ((k ≤ length bs) × (holds (accepted L (run (plain L) (start L) (take k bs))) g ≡ true))
-unfolding openPairs run
-flow-due L bs g k = (λ p. choose (e .0 p) at-once later, λ q. e .1 (back k (q .0) (q .1)))
+pub due-said : DueSaid
+unfolding run
+due-said L bs ws d g k = (λ p. choose (d .due g k .0 p) at-once later, λ q. d .due g k .1 (back k (q .0) (q .1)))
   where
-    e : Pair (pairsOf L bs) g k ↔ (((k ≡ 0) × (g < signatures) × (holds (accepted L (start L)) g ≡ true)) ⊎ Pair (told (plain L) (start L) 0 bs) g k)
-    e = flow-exactly (plain L) (accepted L (start L)) (start L) bs g k
-
     at-once : (k ≡ 0) × (g < signatures) × (holds (accepted L (start L)) g ≡ true) → (k ≤ length bs) × (holds (accepted L (run (plain L) (start L) (take k bs))) g ≡ true)
     at-once q = rw (q .0) (omega arith, q .2)
 
-    later : Pair (told (plain L) (start L) 0 bs) g k → (k ≤ length bs) × (holds (accepted L (run (plain L) (start L) (take k bs))) g ≡ true)
-    later p = let w = told-start L bs g k .0 p in rw (w .2) (omega (arith, w .1), w .3)
+    -- after byte n the automaton stands where its move on that byte leads
+    after : (n : ℕ) → n < length bs → run (plain L) (start L) (take (suc n) bs) ≡ step L (run (plain L) (start L) (take n bs)) (getD bs n 0)
+    after n l = run-more (plain L) (start L) bs n l
 
-    back : (n : ℕ) → n ≤ length bs → holds (accepted L (run (plain L) (start L) (take n bs))) g ≡ true
-        → ((n ≡ 0) × (g < signatures) × (holds (accepted L (start L)) g ≡ true)) ⊎ Pair (told (plain L) (start L) 0 bs) g n
+    later : (n : ℕ) × (n < length bs) × (k ≡ suc n) × (g < signatures) × (holds (accepted L (step L (run (plain L) (start L) (take n bs)) (getD bs n 0))) g ≡ true)
+        → (k ≤ length bs) × (holds (accepted L (run (plain L) (start L) (take k bs))) g ≡ true)
+    later w = rw (w .2) (omega (arith, w .1), rw (after (w .0) (w .1)) (w .4))
+
+    back : (m : ℕ) → m ≤ length bs → holds (accepted L (run (plain L) (start L) (take m bs))) g ≡ true
+        → ((m ≡ 0) × (g < signatures) × (holds (accepted L (start L)) g ≡ true))
+        ⊎ ((n : ℕ) × (n < length bs) × (m ≡ suc n) × (g < signatures) × (holds (accepted L (step L (run (plain L) (start L) (take n bs)) (getD bs n 0))) g ≡ true))
     back zero l h = inl (refl, accepted-below L (start L) g h, h)
-    back (suc n) l h = inr (told-start L bs g (suc n) .1 (n, omega arith, refl, h))
+    back (suc n) l h = let q = rw (after n (omega arith)) at h in inr (n, omega arith, refl, accepted-below L _ g q, q)
 
 pub due-all : (L bs ws : List ℕ) → ws ≡ told (plain L) (start L) 0 bs → Due L bs (openPairs L ++ ws)
 unfolding openPairs
-due-all L bs ws e =
-    rw e (record { tells = refl; due = flow-due L bs; ordered = flow-ordered (plain L) (accepted L (start L)) (start L) bs })
+due-all L bs ws e = flow.due-all (plain L) (start L) (accepted L (start L)) bs ws e
 
 -- ---- the record that opening leaves, and what it tells
 

@@ -1,104 +1,95 @@
--- The list engines on a flow: what rules 4 and 6 give a call that passes, what a byte costs, and that an accepted table follows the list. Assumes nothing.
-use Prim.Native.Nat.{ℕ, _+_, _*_, _^_, _≤_, _<_}
-use mathlib.Core.Path.{_≡_, refl, sym, ap, _∙_}
-use mathlib.Core.Bool.{true, false, _||_, not, true≢false}
-use mathlib.Core.List.{List, [], _∷_}
-use native.Mathlib.Omega.{arith}
+-- The list of engines again: the law of each, from its own room. And what follows, by the law alone, of a call by any of them. Assumes nothing.
+use Prim.Native.Nat.{ℕ, _^_, _≤_, _<_}
+use mathlib.Core.Path.{_≡_, refl, sym, _∙_}
+use mathlib.Core.Bool.{false}
+use mathlib.Core.List.{List}
+use native.Mathlib.Decide.{ℕ-discrete}
 use lib.ListN.{length}
-use lib.Dec.{lit<}
-use Rattle.sets.specs.Set.{states, within}
-use Rattle.rules.specs.Rules.{verdict}
-use Rattle.lists.specs.Automaton.{step, accepted, named}
-use Rattle.rules.proofs.Rules.{passes-front, exactly, verdict-lt}
-use Rattle.lists.proofs.Steps.{step-lt}
-use Rattle.lists.proofs.Named.{step-named}
-use Rattle.feeds.specs.Engine.{mostOffset}
-use Rattle.flows.specs.Flow.{frontierOf, offsetOf, rowsOf, badFlow, feedRules}
-use Rattle.feeds.specs.Calls.{Follows}
-use Rattle.flows.proofs.Records.{good-flow}
-use Rattle.flows.proofs.Passing.{feed-passes}
+use Rattle.sets.specs.Set.{states}
+use Rattle.rules.specs.Scan.{rising}
+use Rattle.rules.specs.Rules.{verdict, Rises, Refuses}
+use Rattle.rules.proofs.Rules.{rises, refuses}
+use Rattle.lists.specs.Automaton.{step}
+use Rattle.feeds.specs.Engine.{feed}
+use Rattle.feeds.specs.Calls.{Bytes, fedBy, allBytes}
+use Rattle.feeds.specs.Lawful.{Lawful}
+use Rattle.feeds.proofs.Going.{unfed}
+use Rattle.feeds.proofs.Whole.{Kind, Acts, all-fed}
+use Rattle.flows.specs.Flow.{flowLayout, frontierOf, badFlow}
+use Rattle.flows.proofs.Saved.{flow-sound}
+use Rattle.flows.proofs.Kept.{rows-few, good-feed}
 use Rattle.plain.specs.Plain.{plain}
-use Rattle.plain.proofs.Plain.{plain-cheap}
-use Rattle.tables.specs.Table.{Table, isSplit, risingRules, tableRefusal}
-use Rattle.tables.proofs.Accepted.{accepted as accepted-table}
-use Rattle.splits.specs.Split.{split}
-use Rattle.splits.proofs.Exact.{few, free, same, stays}
-use Rattle.splits.proofs.Stepping.{split-cheap}
-use Rattle.splits.proofs.Halting.{free-split}
-use Rattle.matrix.specs.Matrix.{matrixed, filled, wrongMatrix}
-use Rattle.matrix.proofs.Exact.{step-same, follows as matrix-follows}
-use Rattle.matrix.proofs.Feeding.{matrix-cheap}
-use Rattle.demands.specs.Calls.{Via, byList, byTable, byMatrix, Checked, Call, engineOf, rulesOf, asked}
-use Rattle.demands.specs.Demands.{Fit}
+use Rattle.plain.specs.Means.{listAutomata}
+use Rattle.plain.proofs.Lawful as list
+use Rattle.splits.proofs.Lawful as table
+use Rattle.matrix.proofs.Lawful as matrix
+use Rattle.prepared.proofs.Lawful as index
+use Rattle.rules.specs.Words.{InWords}
+use Rattle.demands.specs.Calls.{Via, byList, byTable, byMatrix, byIndex, meansOf, wordsBy, Lent, Call, wayOf, outcome, ruled, bytesOf, InBytes}
+use Rattle.demands.specs.Demands.{spends, counted}
+use Rattle.demands.proofs.Saying.{feed-tells, split-tells, matrix-tells, prepared-tells}
 
--- ---- a call that no rule refuses
+pub lawful-of : (v : Via) → Lawful listAutomata (meansOf v)
+lawful-of byList = list.lawful
+lawful-of (byTable b T) = table.lawful b T
+lawful-of (byMatrix X) = matrix.lawful X
+lawful-of (byIndex b T X) = index.lawful b T X
 
--- it passes the rules of every feed
-passes-feed : (v : Via) (L R : List ℕ) (at : ℕ) (piece : List ℕ) → verdict (rulesOf v L R at piece) ≡ 0 → verdict (feedRules L R at piece) ≡ 0
-passes-feed byList L R at piece e = e
-passes-feed (byTable b T) L R at piece e = passes-front (feedRules L R at piece) (risingRules b T) e
-passes-feed (byMatrix X) L R at piece e = passes-front (feedRules L R at piece) ((8, wrongMatrix L X) ∷ []) e
+pub said-of : (v : Via) (L R : List ℕ) (at : ℕ) (piece : List ℕ) → InWords (wordsBy v L R at piece) (verdict (meansOf v .rules L R at piece))
+said-of byList L = feed-tells L
+said-of (byTable b T) L = split-tells L b T
+said-of (byMatrix X) L = matrix-tells L X
+said-of (byIndex b T X) L = prepared-tells (T .classes) (T .splits) X
 
--- so its record is good, its piece begins at the flow's offset, and ends at one
-pub call-passes : (R : List ℕ) (c : Call) → verdict (asked c .rules R) ≡ 0
-    → (badFlow R ≡ false) × (c .at ≡ offsetOf R) × (offsetOf R + length (c .piece) ≤ mostOffset) × (within (frontierOf R) (named (c .list)) ≡ true)
-call-passes R c e = feed-passes (c .list) R (c .at) (c .piece) (passes-feed (c .via) (c .list) R (c .at) (c .piece) e)
+pub ruled-of : (v : Via) (L R : List ℕ) (at : ℕ) (piece : List ℕ) → Rises (meansOf v .rules L R at piece) × Refuses (meansOf v .rules L R at piece) (verdict (meansOf v .rules L R at piece))
+unfolding rising
+ruled-of byList L R at piece = let rs = meansOf byList .rules L R at piece in (rises 0 rs refl, refuses rs refl)
+ruled-of (byTable b T) L R at piece = let rs = meansOf (byTable b T) .rules L R at piece in (rises 0 rs refl, refuses rs refl)
+ruled-of (byMatrix X) L R at piece = let rs = meansOf (byMatrix X) .rules L R at piece in (rises 0 rs refl, refuses rs refl)
+ruled-of (byIndex b T X) L R at piece = let rs = meansOf (byIndex b T X) .rules L R at piece in (rises 0 rs refl, refuses rs refl)
 
-pub rows-few : (R : List ℕ) → badFlow R ≡ false → rowsOf R ≤ states * offsetOf R
-rows-few R e = good-flow R e .2
+-- ---- of any of them
 
--- the rules of a call have numbers below 14
-pub below-14 : (v : Via) (L R : List ℕ) (at : ℕ) (piece : List ℕ) → verdict (rulesOf v L R at piece) < 14
-below-14 byList L R at piece = verdict-lt 14 (rulesOf byList L R at piece) (lit< tt) refl
-below-14 (byTable b T) L R at piece = verdict-lt 14 (rulesOf (byTable b T) L R at piece) (lit< tt) refl
-below-14 (byMatrix X) L R at piece = verdict-lt 14 (rulesOf (byMatrix X) L R at piece) (lit< tt) refl
+-- the record keeps what 4 asks but for foreign states
+pub call-good : (v : Via) (L R : List ℕ) (at : ℕ) (piece out : List ℕ) → Bytes piece → Lent v → badFlow R ≡ false → badFlow (fedBy (wayOf v L) R at piece out .saved) ≡ false
+call-good v L R at piece out h l g =
+    let M = meansOf v in
+    good-feed (M .engine L) (λ Q. M .stands (frontierOf Q)) (M .frontier) (M .rules L R at piece) R piece out (lawful-of v .cheap l L) (λ z. lawful-of v .passes L R at piece z .2) h g
 
--- one whose record 4 takes is not refused with 4
-pub no-4 : (v : Via) (L R : List ℕ) (at : ℕ) (piece : List ℕ) → Fit L R → verdict (rulesOf v L R at piece) ≡ 4 → ⊥
-no-4 v L R at piece f e = true≢false (sym (applies v e) ∙ rw (f .0, f .1))
-  where
-    applies : (v : Via) → verdict (rulesOf v L R at piece) ≡ 4 → (badFlow R || not (within (frontierOf R) (named L))) ≡ true
-    applies byList q = exactly (rulesOf byList L R at piece) refl 3 (lit< tt) .0 q .0
-    applies (byTable b T) q = exactly (rulesOf (byTable b T) L R at piece) refl 3 (lit< tt) .0 q .0
-    applies (byMatrix X) q = exactly (rulesOf (byMatrix X) L R at piece) refl 3 (lit< tt) .0 q .0
+-- calls whose pieces are bytes consume bytes
+pub calls-bytes : (R : List ℕ) (cs : List Call) → InBytes cs → Bytes (bytesOf R cs)
+calls-bytes R cs h = all-fed (λ (c : Call). c .piece) (λ (c : Call) (Q : List ℕ). outcome Q c) R cs h
 
--- by what is checked for L, a byte before which nothing halts leads to states that L names
-pub next-named : (v : Via) (L : List ℕ) → Checked L v → (F c : ℕ) → c < 256 → engineOf v L .halts F ≡ false → within (engineOf v L .next F c) (named L) ≡ true
-next-named byList L k F c l h = step-named L F c
-next-named (byTable b T) L k F c l h = rw (same L b T (accepted-table L b T k) F (free-split b T F h) c l) (step-named L F c)
-next-named (byMatrix X) L k F c l h = rw (k, step-same L F c l) (step-named L F c)
+-- ---- as calls in a row, on frontiers of a kind that the automaton of L keeps: one that no rule refuses has to be a feed by that, at costs of its own
 
--- ---- what a byte costs
-
--- by any list, table or matrix at most as many rows as there are states
-pub cost-most : (v : Via) (L : List ℕ) (F : ℕ) → engineOf v L .cost F ≤ states
-cost-most byList L F = plain-cheap L F
-cost-most (byTable b T) L F = omega (arith, split-cheap T F)
-cost-most (byMatrix X) L F = matrix-cheap L X F
-
--- ---- an accepted table follows the list
-
--- the same frontier, a split, and a set of states
-abbrev pub AtSplit : Table → ℕ → ℕ → Type 0
-AtSplit T F G = (F ≡ G) × (isSplit (T .splits) F ≡ true) × (F < 2 ^ states)
-
-pub split-follows : (L : List ℕ) (b : ℕ) (T : Table) → tableRefusal L b T ≡ 0 → Follows (split L b T) (plain L) (AtSplit T)
-split-follows L b T e =
-    let a = accepted-table L b T e in
+abbrev pub listKind : (L : List ℕ) (Good : ℕ → Type 0) → ((F : ℕ) → Good F → F < 2 ^ states) → ((F c : ℕ) → c < 256 → Good F → Good (step L F c)) → Kind Call ℕ
+listKind L Good small kept =
     record {
-      same = λ F G c l r. ap (accepted L) (same L b T a F (r .1) c l ∙ ap (λ (H : ℕ). step L H c) (r .0));
-      goes = λ F G r. free L b T a F (r .1);
-      stays = λ F G c l r. (
-        same L b T a F (r .1) c l ∙ ap (λ (H : ℕ). step L H c) (r .0),
-        rw (same L b T a F (r .1) c l) (stays L b T a F (r .1) c l),
-        rw (same L b T a F (r .1) c l) (step-lt L F c),
-      );
+      piece = λ c. c .piece;
+      out = λ c. c .out;
+      does = λ c R. outcome R c;
+      layout = flowLayout;
+      engine = plain L;
+      Good = Good;
+      most = states;
+      rules = ruled;
+      cost = λ c. spends (c .via);
+      sound = flow-sound Good small;
+      stays = kept;
     }
 
-pub split-few : (L : List ℕ) (b : ℕ) (T : Table) → tableRefusal L b T ≡ 0 → (F G : ℕ) → AtSplit T F G → split L b T .cost F ≤ b
-split-few L b T e F G r = few L b T (accepted-table L b T e) F (r .1)
-
--- ---- so does the list's matrix, at every frontier
-
-pub filled-follows : (L X : List ℕ) → X ≡ filled L → Follows (matrixed L X) (plain L) (λ F G. F ≡ G)
-filled-follows L X e = rw e (matrix-follows L)
+module _ (L : List ℕ) (Good : ℕ → Type 0) (small : (F : ℕ) → Good F → F < 2 ^ states) (kept : (F c : ℕ) → c < 256 → Good F → Good (step L F c)) where
+  pub acts-so : (R : List ℕ) (c : Call) → (verdict (ruled R c) ≡ 0 → outcome R c ≡ feed (ruled R c) (counted (c .via) L) flowLayout R (c .piece) (c .out))
+      → Acts (listKind L Good small kept) R c
+  acts-so R c f =
+      record {
+        is =
+            elim (ℕ-discrete (verdict (ruled R c)) 0) [
+              | yes v ↦ f v
+              | no n ↦ unfed (wayOf (c .via) (c .list) .engine) (wayOf (c .via) (c .list) .layout) R (c .piece) (c .out) (ruled R c) n
+                  ∙ sym (unfed (counted (c .via) L) flowLayout R (c .piece) (c .out) (ruled R c) n)
+            ];
+        cheap = λ v F g. lawful-of (c .via) .counts F;
+        rows-few = λ v. rows-few R (lawful-of (c .via) .passes (c .list) R (c .at) (c .piece) v .0);
+        short = λ v. lawful-of (c .via) .passes (c .list) R (c .at) (c .piece) v .2;
+      }

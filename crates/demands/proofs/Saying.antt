@@ -12,11 +12,13 @@ use borrow.Author.Tests.{eqb-true, ltb-false, le-ltb, not-true}
 use Rattle.sets.specs.Set.{signatures, setSize, members, within, setAt}
 use Rattle.sets.proofs.Members.{members-size}
 use Rattle.rules.specs.Scan.{rising}
-use Rattle.rules.specs.Rules.{Rule, verdict, applies}
+use Rattle.rules.specs.Words.{InWords}
+use Rattle.rules.specs.Rules.{Rule, verdict}
 use Rattle.rules.proofs.Scanning.{choose, neither, either-words, over-words, differ-words, below-suc, rising-exactly}
-use Rattle.rules.proofs.Rules.{distinct, passes-exactly}
+use Rattle.rules.proofs.Saying.{Says, says-append, tells}
 use Rattle.lists.specs.List.{records, isStart, goodRecord, badLength, badRecord, noStart, listRules}
-use Rattle.lists.proofs.Listed.{Edge-bytes, Start-bytes, Accept-bytes, bad-length, bad-record, record-exactly, no-start, kind-start}
+use Rattle.lists.specs.Words.{Edge-bytes, Start-bytes, Accept-bytes}
+use Rattle.lists.proofs.Listed.{bad-length, bad-record, record-exactly, no-start, kind-start}
 use Rattle.flows.specs.Flow.{frontierOf, badFlow, otherStart, tooLong, wrongSize, flowRules, feedRules}
 use Rattle.flows.proofs.Refused.{wrong-size, bad-flow, other-start, too-long}
 use Rattle.lists.specs.Automaton.{start, accepted, named}
@@ -34,59 +36,7 @@ use Rattle.matrix.specs.Matrix.{highest, matrixLength, wrongMatrix, fillRules, 
 use Rattle.matrix.proofs.Highest.{names-low, highest-is}
 use Rattle.indexes.specs.Index.{entryPlace, knownIn, wrongIndex, indexRules}
 use Rattle.prepared.specs.Prepared.{badIndex, preparedRules}
-use Rattle.demands.specs.Words.{Row, None, First, InWords, listWords, openingRows, openWords, Foreign, flowWords, feedWords, Highest, lengthWords, fillWords, matrixWords, Miscounted, Misclassed, Mislisted, SlotsGood, Rises, sizeWords, entryWords, tableWords, orderWords, splitWords, Misindexed, indexWords, Unnamed, preparedWords}
-
--- ---- a table of rules and a table of words
-
--- row by row: the same number, and the test holds exactly when the words do
-abbrev pub Says : List Rule → List Row → Type 0
-Says [] [] = Unit {0}
-Says (r ∷ rs) (w ∷ ws) = (r .0 ≡ w .0) × ((r .1 ≡ true) ↔ w .1) × Says rs ws
-Says [] (w ∷ ws) = ⊥
-Says (r ∷ rs) [] = ⊥
-
-pub says-append : (rs qs : List Rule) (ws vs : List Row) → Says rs ws → Says qs vs → Says (rs ++ qs) (ws ++ vs)
-says-append [] qs [] vs s t = t
-says-append (r ∷ rs) qs (w ∷ ws) vs s t = (s .0, s .1, says-append rs qs ws vs (s .2) t)
-says-append [] qs (w ∷ ws) vs s t = absurd s
-says-append (r ∷ rs) qs [] vs s t = absurd s
-
--- no test holds exactly when no words do
-says-none : (rs : List Rule) (ws : List Row) → Says rs ws → ((i : ℕ) → i < length rs → applies rs i ≡ false) ↔ None ws
-says-none [] [] s = (λ f. tt, λ n i h. absurd (omega arith))
-says-none (r ∷ rs) (w ∷ ws) s =
-    let ih = says-none rs ws (s .2) in (
-      λ f. (λ x. true≢false (sym (s .1 .1 x) ∙ f 0 (omega arith)), ih .0 (λ i h. f (suc i) (omega arith))),
-      λ n. at-each (r .1) refl n (ih .1 (n .1)),
-    )
-  where
-    at-each : (b : Bool) → r .1 ≡ b → (w .1 → ⊥) × None ws → ((i : ℕ) → i < length rs → applies rs i ≡ false) → (i : ℕ) → i < length (r ∷ rs) → applies (r ∷ rs) i ≡ false
-    at-each true e n f i h = absurd (n .0 (s .1 .0 e))
-    at-each false e n f zero h = e
-    at-each false e n f (suc i) h = f i (omega arith)
-says-none [] (w ∷ ws) s = absurd s
-says-none (r ∷ rs) [] s = absurd s
-
--- a number is given exactly when it is that of the first row whose words hold
-says-first : (rs : List Rule) (ws : List Row) → Says rs ws → (n : ℕ) → (n ≡ 0 → ⊥) → (verdict rs ≡ n) ↔ First ws n
-unfolding verdict
-says-first [] [] s n z = (λ e. absurd (z (sym e)), λ x. absurd x)
-says-first (r ∷ rs) (w ∷ ws) s n z = go (r .1) refl (says-first rs ws (s .2) n z)
-  where
-    go : (b : Bool) → r .1 ≡ b → (verdict rs ≡ n) ↔ First ws n → (cond b (r .0) (verdict rs) ≡ n) ↔ (((w .0 ≡ n) × w .1) ⊎ ((w .1 → ⊥) × First ws n))
-    go true e ih = (λ q. inl (sym (s .0) ∙ q, s .1 .0 e), λ x. choose x (λ y. s .0 ∙ y .0) (λ y. absurd (y .0 (s .1 .0 e))))
-    go false e ih = (
-      λ q. inr (λ x. true≢false (sym (s .1 .1 x) ∙ e), ih .0 q),
-      λ x. choose x (λ y. absurd (true≢false (sym (s .1 .1 (y .1)) ∙ e))) (λ y. ih .1 (y .1)),
-    )
-says-first [] (w ∷ ws) s n z = absurd s
-says-first (r ∷ rs) [] s n z = absurd s
-
-pub tells : (rs : List Rule) (ws : List Row) → distinct rs ≡ true → Says rs ws → InWords ws (verdict rs)
-tells rs ws d s =
-    let p = passes-exactly rs d in
-    let n = says-none rs ws s in
-    record { passes = (λ e. n .0 (p .0 e), λ f. p .1 (n .1 f)); gives = says-first rs ws s }
+use Rattle.demands.specs.Words.{listWords, openingRows, openWords, Foreign, flowWords, feedWords, Highest, lengthWords, fillWords, matrixWords, Miscounted, Misclassed, Mislisted, SlotsGood, Rises, sizeWords, entryWords, tableWords, orderWords, splitWords, Misindexed, indexWords, Unnamed, preparedWords}
 
 -- ---- the rows
 
@@ -151,7 +101,7 @@ module _ (L : List ℕ) where
 
   feed-says : (R : List ℕ) (at : ℕ) (piece : List ℕ) → Says (feedRules L R at piece) (feedWords L R at piece)
   feed-says R at piece =
-      says-append (listRules L) (flowRules (within (frontierOf R) (named L)) R at piece) (listWords L) (flowWords L R at piece) list-says
+      says-append (listRules L) (flowRules (within (frontierOf R) (named L)) R at piece) (listWords L) (flowWords (Foreign L R) R at piece) list-says
       (refl, either-words _ (Foreign L R) (badFlow R) (not (within (frontierOf R) (named L))) (bad-flow R) (foreign R), (refl, other-start R at, (refl, too-long R piece, tt)))
 
   -- the highest state is one number, and it is the definition's

@@ -1,245 +1,171 @@
--- Calls of one flow that change between the plain feed, tables that the check accepts and the list's matrix, from opening on: one theorem, and what follows from it. Assumes nothing.
-use Prim.Native.Nat.{ℕ, zero, suc, _+_, _*_, _^_, _≤_, _<_}
+-- Calls of one flow that change between the four feeds, from opening on: one theorem, and what follows from it: demand 2 from an opening, and demand 3. Assumes nothing.
+use Prim.Native.Nat.{ℕ, _+_, _*_, _≤_}
 use mathlib.Core.Path.{_≡_, refl, sym, ap, _∙_}
 use mathlib.Core.Bool.{true}
 use mathlib.Core.List.{List, [], _∷_, _++_}
+use mathlib.Core.Logic.{_⊎_, inl, inr}
 use native.Mathlib.Omega.{arith}
+use native.Mathlib.Decide.{ℕ-discrete}
 use lib.ListN.{length, take}
-use lib.Dec.{lit<}
+use lib.Seq.{length-take-le}
 use Rattle.sets.specs.Set.{states, within}
 use Rattle.rules.specs.Rules.{verdict}
-use Rattle.lists.specs.Automaton.{start, step, named}
-use Rattle.lists.proofs.Steps.{start-lt, step-lt}
+use Rattle.rules.proofs.Scanning.{choose}
+use Rattle.lists.specs.Automaton.{start, accepted, named}
+use Rattle.lists.proofs.Steps.{start-lt}
 use Rattle.lists.proofs.Named.{start-named, step-named}
-use Rattle.feeds.specs.Engine.{run, costs, ended}
-use Rattle.feeds.specs.Calls.{Bytes, answer, Along, Follows}
-use Rattle.feeds.proofs.Runs.{run-append, bytes-append, bytes-take, take-front, costs-most}
-use Rattle.feeds.proofs.Follows.{follows-within, costs-same}
-use Rattle.feeds.proofs.Whole.{Sound, Written, Within, Fair, Met, All, by-answer, by-eaten, whole, met, never-halts}
-use Rattle.feeds.proofs.Cuts.{Equal}
-use Rattle.flows.specs.Flow.{flowLayout, frontierOf, offsetOf, rowsOf}
+use Rattle.feeds.specs.Engine.{run, costs}
+use Rattle.feeds.specs.Lawful as lawful
+use Rattle.feeds.proofs.Runs.{bytes-take, costs-most}
+use Rattle.feeds.proofs.Calls.{along-map, along-both}
+use Rattle.feeds.proofs.Lawful.{reached-start, reached-next, reached-has}
+use Rattle.feeds.proofs.Feeds.{each-feed}
+use Rattle.feeds.proofs.Whole.{Kind, Written, Within, Met, met, met-within, flowed, counts, cuts, none-eaten, call-rows, call-answered, call-refusal}
+use Rattle.flows.specs.Flow.{flowLayout, frontierOf, offsetOf, rowsOf, feedRules}
 use Rattle.flows.proofs.Records.{flow-good}
-use Rattle.flows.proofs.Saved.{flow-sound}
-use Rattle.plain.specs.Plain.{plain, opened, openFlow}
-use Rattle.plain.proofs.Plain.{plain-cheap}
-use Rattle.tables.specs.Table.{Table, isSplit, tableRefusal}
-use Rattle.tables.proofs.Accepted.{accepted}
-use Rattle.splits.proofs.Exact.{stays}
-use Rattle.demands.specs.Calls.{Via, byList, byTable, byMatrix, Checked, Call, engineOf, asked, allAsked, outcome}
-use Rattle.demands.specs.Demands.{InBytes, Each, Plainly, Demand2Opened, activeParts, Fit, Swaps, eatenOf, counted, mostRows, NeverForeign, Swapped}
-use Rattle.demands.proofs.Engines.{call-passes, rows-few, cost-most, below-14, no-4, AtSplit, split-follows, split-few, filled-follows}
-use Rattle.demands.proofs.Demand2.{in-bytes, each-along, along-each, demand-2-from}
-use Rattle.demands.proofs.Due.{due-all, opened-frontier, opened-offset, opened-rows, begins}
+use Rattle.plain.specs.Plain.{opened, openPairs, openFlow, plainFeed}
+use Rattle.plain.specs.Means.{listAutomata}
+use Rattle.plain.proofs.Lawful.{reached-lt}
+use Rattle.tables.specs.Table.{Table, tableRefusal}
+use Rattle.splits.proofs.Rising.{accepted-rises}
+use Rattle.demands.specs.Calls.{Via, byTable, byIndex, Checked, Names, Call, wayOf, outcome, ruled, asked, bytesOf, after, InBytes, Each}
+use Rattle.demands.specs.Demands.{Plainly, Flows, PlainFlows, Fit, Through, activeParts, SplitFollows, SplitCuts, Swaps, spends, mostRows, counted, Swapped, ListSwaps}
+use Rattle.demands.proofs.Engines.{lawful-of, calls-bytes, listKind, acts-so}
+use Rattle.demands.proofs.Demand1.{not-9}
+use Rattle.demands.proofs.Demand2.{demand-2-from}
+use Rattle.demands.proofs.Due.{opened-frontier, opened-offset, opened-rows, begins}
 
 module _ (L : List ℕ) where
   -- ---- the frontiers of a flow of L
 
-  -- F is where the automaton stands after some bytes, from the start set on
+  -- those that the automaton comes to, from the start set on
   abbrev pub Reached : ℕ → Type 0
-  Reached F = (bs : List ℕ) × Bytes bs × (F ≡ run (plain L) (start L) bs)
+  Reached = lawful.Reached listAutomata L
 
-  -- what the start set has and each step keeps, each of them has
-  run-has : (P : ℕ → Type 0) → ((F c : ℕ) → c < 256 → P F → P (step L F c)) → (F : ℕ) → P F → (bs : List ℕ) → Bytes bs → P (run (plain L) F bs)
-  unfolding run
-  run-has P k F p [] h = p
-  run-has P k F p (c ∷ bs) h = run-has P k (step L F c) (k F c (h 0) p) bs (λ i. h (suc i))
-
-  reached-has : (P : ℕ → Type 0) → ((F c : ℕ) → c < 256 → P F → P (step L F c)) → P (start L) → (F : ℕ) → Reached F → P F
-  reached-has P k p F r = rw (r .2) (run-has P k (start L) p (r .0) (r .1))
-
-  -- a set of states that L names, and a split of each table that the check accepts
-  pub reached-lt : (F : ℕ) → Reached F → F < 2 ^ states
-  reached-lt = reached-has (λ F. F < 2 ^ states) (λ F c l p. step-lt L F c) (start-lt L)
-
+  -- each of them has states that L names alone
   pub reached-named : (F : ℕ) → Reached F → within F (named L) ≡ true
-  reached-named = reached-has (λ F. within F (named L) ≡ true) (λ F c l p. step-named L F c) (start-named L)
+  reached-named = reached-has listAutomata L (λ F. within F (named L) ≡ true) (λ F c l p. step-named L F c) (start-named L)
 
-  pub reached-split : (b : ℕ) (T : Table) → tableRefusal L b T ≡ 0 → (F : ℕ) → Reached F → isSplit (T .splits) F ≡ true
-  reached-split b T ok =
-      let a = accepted L b T ok in
-      reached-has (λ F. isSplit (T .splits) F ≡ true) (λ F c l p. stays L b T a F p c l) (a .begins)
+  abbrev kind : Kind Call ℕ
+  kind = listKind L Reached (reached-lt L) (reached-next listAutomata L)
 
-  reached-next : (F c : ℕ) → c < 256 → Reached F → Reached (step L F c)
-  unfolding run
-  reached-next F c l r = (
-    r .0 ++ (c ∷ []),
-    bytes-append (r .0) (c ∷ []) (r .1) (one c l),
-    rw (run-append (plain L) (start L) (r .0) (c ∷ [])) (ap (λ (G : ℕ). step L G c) (r .2)),
-  )
-    where
-      one : (c : ℕ) → c < 256 → Bytes (c ∷ [])
-      one c l zero = l
-      one c l (suc i) = lit< tt
+  -- ---- what each call meets, from opening on
 
-  -- ---- each engine that is checked for L follows the automaton there
-
-  pub checked-follows : (v : Via) → Checked L v → Follows (engineOf v L) (plain L) (Equal Reached)
-  checked-follows byList k = follows-within (plain L) Reached reached-next
-  checked-follows (byTable b T) k =
-      let f = split-follows L b T k in
-      let at : (F G : ℕ) → Equal Reached F G → AtSplit T F G = (λ F G r. (r .0, reached-split b T k F (r .1), reached-lt F (r .1))) in
-      record {
-        same = λ F G c l r. f .same F G c l (at F G r);
-        goes = λ F G r. f .goes F G (at F G r);
-        stays = λ F G c l r. let e = f .stays F G c l (at F G r) .0 in (e, rw (e, ← r .0) (reached-next F c l (r .1)));
-      }
-  checked-follows (byMatrix X) k =
-      let f = filled-follows L X k in
-      record {
-        same = λ F G c l r. f .same F G c l (r .0);
-        goes = λ F G r. f .goes F G (r .0);
-        stays = λ F G c l r. let e = f .stays F G c l (r .0) in (e, rw (e, ← r .0) (reached-next F c l (r .1)));
-      }
-
-  pub sound : Sound flowLayout (Equal Reached) states
-  sound = flow-sound (Equal Reached) (λ F G r. reached-lt F (r .1))
-
-  pub swaps-fair : (R : List ℕ) (c : Call) → Swaps L R c → Fair flowLayout (plain L) (Equal Reached) states R (asked c)
-  swaps-fair R c f v =
-      let g = f v in
-      let p = call-passes R c v in
-      record {
-        follows = rw (g .0) (checked-follows (c .via) (g .1));
-        cheap = λ F G r. cost-most (c .via) (c .list) F;
-        rows-few = rows-few R (p .0);
-        short = p .2;
-      }
-
-  -- ---- from opening on
-
-  pub at-start : Equal Reached (frontierOf (opened L)) (start L)
-  unfolding run
-  at-start = (opened-frontier L, ([], (λ i. lit< tt), opened-frontier L))
-
-  begins-written : Written flowLayout (opened L)
-  begins-written = rw (opened-frontier L, opened-offset L, opened-rows L)
-
-  begins-within : Within flowLayout states (opened L)
-  begins-within = rw (opened-rows L, opened-offset L) (omega arith, omega arith)
-
-  -- what each call meets
   abbrev Meets : List ℕ → Call → Type 0
-  Meets Q c = Met flowLayout (plain L) (Equal Reached) states Q (asked c)
+  Meets = Met kind
+
+  at-start : Reached (frontierOf (opened L))
+  at-start = rw (opened-frontier L) (reached-start listAutomata L)
+
+  swaps-met : (cs : List Call) → InBytes cs → Each (Swaps L) (opened L) cs → Each Meets (opened L) cs
+  swaps-met cs hb h =
+      met kind (opened L) cs
+      (along-map asked (Swaps L) _
+      (λ Q c f b r. acts-so L Reached (reached-lt L) (reached-next listAutomata L) Q c (λ v. rw (f v .0) (lawful-of (c .via) .goes L (f v .1) Q (c .at) (c .piece) (c .out) b r))) (opened L) cs h)
+      hb at-start
 
   -- 4 takes its record
-  fit : (Q : List ℕ) (c : Call) → Meets Q c → Fit L Q
-  fit Q c m =
-      (rw (← m .written) (flow-good (frontierOf Q) (offsetOf Q) (rowsOf Q) (m .within .1) (m .within .0)), reached-named (frontierOf Q) (m .related .1 .1))
+  fits : (cs : List Call) → Each Meets (opened L) cs → Each (λ Q c. Fit L Q) (opened L) cs
+  fits cs m =
+      along-both asked Meets (λ Q c. Written flowLayout Q × Within flowLayout states Q) (λ Q c. Fit L Q)
+      (λ Q c m w. (rw (← w .0) (flow-good (frontierOf Q) (offsetOf Q) (rowsOf Q) (w .1 .1) (w .1 .0)), reached-named (frontierOf Q) (m .good))) (opened L) cs m
+      (met-within kind (opened L) cs m
+      (rw (opened-frontier L, opened-offset L, opened-rows L)) (rw (opened-rows L, opened-offset L) (omega arith, omega arith)))
 
-  -- ---- the rows of a call
+  -- ---- of one of them
 
-  -- the counting automaton moves as the automaton does, and counts what the call's engine costs
-  counted-next : (v : Via) → counted v L .next ≡ plain L .next
-  counted-next byList = refl
-  counted-next (byTable b T) = refl
-  counted-next (byMatrix X) = refl
-
-  counted-cost : (v : Via) (F : ℕ) → engineOf v L .cost F ≡ counted v L .cost F
-  counted-cost byList F = refl
-  counted-cost (byTable b T) F = refl
-  counted-cost (byMatrix X) F = refl
-
-  -- at most its bound a byte
-  counted-few : (v : Via) → Checked L v → (F : ℕ) → Reached F → (xs : List ℕ) → Bytes xs → costs (counted v L) F xs ≤ mostRows v * length xs
-  counted-few byList k F r xs h = costs-most (plain L) Reached reached-next states (λ F p. plain-cheap L F) F xs r h
-  counted-few (byTable b T) k F r xs h =
-      costs-most (activeParts L T) Reached reached-next b (λ F p. split-few L b T k F F (refl, reached-split b T k F p, reached-lt F p)) F xs r h
-  counted-few (byMatrix X) k F r xs h = costs-most (plain L) Reached reached-next states (λ F p. plain-cheap L F) F xs r h
-
-  rows-here : (Q : List ℕ) (c : Call) → Swaps L Q c → Meets Q c → rowsOf (outcome Q c .saved) ≡ rowsOf Q + costs (counted (c .via) L) (frontierOf Q) (eatenOf Q c)
+  few-here : (Q : List ℕ) (c : Call) → Swaps L Q c → Meets Q c → costs (counted (c .via) L) (frontierOf Q) (asked c .eaten Q) ≤ mostRows (c .via) * outcome Q c .bytes
   unfolding costs
-  rows-here Q c f m =
-      m .rows
-      ∙ ap (λ (n : ℕ). rowsOf Q + n)
-      (by-eaten flowLayout Q (asked c) (λ xs. costs (asked c .engine) (frontierOf Q) xs ≡ costs (counted (c .via) L) (frontierOf Q) xs)
-      (λ v n.
-      costs-same (asked c .engine) (plain L) (Equal Reached) (swaps-fair Q c f v .follows) (counted (c .via) L) (counted-next (c .via))
-      (λ F G r. ap (λ (M : List ℕ). engineOf (c .via) M .cost F) (f v .0) ∙ counted-cost (c .via) F ∙ ap (counted (c .via) L .cost) (r .0))
-      (frontierOf Q) (frontierOf Q) (take n (c .piece)) (refl, m .related .1 .1) (bytes-take n (c .piece) (m .piece)))
-      refl)
-
-  few-here : (Q : List ℕ) (c : Call) → Swaps L Q c → Meets Q c → costs (counted (c .via) L) (frontierOf Q) (eatenOf Q c) ≤ mostRows (c .via) * outcome Q c .bytes
-  unfolding costs ended
   few-here Q c f m =
-      rw long at
-      (by-eaten flowLayout Q (asked c) (λ xs. costs (counted (c .via) L) (frontierOf Q) xs ≤ mostRows (c .via) * length xs)
-      (λ v n. counted-few (c .via) (f v .1) (frontierOf Q) (m .related .1 .1) (take n (c .piece)) (bytes-take n (c .piece) (m .piece))) (omega arith))
-    where
-      long : length (take (outcome Q c .bytes) (c .piece)) ≡ outcome Q c .bytes
-      long = by-answer flowLayout Q (asked c) (λ o. length (take (o .bytes) (c .piece)) ≡ o .bytes) (λ v n. ap length (take-front n (c .piece))) refl
+      elim (ℕ-discrete (verdict (ruled Q c)) 0) [
+        | yes v ↦ rw (length-take-le (outcome Q c .bytes) (c .piece) (each-feed (wayOf (c .via) (c .list)) Q (c .at) (c .piece) (c .out) .longest v .front)) at
+            (costs-most (counted (c .via) L) Reached (reached-next listAutomata L) (mostRows (c .via)) (λ F r. lawful-of (c .via) .few L (f v .1) F r) (frontierOf Q) (asked c .eaten Q)
+            (m .good) (bytes-take (outcome Q c .bytes) (c .piece) (m .bytes)))
+        | no n ↦ rw (none-eaten kind Q c m n) (omega arith)
+      ]
 
-  -- ---- any list of calls, from an opening that is not refused
+  -- ---- of all
 
-  -- of each call one thing for another, and two at once
-  pub each-map : (P Q : List ℕ → Call → Type 0) → ((R : List ℕ) (c : Call) → P R c → Q R c) → (R : List ℕ) (cs : List Call) → Each P R cs → Each Q R cs
-  each-map P Q f R [] p = tt
-  each-map P Q f R (c ∷ cs) p = (f R c (p .0), each-map P Q f (outcome R c .saved) cs (p .1))
-
-  pub each-both : (P Q S : List ℕ → Call → Type 0) → ((R : List ℕ) (c : Call) → P R c → Q R c → S R c) → (R : List ℕ) (cs : List Call) → Each P R cs → Each Q R cs → Each S R cs
-  each-both P Q S f R [] p q = tt
-  each-both P Q S f R (c ∷ cs) p q = (f R c (p .0) (q .0), each-both P Q S f (outcome R c .saved) cs (p .1) (q .1))
-
-  pub fair : (cs : List Call) → Each (Swaps L) (opened L) cs → Along flowLayout (Fair flowLayout (plain L) (Equal Reached) states) (opened L) (allAsked cs)
-  fair = each-along (Swaps L) (Fair flowLayout (plain L) (Equal Reached) states) swaps-fair (opened L)
-
-  -- they do what the automaton does
-  pub all-of : (cs : List Call) → InBytes cs → Each (Swaps L) (opened L) cs → All flowLayout (plain L) (Equal Reached) states (start L) (opened L) (allAsked cs)
-  all-of cs hb h = whole flowLayout (plain L) (Equal Reached) states sound (allAsked cs) (opened L) (start L) (fair cs h) (in-bytes (opened L) cs hb) at-start
-
-  pub swapped : (R out : List ℕ) → openFlow L R out .refusal ≡ 0 → (cs : List Call) → InBytes cs → Each (Swaps L) (openFlow L R out .saved) cs → Swapped L (openFlow L R out) cs
-  swapped R out z cs hb given =
-      let B = opened L in
+  flows-on : (R out : List ℕ) → openFlow L R out .refusal ≡ 0 → (cs : List Call) → Each Meets (opened L) cs → Flows L (openFlow L R out) cs
+  unfolding openPairs
+  flows-on R out z cs m =
       let q = begins L R out z in
-      let h : Each (Swaps L) (opened L) cs = rw (q .1) at given in
-      let w = all-of cs hb h in
-      let meets = along-each Meets (Met flowLayout (plain L) (Equal Reached) states) (λ Q c m. m) B cs
-      (met flowLayout (plain L) (Equal Reached) states sound (allAsked cs) B (start L) (fair cs h) (in-bytes B cs hb) at-start begins-written begins-within) in
-      let rules = along-each Ruled (λ Q a. answer flowLayout Q a .refusal ≡ verdict (a .rules Q)) (λ Q c e. e) B cs
-      (never-halts flowLayout (plain L) (Equal Reached) states sound (λ F. refl) (allAsked cs) B (start L) (fair cs h) (in-bytes B cs hb) at-start) in
-      record {
-        never-14 =
-            rw (q .1)
-            (each-both Meets Ruled (λ Q c. outcome Q c .refusal ≡ 14 → ⊥)
-            (λ Q c m e y. omega (arith, below-14 (c .via) (c .list) Q (c .at) (c .piece), sym e ∙ y)) B cs meets rules);
-        never-4 =
-            rw (q .1)
-            (each-both Meets Ruled (λ Q c. c .list ≡ L → Checked L (c .via) → outcome Q c .refusal ≡ 4 → ⊥)
-            (λ Q c m e l k four. no-4 (c .via) (c .list) Q (c .at) (c .piece) (rw l (fit Q c m)) (sym e ∙ four)) B cs meets rules);
-        due = rw (q .0, q .1) (due-all L _ _ (rw (opened-offset L) at (w .tells)));
-        frontier = rw (q .1) (w .related .0);
-        offset = rw (q .1) (w .moved ∙ rw (opened-offset L) (omega arith));
-        rows = rw (q .1) (each-both (Swaps L) Meets (λ Q c. rowsOf (outcome Q c .saved) ≡ rowsOf Q + costs (counted (c .via) L) (frontierOf Q) (eatenOf Q c)) rows-here B cs h meets);
-        ceiling = rw (q .1) (each-both (Swaps L) Meets (λ Q c. costs (counted (c .via) L) (frontierOf Q) (eatenOf Q c) ≤ mostRows (c .via) * outcome Q c .bytes) few-here B cs h meets);
-      }
-    where
-      Ruled : List ℕ → Call → Type 0
-      Ruled Q c = outcome Q c .refusal ≡ verdict (asked c .rules Q)
+      flowed kind (start L) (accepted L (start L)) (openFlow L R out) cs (q .0) (rw (q .1) (opened-frontier L)) (rw (q .1) (opened-offset L)) (rw (q .1) m)
 
-  -- 4 takes the record that each call meets
-  pub fits : (R out : List ℕ) → openFlow L R out .refusal ≡ 0 → (cs : List Call) → InBytes cs → Each (Swaps L) (openFlow L R out .saved) cs
-      → Each (λ Q c. Fit L Q) (openFlow L R out .saved) cs
-  fits R out z cs hb given =
-      let B = opened L in
-      let q = begins L R out z in
-      let h : Each (Swaps L) (opened L) cs = rw (q .1) at given in
-      rw (q .1)
-      (each-map Meets (λ Q c. Fit L Q) fit B cs
-      (along-each Meets (Met flowLayout (plain L) (Equal Reached) states) (λ Q c m. m) B cs
-      (met flowLayout (plain L) (Equal Reached) states sound (allAsked cs) B (start L) (fair cs h) (in-bytes B cs hb) at-start begins-written begins-within)))
+  refusal : (Q : List ℕ) (c : Call) → Meets Q c → outcome Q c .refusal ≡ verdict (ruled Q c)
+  refusal = call-refusal kind (λ F. refl)
 
-  -- ---- what follows from it
+  never-14 : (cs : List Call) → Each Meets (opened L) cs → Each (λ Q c. outcome Q c .refusal ≡ 14 → ⊥) (opened L) cs
+  never-14 =
+      along-map asked Meets (λ Q c. outcome Q c .refusal ≡ 14 → ⊥)
+      (λ Q c m y. omega (arith, lawful-of (c .via) .below-14 (c .list) Q (c .at) (c .piece), sym (refusal Q c m) ∙ y)) (opened L)
 
-  -- no call on the flow's list that goes by what is checked is refused as foreign
-  pub never-foreign : (R out : List ℕ) → openFlow L R out .refusal ≡ 0 → (cs : List Call) → InBytes cs → Each (Swaps L) (openFlow L R out .saved) cs
-      → NeverForeign L (openFlow L R out) cs
-  never-foreign R out z cs hb h = swapped R out z cs hb h .never-4
+pub swapped : ListSwaps
+swapped L R out z cs hb given =
+    let q = begins L R out z in
+    let h : Each (Swaps L) (opened L) cs = rw (q .1) at given in
+    let m = swaps-met L cs hb h in
+    record {
+      never-14 = rw (q .1) (never-14 L cs m);
+      never-4 =
+          rw (q .1)
+          (along-both asked (Meets L) (λ Q c. Fit L Q) (λ Q c. c .list ≡ L → Names L (c .via) → outcome Q c .refusal ≡ 4 → ⊥)
+          (λ Q c m f l n e. lawful-of (c .via) .not-4 (c .list) Q (c .at) (c .piece) (rw l n) (rw l f) (sym (refusal L Q c m) ∙ e)) (opened L) cs m (fits L cs m));
+      as-plain =
+          rw (q .1)
+          (along-map asked (Meets L) _
+          (λ Q c m l k. call-answered (kind L) Q c m (feedRules L Q (c .at) (c .piece))
+          (rw l (lawful-of (c .via) .same L k Q (c .at) (c .piece)))) (opened L) cs m);
+      flows = flows-on L R out z cs m;
+      rows = rw (q .1) (along-map asked (Meets L) _ (call-rows (kind L)) (opened L) cs m);
+      ceiling =
+          rw (q .1)
+          (along-both asked (Swaps L) (Meets L) (λ Q c. costs (counted (c .via) L) (frontierOf Q) (asked c .eaten Q) ≤ mostRows (c .via) * outcome Q c .bytes) (few-here L) (opened L) cs h m);
+    }
 
-  -- demand 2 from opening on: opening's pairs, then the feeds'
-  pub demand-2-opened : (R out : List ℕ) → openFlow L R out .refusal ≡ 0 → (cs : List Call) → InBytes cs → Each (Plainly L) (openFlow L R out .saved) cs
-      → Demand2Opened L (openFlow L R out) cs
-  demand-2-opened R out z cs hb h =
-      let q = begins L R out z in
-      record {
-        due = swapped R out z cs hb (each-map (Plainly L) (Swaps L) (λ Q c f v. (f v .0, rw (f v .1) tt)) (openFlow L R out .saved) cs h) .due;
-        feeds = rw (q .1) (demand-2-from L (opened L) cs (rw (opened-frontier L) (start-lt L)) hb (rw (q .1) at h));
-      }
+-- ---- demand 2 from an opening: plain feeds are of them
+
+pub demand-2-opened : PlainFlows
+demand-2-opened L R out z cs hb h =
+    let q = begins L R out z in (
+      swapped L R out z cs hb (along-map asked (Plainly L) (Swaps L) (λ Q c f v. (f v .0, rw (f v .1) tt)) (openFlow L R out .saved) cs h) .flows,
+      rw (q .1) (demand-2-from L (opened L) cs (rw (opened-frontier L) (start-lt L)) hb (rw (q .1) at h)),
+    )
+
+-- ---- demand 3: feeds through one table and by its index are of them, and all count the slots taken
+
+module _ (L : List ℕ) (b : ℕ) (T : Table) (ok : tableRefusal L b T ≡ 0) where
+  through-swaps : (R : List ℕ) (c : Call) → Through L b T R c → Swaps L R c
+  through-swaps R c f v = let g = f v in (g .0, choose (g .1) (λ e. rw e ok) (λ e. rw (e .0) (ok, refl, e .1)))
+
+  through-counts : (R : List ℕ) (cs : List Call) → Each (Through L b T) R cs → Each (λ Q c. verdict (ruled Q c) ≡ 0 → spends (c .via) ≡ spends (byTable b T)) R cs
+  through-counts =
+      along-map asked (Through L b T) (λ Q c. verdict (ruled Q c) ≡ 0 → spends (c .via) ≡ spends (byTable b T)) (λ Q c f v. choose (f v .1) (λ e. ap spends e) (λ e. ap spends (e .0)))
+
+  through-met : (cs : List Call) → InBytes cs → Each (Through L b T) (opened L) cs → Each (Meets L) (opened L) cs
+  through-met cs hb h = swaps-met L cs hb (along-map asked (Through L b T) (Swaps L) through-swaps (opened L) cs h)
+
+pub demand-3 : SplitFollows
+demand-3 L b T ok R out z cs hb given =
+    let q = begins L R out z in
+    let h : Each (Through L b T) (opened L) cs = rw (q .1) at given in
+    let m = through-met L b T ok cs hb h in
+    let n = counts (kind L) (spends (byTable b T)) (opened L) cs m (through-counts L b T ok (opened L) cs h) in
+    let rows : rowsOf (after (opened L) cs) ≡ costs (activeParts L T) (start L) (bytesOf (opened L) cs) =
+    n ∙ rw (opened-frontier L, opened-rows L) (omega arith) in
+    record {
+      never-9 = λ Q c v e. not-9 (c .list) b T Q (c .at) (c .piece) (c .out) (accepted-rises L b T ok) (ap (λ (w : Via). outcome Q (record { list = c .list; via = w; at = c .at; piece = c .piece; out = c .out }) .refusal) (sym v) ∙ e);
+      never-14 = rw (q .1) (never-14 L cs m);
+      flows = flows-on L R out z cs m;
+      rows = rw (q .1) rows;
+      ceiling =
+          rw (q .1, rows)
+          (costs-most (activeParts L T) (Reached L) (reached-next listAutomata L) b (lawful-of (byTable b T) .few L ok) (start L) (bytesOf (opened L) cs)
+          (rw (opened-frontier L) at (at-start L)) (calls-bytes (opened L) cs hb));
+    }
+
+pub split-cuts : SplitCuts
+split-cuts L b T ok cs ds hc hd fc fd e =
+    cuts (kind L) (spends (byTable b T)) (opened L) cs ds
+    (rw (opened-frontier L, opened-offset L, opened-rows L)) (through-met L b T ok cs hc fc) (through-counts L b T ok (opened L) cs fc)
+    (through-met L b T ok ds hd fd) (through-counts L b T ok (opened L) ds fd) e

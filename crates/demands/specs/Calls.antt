@@ -1,27 +1,22 @@
--- Calls on a flow as a caller makes them: each has its own list, engine, stated start, piece and words.
+-- Calls on a flow of a list as a caller makes them: each has its own list, feed, stated start, piece and words.
 use Prim.Native.Nat.{ℕ}
-use mathlib.Core.List.{List, [], _∷_}
-use mathlib.Core.Path.{_≡_}
+use mathlib.Core.List.{List}
 use Rattle.rules.specs.Rules.{Rule}
-use Rattle.feeds.specs.Engine.{Engine, Outcome}
-use Rattle.flows.specs.Flow.{flowLayout, feedRules}
-use Rattle.feeds.specs.Calls.{Asked, answer}
-use Rattle.plain.specs.Plain.{plain}
-use Rattle.tables.specs.Table.{Table, tableRefusal}
-use Rattle.splits.specs.Split.{split, splitRules}
-use Rattle.matrix.specs.Matrix.{matrixed, filled, matrixRules}
+use Rattle.feeds.specs.Engine.{Outcome}
+use Rattle.feeds.specs.Calls.{Way, fedBy, Asked, asking, recordAfter, allTold, allBytes, Along, Pieces}
+use Rattle.feeds.specs.Lawful.{wayBy}
+use Rattle.plain.specs.Means.{listAutomata}
+pub use Rattle.demands.specs.Engines.{Via, byList, byTable, byMatrix, byIndex, meansOf, wordsBy}
 
--- the plain feed, the split feed with a bound and a table, or the matrix feed with a matrix
-pub data Via : Type 0 where
-  byList : Via
-  byTable : ℕ → Table → Via
-  byMatrix : List ℕ → Via
-
--- what it goes by is checked for the list L: nothing is asked of the plain feed; of a table that the check accepts it at its bound; of a matrix that the filler writes it
+-- what it goes by is checked for the list L; what rule 4 takes for the states that are named are those of L; what is lent is bytes
 abbrev pub Checked : List ℕ → Via → Type 0
-Checked L byList = Unit {0}
-Checked L (byTable b T) = tableRefusal L b T ≡ 0
-Checked L (byMatrix X) = X ≡ filled L
+Checked L v = meansOf v .Checked L
+
+abbrev pub Names : List ℕ → Via → Type 0
+Names L v = meansOf v .Names L
+
+abbrev pub Lent : Via → Type 0
+Lent v = meansOf v .Lent
 
 pub record Call : Type 0 where
   pub list : List ℕ
@@ -30,31 +25,32 @@ pub record Call : Type 0 where
   pub piece : List ℕ
   pub out : List ℕ
 
--- what moves the frontier
-abbrev pub engineOf : Via → List ℕ → Engine ℕ
-engineOf byList L = plain L
-engineOf (byTable b T) L = split L b T
-engineOf (byMatrix X) L = matrixed L X
+abbrev pub wayOf : Via → List ℕ → Way
+wayOf v L = wayBy listAutomata (meansOf v) L
 
--- the plain feed's rules, the split feed's, or the matrix feed's
-abbrev pub rulesOf : Via → List ℕ → List ℕ → ℕ → List ℕ → List Rule
-rulesOf byList L R at piece = feedRules L R at piece
-rulesOf (byTable b T) L R at piece = splitRules L b T R at piece
-rulesOf (byMatrix X) L R at piece = matrixRules L X R at piece
-
-abbrev pub asked : Call → Asked ℕ
-asked c =
-    record {
-      rules = λ R. rulesOf (c .via) (c .list) R (c .at) (c .piece);
-      engine = engineOf (c .via) (c .list);
-      piece = c .piece;
-      out = c .out;
-    }
-
-abbrev pub allAsked : List Call → List (Asked ℕ)
-allAsked [] = []
-allAsked (c ∷ cs) = asked c ∷ allAsked cs
-
--- what a call answers, and leaves of the record R
+-- what a call answers, and leaves of the record R; and its rules there
 abbrev pub outcome : List ℕ → Call → Outcome
-outcome R c = answer flowLayout R (asked c)
+outcome R c = fedBy (wayOf (c .via) (c .list)) R (c .at) (c .piece) (c .out)
+
+abbrev pub ruled : List ℕ → Call → List Rule
+ruled R c = wayOf (c .via) (c .list) .rules R (c .at) (c .piece)
+
+abbrev pub asked : Call → Asked (List ℕ)
+asked c = asking (c .piece) (λ R. outcome R c)
+
+-- ---- any list of calls on the record R: what it consumes and tells, and the record after it; that each piece is bytes, and that P holds of each at the record that it meets
+
+abbrev pub bytesOf : List ℕ → List Call → List ℕ
+bytesOf = allBytes asked
+
+abbrev pub wordsOf : List ℕ → List Call → List ℕ
+wordsOf = allTold asked
+
+abbrev pub after : List ℕ → List Call → List ℕ
+after = recordAfter asked
+
+abbrev pub InBytes : List Call → Type 0
+InBytes = Pieces asked
+
+abbrev pub Each : (List ℕ → Call → Type 0) → List ℕ → List Call → Type 0
+Each = Along asked

@@ -1,6 +1,5 @@
-pub mod Calls
 pub mod Words
+pub mod Engines
+pub mod Calls
 pub mod Demands
-pub mod Made
 pub mod Drivers
-pub mod Prepared

@@ -6,38 +6,19 @@ use mathlib.Core.List.{List, [], _∷_, _++_}
 use mathlib.Core.Logic.{_⊎_, _↔_}
 use lib.ListN.{length, getD}
 use Rattle.sets.specs.Set.{states, signatures, setSize, holds, members, setAt}
+use Rattle.rules.specs.Words.{Row}
 use Rattle.lists.specs.List.{recordSize, mostRecords, records}
 use Rattle.lists.specs.Automaton.{start, step, accepted}
-use Rattle.lists.proofs.Listed.{Edge-bytes, Start-bytes, Accept-bytes}
-use Rattle.lists.proofs.Named.{Names-bytes}
-use Rattle.sets.proofs.Order.{Smaller}
+use Rattle.lists.specs.Words.{Edge-bytes, Start-bytes, Accept-bytes, Names-bytes}
+use Rattle.sets.specs.Order.{Smaller}
 use Rattle.feeds.specs.Engine.{mostOffset}
 use Rattle.flows.specs.Flow.{flowSize, frontierOf, offsetOf, reservedOf, rowsOf}
 use Rattle.tables.specs.Table.{Table, byteValues, mostClass, mostParts, mostSplits, mostBound, splitSize, classCount, partCount, splitCount}
 use Rattle.tables.specs.Table.{part, row, splitSet, slots, usedSlots, takenSlots, joined}
 use Rattle.splits.specs.Split.{taken}
 use Rattle.classes.specs.Classes.{mostClasses}
-use Rattle.classes.proofs.Words.{Needs}
+use Rattle.classes.specs.Words.{Needs}
 use Rattle.build.specs.Build.{mostRows, Many}
-
--- a row: a number, and what it is given for
-abbrev pub Row : Type 1
-Row = ℕ × Type 0
-
--- what no row is given for
-abbrev pub None : List Row → Type 0
-None [] = Unit {0}
-None (w ∷ ws) = (w .1 → ⊥) × None ws
-
--- n is the number of the first row that is given
-abbrev pub First : List Row → ℕ → Type 0
-First [] n = ⊥
-First (w ∷ ws) n = ((w .0 ≡ n) × w .1) ⊎ ((w .1 → ⊥) × First ws n)
-
--- a refusal is 0 exactly when no row is given, and n exactly when n is the number of the first that is
-pub record InWords (ws : List Row) (refusal : ℕ) : Type 0 where
-  pub passes : (refusal ≡ 0) ↔ None ws
-  pub gives : (n : ℕ) → (n ≡ 0 → ⊥) → (refusal ≡ n) ↔ First ws n
 
 -- ---- list: 1 to 3
 
@@ -64,15 +45,16 @@ openWords L R out = listWords L ++ openingRows L R out
 abbrev pub Foreign : List ℕ → List ℕ → Type 0
 Foreign L R = (s : ℕ) × (holds (frontierOf R) s ≡ true) × ((s < states) × ((i : ℕ) × (i < records L) × Names-bytes L i s) → ⊥)
 
-abbrev pub flowWords : List ℕ → List ℕ → ℕ → List ℕ → List Row
-flowWords L R k piece =
-    (4, (((length R ≡ flowSize → ⊥) ⊎ (reservedOf R ≡ 0 → ⊥)) ⊎ (states * offsetOf R < rowsOf R)) ⊎ Foreign L R)
+-- 4 to 6, where 4 is given as well for a foreign state
+abbrev pub flowWords : Type 0 → List ℕ → ℕ → List ℕ → List Row
+flowWords foreign R k piece =
+    (4, (((length R ≡ flowSize → ⊥) ⊎ (reservedOf R ≡ 0 → ⊥)) ⊎ (states * offsetOf R < rowsOf R)) ⊎ foreign)
     ∷ (5, k ≡ offsetOf R → ⊥)
     ∷ (6, mostOffset < offsetOf R + length piece)
     ∷ []
 
 abbrev pub feedWords : List ℕ → List ℕ → ℕ → List ℕ → List Row
-feedWords L R k piece = listWords L ++ flowWords L R k piece
+feedWords L R k piece = listWords L ++ flowWords (Foreign L R) R k piece
 
 -- ---- the matrix: 8
 
@@ -172,12 +154,7 @@ abbrev pub Unnamed : List ℕ → List ℕ → Type 0
 Unnamed X R = (setSize ≤ length X) × ((s : ℕ) × (holds (frontierOf R) s ≡ true) × (holds (setAt X 0) s ≡ true → ⊥))
 
 abbrev pub preparedWords : List ℕ → List ℕ → List ℕ → List ℕ → ℕ → List ℕ → List Row
-preparedWords C S X R k piece =
-    (4, (((length R ≡ flowSize → ⊥) ⊎ (reservedOf R ≡ 0 → ⊥)) ⊎ (states * offsetOf R < rowsOf R)) ⊎ Unnamed X R)
-    ∷ (5, k ≡ offsetOf R → ⊥)
-    ∷ (6, mostOffset < offsetOf R + length piece)
-    ∷ (8, (Misclassed C ⊎ Miscounted splitSize mostSplits S) ⊎ Misindexed S X)
-    ∷ []
+preparedWords C S X R k piece = flowWords (Unnamed X R) R k piece ++ ((8, (Misclassed C ⊎ Miscounted splitSize mostSplits S) ⊎ Misindexed S X) ∷ [])
 
 -- ---- the builder: 1 to 3, then 17, then 16
 

@@ -3,206 +3,17 @@ use build::Built;
 use feeds::Fed;
 use feeds::Opened;
 ghost use Prim.Native.Nat.{_≤_};
-ghost use mathlib.Core.List.{[], _∷_};
-ghost use lib.ListN.{length, take};
-ghost use Rattle.rules.specs.Rules.{Refuses};
-ghost use Rattle.lists.specs.List.{listRules};
-ghost use Rattle.tables.specs.Table.{table, tableRules};
+ghost use mathlib.Core.Path.{_≡_};
+ghost use lib.ListN.{length, getD, take};
+ghost use Rattle.tables.specs.Table.{table};
 ghost use Rattle.feeds.specs.Fed.{Answers};
 ghost use Rattle.demands.specs.Calls.{outcome};
-ghost use Rattle.demands.specs.Drivers.{built, BuildKept, sight, openSight, callOf, OpenKept, FeedKept, SplitFeedKept, PlainDriven, SplitDriven, viaBy, Turn, CutsDriven};
-
-// What the calls of `drive_each` answered: the two checks, the opening, and both feeds.
-struct DroveEach {
-    listed: u32,
-    checked: u32,
-    opened: Opened,
-    fed: Fed,
-    split: Fed,
-}
-
-// Demand 1: calls each entry point once, each on buffers of its own.
-fn drive_each(
-    list: &[u8],
-    bound: u64,
-    classes: &[u8],
-    parts: &[u8],
-    rows: &[u8],
-    splits: &[u8],
-    start: u64,
-    piece: &[u8],
-    opening: &mut [u8],
-    first_pairs: &mut [u32],
-    flow: &mut [u8],
-    pairs: &mut [u32],
-    split_flow: &mut [u8],
-    split_pairs: &mut [u32],
-) -> DroveEach
-    ensures lists { λ r. ⌜ Refuses (listRules (now (list .entry))) (r .listed) ⌝ }
-    ensures tables { λ r. ⌜ Refuses (tableRules (now (list .entry)) bound
-        (table (now (classes .entry)) (now (parts .entry)) (now (rows .entry)) (now (splits .entry)))) (r .checked) ⌝ }
-    ensures opens { λ r. ⌜ OpenKept (now (list .entry)) (now (opening .entry))
-        (openSight (now («first_pairs» .entry)) (r .opened) (now («first_pairs» .exit))) (now (opening .exit)) ⌝ }
-    ensures feeds { λ r. ⌜ FeedKept (now (list .entry)) (now (flow .entry))
-        (sight start (now (piece .entry)) (now (pairs .entry)) (r .fed) (now (pairs .exit))) (now (flow .exit)) ⌝ }
-    ensures split_feeds { λ r. ⌜ SplitFeedKept (now (list .entry)) bound
-        (table (now (classes .entry)) (now (parts .entry)) (now (rows .entry)) (now (splits .entry))) (now («split_flow» .entry))
-        (sight start (now (piece .entry)) (now («split_pairs» .entry)) (r .split) (now («split_pairs» .exit))) (now («split_flow» .exit)) ⌝ }
-{
-    let listed = lists::check_list(list);
-    let checked = tables::check_table(list, bound, classes, parts, rows, splits);
-    let opened = plain::open_flow(list, opening, first_pairs);
-    let fed = plain::feed(list, flow, start, piece, pairs);
-    let split = splits::feed(
-        list,
-        bound,
-        classes,
-        parts,
-        rows,
-        splits,
-        split_flow,
-        start,
-        piece,
-        split_pairs,
-    );
-    DroveEach {
-        listed: listed,
-        checked: checked,
-        opened: opened,
-        fed: fed,
-        split: split,
-    }
-}
-
-// What the calls of `drive_plain` answered: the check, the opening, and four feeds.
-struct DrovePlain {
-    listed: u32,
-    opened: Opened,
-    first: Fed,
-    again: Fed,
-    other: Fed,
-    last: Fed,
-}
-
-// Demand 2: checks a list, opens a flow, feeds it, sends the same piece again, and feeds it two pieces more, each from the start that it states, be it the flow's offset or not.
-fn drive_plain(
-    list: &[u8],
-    flow: &mut [u8],
-    pairs0: &mut [u32],
-    start1: u64,
-    piece1: &[u8],
-    pairs1: &mut [u32],
-    pairs2: &mut [u32],
-    start3: u64,
-    piece3: &[u8],
-    pairs3: &mut [u32],
-    start4: u64,
-    piece4: &[u8],
-    pairs4: &mut [u32],
-) -> DrovePlain
-    ensures { λ r. ⌜ PlainDriven (now (list .entry)) (now (flow .entry)) (r .listed)
-        (openSight (now (pairs0 .entry)) (r .opened) (now (pairs0 .exit)))
-        (sight start1 (now (piece1 .entry)) (now (pairs1 .entry)) (r .first) (now (pairs1 .exit)))
-        (sight start1 (now (piece1 .entry)) (now (pairs2 .entry)) (r .again) (now (pairs2 .exit)))
-        (sight start3 (now (piece3 .entry)) (now (pairs3 .entry)) (r .other) (now (pairs3 .exit))
-        ∷ sight start4 (now (piece4 .entry)) (now (pairs4 .entry)) (r .last) (now (pairs4 .exit)) ∷ [])
-        (now (flow .exit)) ⌝ }
-{
-    let listed = lists::check_list(list);
-    let opened = plain::open_flow(list, flow, pairs0);
-    let first = plain::feed(list, flow, start1, piece1, pairs1);
-    let again = plain::feed(list, flow, start1, piece1, pairs2);
-    let other = plain::feed(list, flow, start3, piece3, pairs3);
-    let last = plain::feed(list, flow, start4, piece4, pairs4);
-    DrovePlain {
-        listed: listed,
-        opened: opened,
-        first: first,
-        again: again,
-        other: other,
-        last: last,
-    }
-}
-
-// What the calls of `drive_split` answered: the two checks, the opening, and two feeds.
-struct DroveSplit {
-    listed: u32,
-    checked: u32,
-    opened: Opened,
-    first: Fed,
-    second: Fed,
-}
-
-// Demand 3: checks a list and a table, opens a flow, and feeds it twice through the table, each piece from the start that it states.
-fn drive_split(
-    list: &[u8],
-    bound: u64,
-    classes: &[u8],
-    parts: &[u8],
-    rows: &[u8],
-    splits: &[u8],
-    flow: &mut [u8],
-    pairs0: &mut [u32],
-    start1: u64,
-    piece1: &[u8],
-    pairs1: &mut [u32],
-    start2: u64,
-    piece2: &[u8],
-    pairs2: &mut [u32],
-) -> DroveSplit
-    ensures { λ r. ⌜ SplitDriven (now (list .entry)) bound (table (now (classes .entry)) (now (parts .entry)) (now (rows .entry)) (now (splits .entry)))
-        (now (flow .entry)) (r .listed) (r .checked) (openSight (now (pairs0 .entry)) (r .opened) (now (pairs0 .exit)))
-        (sight start1 (now (piece1 .entry)) (now (pairs1 .entry)) (r .first) (now (pairs1 .exit))
-        ∷ sight start2 (now (piece2 .entry)) (now (pairs2 .entry)) (r .second) (now (pairs2 .exit)) ∷ [])
-        (now (flow .exit)) ⌝ }
-{
-    let listed = lists::check_list(list);
-    let checked = tables::check_table(list, bound, classes, parts, rows, splits);
-    let opened = plain::open_flow(list, flow, pairs0);
-    let first = splits::feed(
-        list,
-        bound,
-        classes,
-        parts,
-        rows,
-        splits,
-        flow,
-        start1,
-        piece1,
-        pairs1,
-    );
-    let second = splits::feed(
-        list,
-        bound,
-        classes,
-        parts,
-        rows,
-        splits,
-        flow,
-        start2,
-        piece2,
-        pairs2,
-    );
-    DroveSplit {
-        listed: listed,
-        checked: checked,
-        opened: opened,
-        first: first,
-        second: second,
-    }
-}
-
-// What the calls of `drive_cuts` answered: the two checks and the opening; and the bytes consumed by all feeds, and the words told by the opening and all feeds.
-struct DroveCuts {
-    listed: u32,
-    checked: u32,
-    opened: Opened,
-    bytes: usize,
-    words: usize,
-}
+ghost use Rattle.demands.specs.Drivers.{viaBy, callOf, Turn, Came, Driven, built, BuildKept};
 
 // The number at a place; past the end that is 0.
-fn number_at(numbers: &[usize], i: usize) -> usize {
+fn number_at(numbers: &[usize], i: usize) -> usize
+    ensures { λ r. ⌜ r ≡ getD (now (numbers .entry)) i 0 ⌝ }
+{
     if i < numbers.len() { numbers[i] } else { 0 }
 }
 
@@ -220,7 +31,7 @@ fn within(low: usize, x: usize, high: usize) -> usize
     x
 }
 
-// Feeds a piece through the table where the flag says so, else plain.
+// Feeds a piece by what the number says: 1 the table, 2 the matrix, 3 the index, else the list.
 fn feed_by(
     list: &[u8],
     bound: u64,
@@ -228,17 +39,20 @@ fn feed_by(
     parts: &[u8],
     rows: &[u8],
     splits: &[u8],
-    through: bool,
+    matrix: &[u8],
+    index: &[u8],
+    kind: usize,
     flow: &mut [u8],
     start: u64,
     piece: &[u8],
     pairs: &mut [u32],
 ) -> Fed
     ensures { λ r. ⌜ Answers (outcome (now (flow .entry)) (callOf (now (list .entry))
-        (viaBy through bound (table (now (classes .entry)) (now (parts .entry)) (now (rows .entry)) (now (splits .entry))))
-        (sight start (now (piece .entry)) (now (pairs .entry)) r (now (pairs .exit))))) r (now (pairs .exit)) (now (flow .exit)) ⌝ }
+        (viaBy bound (table (now (classes .entry)) (now (parts .entry)) (now (rows .entry)) (now (splits .entry)))
+        (now (matrix .entry)) (now (index .entry)) kind)
+        start (now (piece .entry)) (now (pairs .entry)))) r (now (pairs .exit)) (now (flow .exit)) ⌝ }
 {
-    if through {
+    if kind == 1 {
         return splits::feed(
             list,
             bound,
@@ -252,6 +66,12 @@ fn feed_by(
             pairs,
         );
     }
+    if kind == 2 {
+        return matrix::feed(list, matrix, flow, start, piece, pairs);
+    }
+    if kind == 3 {
+        return prepared::feed(classes, splits, index, flow, start, piece, pairs);
+    }
     plain::feed(list, flow, start, piece, pairs)
 }
 
@@ -263,7 +83,9 @@ fn feed_part(
     parts: &[u8],
     rows: &[u8],
     splits: &[u8],
-    through: bool,
+    matrix: &[u8],
+    index: &[u8],
+    kind: usize,
     flow: &mut [u8],
     start: u64,
     stream: &[u8],
@@ -275,8 +97,9 @@ fn feed_part(
 ) -> Fed
     requires { ⌜ (n ≤ e) × (e ≤ length (now stream)) × (w ≤ v) × (v ≤ length (now pairs)) ⌝ }
     ensures { λ r. ⌜ Turn (now (list .entry))
-        (viaBy through bound (table (now (classes .entry)) (now (parts .entry)) (now (rows .entry)) (now (splits .entry))))
-        (now (flow .entry)) (now (stream .entry)) n (now (pairs .entry)) w r (now (pairs .exit)) (now (flow .exit)) ⌝ }
+        (viaBy bound (table (now (classes .entry)) (now (parts .entry)) (now (rows .entry)) (now (splits .entry)))
+        (now (matrix .entry)) (now (index .entry)) kind)
+        start (now (flow .entry)) (now (stream .entry)) n (now (pairs .entry)) w r (now (pairs .exit)) (now (flow .exit)) ⌝ }
 {
     feed_by(
         list,
@@ -285,7 +108,9 @@ fn feed_part(
         parts,
         rows,
         splits,
-        through,
+        matrix,
+        index,
+        kind,
         flow,
         start,
         &stream[n..e],
@@ -293,37 +118,46 @@ fn feed_part(
     )
 }
 
-// Demands 2 and 3 over any number of feeds: checks a list and a table, opens a flow, and feeds it a stream, through the table or plain.
-// Opening has all of the words, and each feed goes on behind what is told: it states the start that a list of starts says, ends at the byte that a list of
-// cuts says, and has words up to where a list of rooms says.
+// What feeds one after another did: the bytes consumed by all of them, and the words told with those before them.
+struct FedAll {
+    bytes: usize,
+    words: usize,
+}
+
+// Feeds a stream by as many feeds as there are cuts, behind the words told so far: each goes by what a list of numbers says, states the start that a list of
+// starts says, ends at the byte that a list of cuts says, and has words up to where a list of rooms says.
 // One that is refused consumes nothing, and the next goes on from the same byte.
-fn drive_cuts(
+fn feed_all(
     list: &[u8],
     bound: u64,
     classes: &[u8],
     parts: &[u8],
     rows: &[u8],
     splits: &[u8],
-    through: bool,
+    matrix: &[u8],
+    index: &[u8],
     flow: &mut [u8],
+    kinds: &[usize],
     starts: &[usize],
     cuts: &[usize],
     rooms: &[usize],
     stream: &[u8],
     pairs: &mut [u32],
-) -> DroveCuts
-    ensures { λ r. ⌜ CutsDriven (now (list .entry)) bound (table (now (classes .entry)) (now (parts .entry)) (now (rows .entry)) (now (splits .entry)))
-        (now (flow .entry)) (now (pairs .entry)) through (r .listed) (r .checked) (r .opened)
+    told: usize,
+) -> FedAll
+    requires { ⌜ told ≤ length (now pairs) ⌝ }
+    ensures { λ r. ⌜ Came (now (list .entry))
+        (λ i. viaBy bound (table (now (classes .entry)) (now (parts .entry)) (now (rows .entry)) (now (splits .entry)))
+        (now (matrix .entry)) (now (index .entry)) (getD (now (kinds .entry)) i 0))
+        (λ i. getD (now (starts .entry)) i 0) (length (now (cuts .entry))) (now (flow .entry)) (take told (now (pairs .entry)))
         (take (r .bytes) (now (stream .entry))) (take (r .words) (now (pairs .exit))) (now (flow .exit)) ⌝ }
 {
-    let listed = lists::check_list(list);
-    let checked = tables::check_table(list, bound, classes, parts, rows, splits);
-    let opened = plain::open_flow(list, flow, pairs);
     let mut n = 0usize;
-    let mut w = 2 * opened.pairs;
+    let mut w = told;
     for i in 0..cuts.len() {
         let e = within(n, cuts[i], stream.len());
         let v = within(w, number_at(rooms, i), pairs.len());
+        let kind = number_at(kinds, i);
         let start = number_at(starts, i) as u64;
         let fed = feed_part(
             list,
@@ -332,7 +166,9 @@ fn drive_cuts(
             parts,
             rows,
             splits,
-            through,
+            matrix,
+            index,
+            kind,
             flow,
             start,
             stream,
@@ -345,12 +181,77 @@ fn drive_cuts(
         n = n + fed.bytes;
         w = w + 2 * fed.pairs;
     }
-    DroveCuts {
+    FedAll { bytes: n, words: w }
+}
+
+// What the calls of `drive` answered: the two checks, the two fillers and the opening; and the bytes consumed by all feeds, and the words told by the opening and all feeds.
+struct Drove {
+    listed: u32,
+    checked: u32,
+    filled: u32,
+    indexed: u32,
+    opened: Opened,
+    bytes: usize,
+    words: usize,
+}
+
+// The demands over any number of calls of any kind: checks a list and a table, fills a matrix and an index, opens a flow with all of the words, and feeds it a
+// stream behind the pairs that opening told, as the lent lists say.
+fn drive(
+    list: &[u8],
+    bound: u64,
+    classes: &[u8],
+    parts: &[u8],
+    rows: &[u8],
+    splits: &[u8],
+    matrix: &mut [u8],
+    index: &mut [u8],
+    flow: &mut [u8],
+    kinds: &[usize],
+    starts: &[usize],
+    cuts: &[usize],
+    rooms: &[usize],
+    stream: &[u8],
+    pairs: &mut [u32],
+) -> Drove
+    ensures { λ r. ⌜ Driven (now (list .entry)) bound (table (now (classes .entry)) (now (parts .entry)) (now (rows .entry)) (now (splits .entry)))
+        (now (flow .entry)) (now (pairs .entry)) (now (matrix .entry)) (now (matrix .exit)) (now (index .entry)) (now (index .exit))
+        (now (kinds .entry)) (now (starts .entry)) (length (now (cuts .entry)))
+        (r .listed) (r .checked) (r .filled) (r .indexed) (r .opened)
+        (take (r .bytes) (now (stream .entry))) (take (r .words) (now (pairs .exit))) (now (flow .exit)) ⌝ }
+{
+    let listed = lists::check_list(list);
+    let checked = tables::check_table(list, bound, classes, parts, rows, splits);
+    let filled = matrix::fill(list, matrix);
+    let indexed = indexes::fill(list, bound, classes, parts, rows, splits, index);
+    let opened = plain::open_flow(list, flow, pairs);
+    let told = 2 * opened.pairs;
+    let fed = feed_all(
+        list,
+        bound,
+        classes,
+        parts,
+        rows,
+        splits,
+        &matrix[..],
+        &index[..],
+        flow,
+        kinds,
+        starts,
+        cuts,
+        rooms,
+        stream,
+        pairs,
+        told,
+    );
+    Drove {
         listed: listed,
         checked: checked,
+        filled: filled,
+        indexed: indexed,
         opened: opened,
-        bytes: n,
-        words: w,
+        bytes: fed.bytes,
+        words: fed.words,
     }
 }
 

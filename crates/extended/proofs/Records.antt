@@ -154,8 +154,8 @@ module _ (x : Config) (k : ℕ) where
       simp length-append (omega arith)
 
 -- so a feed's layout is sound for configurations that have a record, and it reads no rows
-pub flow-sound : {D : Type 0} (Rel : Config → D → Type 0) → ((x : Config) (y : D) → Rel x y → Fine x) → Sound flowLayout Rel 0
-flow-sound Rel fine = record { reads = λ x y k n r hk hn. (config-flow x k (fine x y r), offset-flow x k hk, omega arith) }
+pub flow-sound : (Good : Config → Type 0) → ((x : Config) → Good x → Fine x) → Sound flowLayout Good 0
+flow-sound Good fine = record { reads = λ x k n g hk hn. (config-flow x k (fine x g), offset-flow x k hk, omega arith) }
 
 -- ---- read, then written
 

@@ -1,13 +1,15 @@
--- The rules of the automaton with bits and counters in words: what 24 and 4 are given for, said of bytes and places.
+-- The rules of the automaton with bits and counters in words: what each number is given for, said of bytes and places.
 use Prim.Native.Nat.{ℕ, _+_, _*_, _%_, _≤_, _<_}
 use mathlib.Core.Path.{_≡_}
-use mathlib.Core.List.{List}
+use mathlib.Core.List.{List, [], _∷_, _++_}
 use mathlib.Core.Logic.{_⊎_}
 use lib.ListN.{length, getD}
-use Rattle.sets.specs.Set.{signatures}
+use Rattle.sets.specs.Set.{signatures, size}
+use Rattle.rules.specs.Words.{Row}
+use Rattle.feeds.specs.Engine.{mostOffset}
 use Rattle.extended.specs.Program.{bitCount, counterCount, off, programLength, kindOf, whichOf, numberOf}
-use Rattle.extended.specs.Machine.{mostStates, byteValues, moveSize, programSize, stateCount, move}
-use Rattle.extended.specs.Record.{flowSize, stateOf, reservedOf, configOf}
+use Rattle.extended.specs.Machine.{mostStates, byteValues, moveSize, programSize, stateCount, move, firstAlerts}
+use Rattle.extended.specs.Record.{flowSize, stateOf, reservedOf, offsetOf, configOf}
 
 -- ---- 24
 
@@ -41,3 +43,15 @@ Faulty M P =
 abbrev pub BadFlow : ℕ → List ℕ → Type 0
 BadFlow n R =
     (((length R ≡ flowSize → ⊥) ⊎ (n ≤ stateOf R)) ⊎ (reservedOf R ≡ 0 → ⊥)) ⊎ ((i : ℕ) × (i < counterCount) × (off < getD (configOf R .counters) i 0))
+
+-- ---- the table of refusals: the check 24, opening 24, 4 and 15, the feed 24 and 4 to 6
+
+abbrev pub machineWords : List ℕ → List ℕ → List Row
+machineWords M P = (24, (Miscounted M P ⊎ Astray M) ⊎ Faulty M P) ∷ []
+
+-- 15: fewer words than two for each signature that the start state's program alerts
+abbrev pub openWords : List ℕ → List ℕ → List ℕ → List ℕ → List Row
+openWords M P R out = machineWords M P ++ ((4, length R ≡ flowSize → ⊥) ∷ (15, length out < 2 * size signatures (firstAlerts P)) ∷ [])
+
+abbrev pub feedWords : List ℕ → List ℕ → List ℕ → ℕ → List ℕ → List Row
+feedWords M P R k piece = machineWords M P ++ ((4, BadFlow (stateCount M) R) ∷ (5, k ≡ offsetOf R → ⊥) ∷ (6, mostOffset < offsetOf R + length piece) ∷ [])

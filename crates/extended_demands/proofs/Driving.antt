@@ -11,13 +11,15 @@ use Rattle.feeds.specs.Opening.{Opens}
 use Rattle.feeds.specs.Calls.{Bytes, allBytes, allTold, recordAfter}
 use Rattle.feeds.specs.declared.Opened.{Opened}
 use Rattle.extended.specs.Machine.{machineRules, machineRefusal, machine, first}
-use Rattle.extended.specs.Record.{offsetOf, configOf}
-use Rattle.extended.specs.Extended.{openRules, extendedOpen, extendedFeed}
+use Rattle.extended.specs.Record.{offsetOf, configOf, flowLayout}
+use Rattle.extended.specs.Extended.{openRules, extendedOpen, feedRules, extendedFeed}
 use Rattle.extended.proofs.Feeding.{extended-refusal}
 use Rattle.extended_demands.specs.Calls.{Call, outcome, bytesOf, wordsOf, after}
-use Rattle.extended_demands.specs.Demands.{Due, openTold, Demand2Opened}
+use Rattle.feeds.specs.Demands.{openTold}
+use Rattle.feeds.proofs.Feeds.{refused-unchanged}
+use Rattle.extended_demands.specs.Demands.{Due, Demand2Opened}
 use Rattle.extended_demands.specs.Drivers.{Seen, Sighted, bytesSeen, wordsSeen, Untouched, Driven}
-use Rattle.extended_demands.proofs.Demand1.{refused-unchanged, open-refuses}
+use Rattle.extended_demands.proofs.Demand1.{open-once}
 use Rattle.extended_demands.proofs.Demand2.{demand-2-opened}
 
 -- the call that a feed is, by the lists M and P
@@ -34,7 +36,7 @@ due-as M P bs cs ws vs p q h = rw (p, q) at h
 -- a feed that is refused changes nothing
 untouched : (M P R Q : List ℕ) (s : Seen) → Is M P R s Q → (s .fed .refusal ≡ 0 → ⊥) → Untouched s
 untouched M P R Q s a n =
-    let u = refused-unchanged M P R (s .at) (s .piece) (s .out) (λ z. n (a .refusal ∙ extended-refusal M P R (s .at) (s .piece) (s .out) ∙ z)) in
+    let u = refused-unchanged (machine M P) flowLayout R (feedRules M P R (s .at) (s .piece)) (s .piece) (s .out) (λ z. n (a .refusal ∙ extended-refusal M P R (s .at) (s .piece) (s .out) ∙ z)) in
     record { bytes = a .bytes ∙ u .bytes; pairs = a .pairs ∙ u .pairs; all = a .all ∙ u .all; words = a .words ∙ u .words }
 
 module _ (M P R : List ℕ) (o : Sighted) (S : List ℕ) (opens : Opens (extendedOpen M P R (o .out)) (o .opened) (o .words) S) (s : Seen) (T : List ℕ) (t : Seen) (Q : List ℕ)
@@ -74,10 +76,10 @@ module _ (M P R : List ℕ) (o : Sighted) (S : List ℕ) (opens : Opens (extende
   driven checked e =
       record {
         checks = rw e (refuses (machineRules M P) refl);
-        opens = rw (opens .refusal) (open-refuses M P R (o .out));
+        opens = rw (opens .refusal) (open-once M P R (o .out) .refuses);
         first-untouched = untouched M P S T s one;
         second-untouched = untouched M P T Q t two;
-        due = λ z. due-as M P _ _ _ _ bytes-seen words-seen (demand z .due);
-        config = λ z. ap configOf (sym left) ∙ demand z .config ∙ ap (run (machine M P) (first P)) bytes-seen;
-        offset = λ z. ap offsetOf (sym left) ∙ demand z .offset ∙ ap (λ (bs : List ℕ). length bs) bytes-seen;
+        due = λ z. due-as M P _ _ _ _ bytes-seen words-seen (demand z .flows .due);
+        config = λ z. ap configOf (sym left) ∙ demand z .flows .config ∙ ap (run (machine M P) (first P)) bytes-seen;
+        offset = λ z. ap offsetOf (sym left) ∙ demand z .flows .offset ∙ ap (λ (bs : List ℕ). length bs) bytes-seen;
       }

@@ -2,3 +2,4 @@ pub mod Demand1
 pub mod Demand2
 pub mod Driving
 pub mod Examples
+pub mod Turns

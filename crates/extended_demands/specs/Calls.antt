@@ -1,12 +1,13 @@
 -- Any number of feeds by the automaton with bits and counters on one saved flow, each with the two lists, start, piece and words of its own.
 use Prim.Native.Nat.{ℕ}
-use mathlib.Core.List.{List, [], _∷_}
+use mathlib.Core.List.{List}
+use Rattle.rules.specs.Rules.{Rule}
 use Rattle.feeds.specs.Engine.{Outcome}
-use Rattle.feeds.specs.Calls.{Asked, Bytes, recordAfter, allTold, allBytes}
+use Rattle.feeds.specs.Calls.{Way, fedBy, Asked, asking, recordAfter, allTold, allBytes, Along, Pieces}
 use Rattle.extended.specs.declared.Config.{Config}
 use Rattle.extended.specs.Machine.{machine}
 use Rattle.extended.specs.Record.{flowLayout}
-use Rattle.extended.specs.Extended.{feedRules, extendedFeed}
+use Rattle.extended.specs.Extended.{feedRules}
 
 -- a feed that a caller makes
 pub record Call : Type 0 where
@@ -16,34 +17,33 @@ pub record Call : Type 0 where
   pub piece : List ℕ
   pub out : List ℕ
 
--- what it answers and leaves on the record R
+-- the feed by the lists M and P
+abbrev pub wayOf : List ℕ → List ℕ → Way
+wayOf M P = record { Config = Config; rules = feedRules M P; engine = machine M P; layout = flowLayout }
+
+-- what a call answers and leaves on the record R; and its rules there
 abbrev pub outcome : List ℕ → Call → Outcome
-outcome R c = extendedFeed (c .moves) (c .programs) R (c .at) (c .piece) (c .out)
+outcome R c = fedBy (wayOf (c .moves) (c .programs)) R (c .at) (c .piece) (c .out)
 
--- as a feed that is asked for
-abbrev pub asked : Call → Asked Config
-asked c = record { rules = λ R. feedRules (c .moves) (c .programs) R (c .at) (c .piece); engine = machine (c .moves) (c .programs); piece = c .piece; out = c .out }
+abbrev pub ruled : List ℕ → Call → List Rule
+ruled R c = feedRules (c .moves) (c .programs) R (c .at) (c .piece)
 
-abbrev pub allAsked : List Call → List (Asked Config)
-allAsked [] = []
-allAsked (c ∷ cs) = asked c ∷ allAsked cs
+abbrev pub asked : Call → Asked (List ℕ)
+asked c = asking (c .piece) (λ R. outcome R c)
 
--- what any list of calls on the record R consumes and tells, and the record after it
+-- ---- any list of calls on the record R: what it consumes and tells, and the record after it; that each piece is bytes, and that Q holds of each at the record that it meets
+
 abbrev pub bytesOf : List ℕ → List Call → List ℕ
-bytesOf R cs = allBytes flowLayout R (allAsked cs)
+bytesOf = allBytes asked
 
 abbrev pub wordsOf : List ℕ → List Call → List ℕ
-wordsOf R cs = allTold flowLayout R (allAsked cs)
+wordsOf = allTold asked
 
 abbrev pub after : List ℕ → List Call → List ℕ
-after R cs = recordAfter flowLayout R (allAsked cs)
+after = recordAfter asked
 
--- each call's piece is bytes
 abbrev pub InBytes : List Call → Type 0
-InBytes [] = Unit {0}
-InBytes (c ∷ cs) = Bytes (c .piece) × InBytes cs
+InBytes = Pieces asked
 
--- Q holds of each call, at the record that it meets
 abbrev pub Each : (List ℕ → Call → Type 0) → List ℕ → List Call → Type 0
-Each Q R [] = Unit {0}
-Each Q R (c ∷ cs) = Q R c × Each Q (outcome R c .saved) cs
+Each = Along asked

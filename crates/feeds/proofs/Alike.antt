@@ -1,13 +1,19 @@
--- Two feeds that answer and leave the same, where the rules give the same: one engine follows the other at the same costs and saves alike, or both halt at the first byte. Assumes nothing.
-use Prim.Native.Nat.{ℕ, _+_}
-use mathlib.Core.Path.{_≡_, refl}
-use mathlib.Core.Bool.{true}
-use mathlib.Core.List.{List, [], _∷_}
-use lib.ListN.{length, take}
+-- Two feeds that answer and leave the same, where the rules give the same: one engine follows the other at the same costs and saves alike, or both halt at the first byte.
+-- Two that only answer the same and leave the same words. Assumes nothing.
+use Prim.Native.Nat.{ℕ, _+_, _/_}
+use mathlib.Core.Path.{_≡_, refl, sym, ap, _∙_}
+use mathlib.Core.Bool.{Bool, true, _&&_, cond}
+use mathlib.Core.List.{List, [], _∷_, _++_}
+use native.Mathlib.Decide.{ℕ-discrete}
+use lib.ListN.{length, take, drop}
+use lib.Dec.{ltb}
 use Rattle.rules.specs.Rules.{Rule, verdict}
 use Rattle.feeds.specs.Engine.{Engine, Layout, ended, feed, run, costs, told, consumed, room}
 use Rattle.feeds.specs.Calls.{Bytes, Follows}
 use Rattle.feeds.proofs.Runs.{bytes-take}
+use Rattle.feeds.specs.Demands.{Answered}
+use Rattle.feeds.proofs.Moves.{feed-ends}
+use Rattle.feeds.proofs.Going.{unfed}
 use Rattle.feeds.proofs.Follows.{run-related, told-same, consumed-same, costs-same}
 
 module _ {C D : Type 0} (E : Engine C) (G : Engine D) (K : Layout C) (H : Layout D) (R : List ℕ) where
@@ -58,3 +64,30 @@ module _ {C D : Type 0} (E : Engine C) (G : Engine D) (K : Layout C) (H : Layout
     feed-stuck rules others v piece out =
         same-end rules others v piece out 0 (none-consumed E (K .config R) (room out) piece e) (none-consumed G (H .config R) (room out) piece g)
         (ended-none (length piece) out)
+
+-- ---- on records that stand at one offset: the same answer and the same words, where one engine follows the other
+
+module _ {C D : Type 0} (E : Engine C) (G : Engine D) (Rel : C → D → Type 0) (f : Follows E G Rel) (K : Layout C) (H : Layout D) (R Q : List ℕ)
+    (rel : Rel (K .config R) (H .config Q)) (offset : K .offset R ≡ H .offset Q) (piece out : List ℕ) (hb : Bytes piece) where
+  ended-answered : (front : List ℕ) → Bytes front → Answered (ended E K R front (length piece) out) (ended G H Q front (length piece) out)
+  unfolding ended
+  ended-answered front h =
+      let t : told E (K .config R) (K .offset R) front ≡ told G (H .config Q) (H .offset Q) front =
+      told-same E G Rel f (K .config R) (H .config Q) (K .offset R) front rel h ∙ ap (λ (k : ℕ). told G (H .config Q) k front) offset in
+      record {
+        refusal = ap (λ (b : Bool). cond (ltb (length front) (length piece) && b) 14 0) (f .goes (run E (K .config R) front) (run G (H .config Q) front) (run-related E G Rel f (K .config R) (H .config Q) front rel h));
+        bytes = refl;
+        pairs = ap (λ (ws : List ℕ). length ws / 2) t;
+        all = refl;
+        words = ap (λ (ws : List ℕ). ws ++ drop (length ws) out) t;
+      }
+
+  pub answered : (rules others : List Rule) → verdict rules ≡ verdict others → Answered (feed rules E K R piece out) (feed others G H Q piece out)
+  answered rules others e =
+      let n = consumed G (H .config Q) (room out) piece in
+      elim (ℕ-discrete (verdict rules) 0) [
+        | yes v ↦ rw (feed-ends E K R rules piece out v, feed-ends G H Q others piece out (sym e ∙ v), consumed-same E G Rel f (K .config R) (H .config Q) (room out) piece rel hb)
+            (ended-answered (take n piece) (bytes-take n piece hb))
+        | no v ↦ rw (unfed E K R piece out rules v, unfed G H Q piece out others (λ z. v (e ∙ z)))
+            (record { refusal = e; bytes = refl; pairs = refl; all = refl; words = refl })
+      ]

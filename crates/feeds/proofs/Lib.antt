@@ -4,8 +4,12 @@ pub mod Follows
 pub mod Alike
 pub mod Going
 pub mod Moves
+pub mod Calls
 pub mod Whole
-pub mod Cuts
+pub mod Halts
+pub mod Feeds
+pub mod Made
+pub mod Lawful
 pub mod Telling
 pub mod Looping
 pub mod Opening

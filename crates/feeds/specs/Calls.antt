@@ -1,61 +1,67 @@
--- Any number of feeds on one saved flow, each with its own rules, engine, piece and words; and when one engine follows another.
-use Prim.Native.Nat.{ℕ, _+_, _*_, _<_}
+-- Calls on one saved flow, of any kind: what each consumes, tells and leaves of what is kept, and any number of them in a row. A feed as a way to call; and when one engine follows another.
+use Prim.Native.Nat.{ℕ, _*_, _<_}
 use mathlib.Core.Path.{_≡_}
 use mathlib.Core.List.{List, [], _∷_, _++_}
 use lib.ListN.{take, getD}
 use Rattle.rules.specs.Rules.{Rule}
-use Rattle.feeds.specs.Engine.{Engine, Layout, Outcome, feed, costs}
+use Rattle.feeds.specs.Engine.{Engine, Layout, Outcome, feed}
 
 -- a list of bytes
 abbrev pub Bytes : List ℕ → Type 0
 Bytes cs = (i : ℕ) → getD cs i 0 < 256
 
--- a feed that is asked for: its rules may look at the record
-pub record Asked (C : Type 0) : Type 0 where
-  pub rules : List ℕ → List Rule
-  pub engine : Engine C
+-- ---- a way to feed: its rules, of a record, a stated start and a piece; what moves it; and how the record holds that
+
+pub record Way : Type 1 where
+  pub Config : Type 0
+  pub rules : List ℕ → ℕ → List ℕ → List Rule
+  pub engine : Engine Config
+  pub layout : Layout Config
+
+-- what a feed of the record R answers and leaves, from a stated start, with the words `out`
+abbrev pub fedBy : Way → List ℕ → ℕ → List ℕ → List ℕ → Outcome
+fedBy W R at piece out = feed (W .rules R at piece) (W .engine) (W .layout) R piece out
+
+-- ---- a call on what is kept of a flow, of type S: a record, or a record and what is held beside it. Of a kind A of calls, `ask` says so of each
+
+-- the bytes that it brings; and of what is kept: the bytes that it consumes, the words of the pairs that it tells, and what it leaves
+pub record Asked (S : Type 0) : Type 0 where
   pub piece : List ℕ
-  pub out : List ℕ
+  pub eaten : S → List ℕ
+  pub spoken : S → List ℕ
+  pub left : S → S
 
--- what it does with the record R
-abbrev pub answer : {C : Type 0} → Layout C → List ℕ → Asked C → Outcome
-answer K R a = feed (a .rules R) (a .engine) K R (a .piece) (a .out)
+-- a call that answers and leaves an outcome of each record
+abbrev pub asking : List ℕ → (List ℕ → Outcome) → Asked (List ℕ)
+asking piece does =
+    record { piece = piece; eaten = λ R. take (does R .bytes) piece; spoken = λ R. take (2 * does R .pairs) (does R .words); left = λ R. does R .saved }
 
--- the bytes that it consumes
-abbrev pub eaten : {C : Type 0} → Layout C → List ℕ → Asked C → List ℕ
-eaten K R a = take (answer K R a .bytes) (a .piece)
+-- ---- one after the other, each on what the one before it left
 
--- ---- one after the other
-
--- the record after all of them
-unfoldable pub recordAfter : {C : Type 0} → Layout C → List ℕ → List (Asked C) → List ℕ
-recordAfter K R [] = R
-recordAfter K R (a ∷ rest) = recordAfter K (answer K R a .saved) rest
+-- what all of them leave
+unfoldable pub recordAfter : {S A : Type 0} → (A → Asked S) → S → List A → S
+recordAfter ask R [] = R
+recordAfter ask R (c ∷ cs) = recordAfter ask (ask c .left R) cs
 
 -- the words of all pairs told, call after call
-unfoldable pub allTold : {C : Type 0} → Layout C → List ℕ → List (Asked C) → List ℕ
-allTold K R [] = []
-allTold K R (a ∷ rest) = take (2 * answer K R a .pairs) (answer K R a .words) ++ allTold K (answer K R a .saved) rest
+unfoldable pub allTold : {S A : Type 0} → (A → Asked S) → S → List A → List ℕ
+allTold ask R [] = []
+allTold ask R (c ∷ cs) = ask c .spoken R ++ allTold ask (ask c .left R) cs
 
 -- all bytes consumed
-unfoldable pub allBytes : {C : Type 0} → Layout C → List ℕ → List (Asked C) → List ℕ
-allBytes K R [] = []
-allBytes K R (a ∷ rest) = eaten K R a ++ allBytes K (answer K R a .saved) rest
+unfoldable pub allBytes : {S A : Type 0} → (A → Asked S) → S → List A → List ℕ
+allBytes ask R [] = []
+allBytes ask R (c ∷ cs) = ask c .eaten R ++ allBytes ask (ask c .left R) cs
 
--- the rows read
-unfoldable pub allRows : {C : Type 0} → Layout C → List ℕ → List (Asked C) → ℕ
-allRows K R [] = 0
-allRows K R (a ∷ rest) = costs (a .engine) (K .config R) (eaten K R a) + allRows K (answer K R a .saved) rest
+-- P holds of each call, at what it meets
+abbrev pub Along : {S A : Type 0} → (A → Asked S) → (S → A → Type 0) → S → List A → Type 0
+Along ask P R [] = Unit {0}
+Along ask P R (c ∷ cs) = P R c × Along ask P (ask c .left R) cs
 
--- each call's refusal
-unfoldable pub refusals : {C : Type 0} → Layout C → List ℕ → List (Asked C) → List ℕ
-refusals K R [] = []
-refusals K R (a ∷ rest) = answer K R a .refusal ∷ refusals K (answer K R a .saved) rest
-
--- P holds of each call, at the record that it meets
-abbrev pub Along : {C : Type 0} → Layout C → (List ℕ → Asked C → Type 0) → List ℕ → List (Asked C) → Type 0
-Along K P R [] = Unit {0}
-Along K P R (a ∷ rest) = P R a × Along K P (answer K R a .saved) rest
+-- each call's piece is bytes
+abbrev pub Pieces : {S A : Type 0} → (A → Asked S) → List A → Type 0
+Pieces ask [] = Unit {0}
+Pieces ask (c ∷ cs) = Bytes (ask c .piece) × Pieces ask cs
 
 -- ---- one engine follows another
 
@@ -64,3 +70,7 @@ pub record Follows {C D : Type 0} (E : Engine C) (G : Engine D) (Rel : C → D �
   pub same : (x : C) (y : D) (c : ℕ) → c < 256 → Rel x y → E .alerts x c ≡ G .alerts y c
   pub goes : (x : C) (y : D) → Rel x y → E .halts x ≡ G .halts y
   pub stays : (x : C) (y : D) (c : ℕ) → c < 256 → Rel x y → Rel (E .next x c) (G .next y c)
+
+-- an engine with other costs
+abbrev pub costing : {C : Type 0} → Engine C → (C → ℕ) → Engine C
+costing G cost = record { next = G .next; alerts = G .alerts; cost = cost; halts = G .halts }

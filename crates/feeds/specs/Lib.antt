@@ -3,3 +3,6 @@ pub mod Engine
 pub mod Calls
 pub mod Fed
 pub mod Opening
+pub mod Demands
+pub mod Lawful
+pub mod Made

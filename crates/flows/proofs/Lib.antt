@@ -5,3 +5,4 @@ pub mod Saved
 pub mod Ending
 pub mod Accepting
 pub mod Unique
+pub mod Kept

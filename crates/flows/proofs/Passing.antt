@@ -3,17 +3,19 @@ use Prim.Native.Nat.{ℕ, _+_, _≤_}
 use mathlib.Core.Path.{_≡_, refl, sym, _∙_}
 use mathlib.Core.Bool.{Bool, true, false, _||_, not}
 use mathlib.Core.List.{List, [], _∷_, _++_}
+use native.Mathlib.Omega.{arith}
 use native.Mathlib.Decide.{ℕ-discrete}
-use lib.ListN.{length}
+use lib.ListN.{length, take}
 use lib.Dec.{eqb}
-use borrow.Author.Tests.{eqb-true, ne-eqb, ltb-false, not-false}
-use Rattle.rules.specs.Rules.{verdict}
-use Rattle.rules.proofs.Rules.{stop, passes, passes-front, verdict-then, verdict-refused}
+use borrow.Author.Tests.{eqb-true, ne-eqb, ltb-false, le-ltb, not-false}
+use Rattle.rules.specs.Rules.{Rule, verdict}
+use Rattle.rules.proofs.Rules.{stop, passes, passes-front, passes-changed, verdict-then, verdict-refused}
 use Rattle.rules.proofs.Scanning.{neither}
 use Rattle.sets.specs.Set.{within}
 use Rattle.lists.specs.List.{listRules}
 use Rattle.lists.specs.Automaton.{named}
 use Rattle.feeds.specs.Engine.{mostOffset}
+use Rattle.feeds.proofs.Runs.{length-take-most}
 use Rattle.flows.specs.Flow.{flowSize, frontierOf, offsetOf, badFlow, otherStart, tooLong, flowRules, feedRules}
 
 -- what a feed knows that no rule of its flow refuses
@@ -41,3 +43,9 @@ sizeless L R at piece n =
       | yes v ↦ verdict-then (listRules L) ((4, true) ∷ []) refl v ∙ stop 4 [] refl ∙ sym (verdict-then (listRules L) fed refl v ∙ stop 4 _ (rw (ne-eqb (length R) flowSize n)))
       | no w ↦ verdict-refused (listRules L) ((4, true) ∷ []) w ∙ sym (verdict-refused (listRules L) fed w)
     ]
+
+-- a front of a piece passes 6 where the piece does, whatever is tested before and behind it
+pub cut-passes : (early rest : List Rule) (R piece : List ℕ) (n : ℕ) → offsetOf R + length piece ≤ mostOffset → verdict (early ++ ((6, tooLong R piece) ∷ rest)) ≡ 0
+    → verdict (early ++ ((6, tooLong R (take n piece)) ∷ rest)) ≡ 0
+cut-passes early rest R piece n h v =
+    passes-changed early 5 (tooLong R piece) (tooLong R (take n piece)) rest v (le-ltb mostOffset (offsetOf R + length (take n piece)) (omega (arith, length-take-most n piece)))

@@ -12,7 +12,8 @@ use Rattle.sets.specs.Set.{states, signatures, holds}
 use Rattle.lists.specs.List.{records, byteOf, isEdge, isStart, isAccept, low, high, from, target}
 use Rattle.lists.specs.Automaton.{exchanged, start, step, accepted}
 use Rattle.lists.proofs.Listed.{from-bytes, target-bytes}
-use Rattle.lists.proofs.Steps.{Takes, start-exactly, step-exactly, accepted-exactly}
+use Rattle.lists.specs.Words.{Takes}
+use Rattle.lists.proofs.Steps.{start-exactly, step-exactly, accepted-exactly}
 use Rattle.feeds.specs.Engine.{run}
 use Rattle.feeds.specs.Calls.{Bytes}
 use Rattle.plain.specs.Plain.{plain}

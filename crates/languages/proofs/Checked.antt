@@ -10,7 +10,8 @@ use borrow.Author.Tests.{eq-eqb}
 use Rattle.sets.specs.Set.{states}
 use Rattle.rules.proofs.Rules.{skip, last}
 use Rattle.lists.specs.List.{recordSize, mostRecords, records, byteOf, isStart, goodRecord, badLength, badRecord, noStart, listRefusal}
-use Rattle.lists.proofs.Listed.{bad-length, bad-record, no-start, Edge-bytes, Start-bytes, Accept-bytes, record-exactly}
+use Rattle.lists.specs.Words.{Edge-bytes, Start-bytes, Accept-bytes}
+use Rattle.lists.proofs.Listed.{bad-length, bad-record, no-start, record-exactly}
 use Rattle.texts.specs.Exp.{Exp, size}
 use Rattle.texts.specs.Records.{edgeRecord, startRecord, acceptRecord, allRecords}
 use Rattle.languages.proofs.Found.{flat-length, flat-records}

@@ -12,18 +12,20 @@ use Rattle.rules.specs.Rules as rules
 use Rattle.rules.proofs.Rules.{verdict-then}
 use Rattle.lists.specs.List.{listRules, listRefusal}
 use Rattle.feeds.specs.Calls.{Bytes}
-use Rattle.flows.specs.Flow.{flowLayout, offsetOf}
-use Rattle.plain.specs.Plain.{openFlow, plainFeed, pairsOf, opened}
+use Rattle.flows.specs.Flow.{offsetOf}
+use Rattle.plain.specs.Plain.{openPairs, openFlow, plainFeed, pairsOf, opened}
 use Rattle.tables.specs.Table.{Table}
 use Rattle.splits.specs.Split.{splitFeed}
 use Rattle.extended.specs.Machine.{badMachine, machineRules}
 use Rattle.certificates.specs.Certificate.{badCertificate}
-use Rattle.demands.specs.Words.{Row, None, First, InWords, listWords, openingRows, flowWords, lengthWords, sizeWords, entryWords, orderWords, lentWords}
-use Rattle.demands.specs.Calls.{Call}
-use Rattle.demands.specs.Demands.{openTold, bytesOf, wordsOf, InBytes, Each, Swaps}
+use Rattle.rules.specs.Words.{Row, None, First, InWords}
+use Rattle.demands.specs.Words.{listWords, openingRows, Foreign, flowWords, lengthWords, sizeWords, entryWords, orderWords, lentWords}
+use Rattle.feeds.specs.Demands.{openTold}
+use Rattle.demands.proofs.Engines.{calls-bytes}
+use Rattle.demands.specs.Calls.{Via, byList, byTable, byMatrix, wordsBy, Call, outcome, bytesOf, wordsOf, InBytes, Each}
+use Rattle.demands.specs.Demands.{Swaps}
 use Rattle.demands.proofs.Demand1.{demand-1}
-use Rattle.demands.proofs.Due.{begins}
-use Rattle.demands.proofs.Swapping.{all-of, swapped}
+use Rattle.demands.proofs.Swapping.{swapped}
 use Rattle.texts.specs.Grammar.{Text, okBody, textReads}
 use Rattle.texts.specs.Acceptor.{begin, live, verdict}
 use Rattle.texts.specs.Records.{listOf, tooBig}
@@ -32,7 +34,7 @@ use Rattle.compile.specs.declared.Compiled.{Compiled}
 use Rattle.compile.specs.Compile.{Outcome, refused, written, made, Gives, Compiles}
 use Rattle.compile.proofs.Exactly.{Reading, compile-0}
 use Rattle.languages.specs.Language.{EndsIn, RecordsRise}
-use Rattle.languages.specs.Flows.{front, Past, PassesAll, Tells, Serves}
+use Rattle.languages.specs.Flows.{front, Past, PassesAll, Tells, Serves, CompiledServes}
 use Rattle.segments.specs.Ways.{plainWay, splitWay}
 use Rattle.languages.proofs.Segments.{segment-past}
 use Rattle.languages.proofs.Pairs.{compiled-rises, compiled-passes, compiled-pairs}
@@ -77,26 +79,37 @@ module _ (L : List ℕ) (z : listRefusal L ≡ 0) where
         opens = λ R out. past (openingRows L R out) _ (omega arith, (omega arith, tt)) (demand-1 .opens-said L R out);
         feeds = fed;
         fills = λ X n left f. past (lengthWords L X) n (omega arith, tt) (demand-1 .fills-said L X n left f);
-        matrices = λ X R at piece out. past (flowWords L R at piece ++ lengthWords L X) _ (omega arith, (omega arith, (omega arith, (omega arith, tt)))) (demand-1 .matrices-said L X R at piece out);
+        matrices = λ X R at piece out.
+            fed-past R (callBy (byMatrix X) at piece out) (flowWords (Foreign L R) R at piece ++ lengthWords L X) (omega arith, (omega arith, (omega arith, (omega arith, tt)))) (λ n f. f) _ refl;
         tables = λ b T. past (sizeWords b T ++ entryWords L b T) _ (omega arith, (omega arith, (omega arith, (omega arith, (omega arith, (omega arith, (omega arith, tt))))))) (demand-1 .tables-said L b T);
-        splits = λ b T R at piece out. split b T R at piece out (splitFeed L b T R at piece out .refusal) refl;
+        splits = split;
         indexes = λ b T X n left f. past _ n (omega arith, (omega arith, (omega arith, (omega arith, (omega arith, (omega arith, (omega arith, tt))))))) (demand-1 .indexes-said L b T X n left f);
         builds = λ T o f. past _ (o .refusal) (omega arith, (omega arith, tt)) (demand-1 .builds-said L T o f);
         certificates = λ M P Z. subst Past (sym (verdict-then (listRules L) (machineRules M P ++ ((22, badCertificate L M P Z) ∷ [])) refl z)) (certificate-past (badMachine M P) (badCertificate L M P Z));
-        segments = segment-past (plainWay L) flowLayout (λ R d out. fed R (offsetOf R) d out);
-        split-segments = λ b T. segment-past (splitWay L b T) flowLayout (λ R d out. split b T R (offsetOf R) d out (splitFeed L b T R (offsetOf R) d out .refusal) refl);
+        segments = segment-past (plainWay L) (λ R d out. fed R (offsetOf R) d out);
+        split-segments = λ b T. segment-past (splitWay L b T) (λ R d out. split b T R (offsetOf R) d out);
       }
     where
-      fed : (R : List ℕ) (at : ℕ) (piece out : List ℕ) → Past (plainFeed L R at piece out .refusal)
-      fed R at piece out = past (flowWords L R at piece) _ (omega arith, (omega arith, (omega arith, tt))) (demand-1 .feeds-said L R at piece out)
+      callBy : Via → ℕ → List ℕ → List ℕ → Call
+      callBy via at piece out = record { list = L; via = via; at = at; piece = piece; out = out }
 
-      split : (b : ℕ) (T : Table) (R : List ℕ) (at : ℕ) (piece out : List ℕ) (n : ℕ) → splitFeed L b T R at piece out .refusal ≡ n → Past n
-      split b T R at piece out zero e = inl refl
-      split b T R at piece out (suc n) e = elim (ℕ-discrete (suc n) 14) [
+      -- a feed whose words begin with those of the list
+      fed-past : (R : List ℕ) (c : Call) (ws : List Row) → Over ws → ((n : ℕ) → First (wordsBy (c .via) (c .list) R (c .at) (c .piece)) n → First (listWords L ++ ws) n)
+          → (n : ℕ) → outcome R c .refusal ≡ n → Past n
+      fed-past R c ws o f zero e = inl refl
+      fed-past R c ws o f (suc n) e = elim (ℕ-discrete (suc n) 14) [
         | yes q ↦ inr (omega (arith, q))
-        | no q ↦ inr (first-over (flowWords L R at piece ++ (sizeWords b T ++ orderWords T)) (suc n) (omega arith, (omega arith, (omega arith, (omega arith, (omega arith, (omega arith, tt))))))
-            (skip (flowWords L R at piece ++ (sizeWords b T ++ orderWords T)) (suc n) (demand-1 .splits-said L b T R at piece out (suc n) (λ y. omega (arith, y)) q .0 e)))
+        | no q ↦ let z : suc n ≡ 0 → ⊥ = (λ y. omega (arith, y)) in
+            inr (first-over ws (suc n) o (skip ws (suc n) (f (suc n) (demand-1 .feeds-said R c .gives (suc n) z .0 (demand-1 .feeds R c .ruled (suc n) z q .0 e)))))
       ]
+
+      fed : (R : List ℕ) (at : ℕ) (piece out : List ℕ) → Past (plainFeed L R at piece out .refusal)
+      fed R at piece out = fed-past R (callBy byList at piece out) (flowWords (Foreign L R) R at piece) (omega arith, (omega arith, (omega arith, tt))) (λ n f. f) _ refl
+
+      split : (b : ℕ) (T : Table) (R : List ℕ) (at : ℕ) (piece out : List ℕ) → Past (splitFeed L b T R at piece out .refusal)
+      split b T R at piece out =
+          fed-past R (callBy (byTable b T) at piece out) (flowWords (Foreign L R) R at piece ++ (sizeWords b T ++ orderWords T))
+          (omega arith, (omega arith, (omega arith, (omega arith, (omega arith, (omega arith, tt)))))) (λ n f. f) _ refl
 
 -- ---- the list of a text
 
@@ -106,10 +119,10 @@ module _ (x : Text) (g room : ℕ) (ok : okBody (x .body) ≡ true) (small : g <
 
   tells : (R out : List ℕ) → openFlow L R out .refusal ≡ 0 → (cs : List Call) → InBytes cs → Each (Swaps L) (openFlow L R out .saved) cs
       → Tells x g (bytesOf (openFlow L R out .saved) cs) (openTold (openFlow L R out) ++ wordsOf (openFlow L R out .saved) cs)
+  unfolding openPairs
   tells R out z cs hb h =
-      let d = swapped L R out z cs hb h .due in
-      let q = begins L R out z in
-      let eaten : Bytes (bytesOf (openFlow L R out .saved) cs) = rw (q .1) (all-of L cs hb (rw (q .1) at h) .bytes) in
+      let d = swapped L R out z cs hb h .flows .due in
+      let eaten : Bytes (bytesOf (openFlow L R out .saved) cs) = calls-bytes (openFlow L R out .saved) cs hb in
       let p = compiled-pairs x g room ok small fits (bytesOf (openFlow L R out .saved) cs) eaten in
       record { told = λ h k. rw (d .tells) (p h k); ordered = d .ordered }
 
@@ -135,10 +148,13 @@ module _ (T : List ℕ) (g : ℕ) (A : List ℕ) (r : Compiled) (B : List ℕ) (
       go x e false q = q
 
   -- without a refusal the front of the lent list is the text's: it rises, passes 1 to 3 in every entry point, and any flow under it tells exactly the pairs of the language
-  pub compiled-serves : (x : Text) × Reading T x × Serves x g (front r B)
-  compiled-serves =
+  serves-so : (x : Text) × Reading T x × Serves x g (front r B)
+  serves-so =
       let (x, (ok, e), small-enough) = fit in
       let (a, n, b) = compile-0 T g A r B bytes c x (ok, e) (good-0 T bytes .0 no-verdict .1) small-enough in
       let q : front r B ≡ listOf x g =
       ap (λ (k : ℕ). take k B) n ∙ ap (take (length (listOf x g))) b ∙ take-append-seam (listOf x g) (drop (length (listOf x g)) A) in
       (x, (ok, e), subst (Serves x g) (sym q) (list-serves x g (length A) ok small small-enough))
+
+pub compiled-serves : CompiledServes
+compiled-serves = serves-so

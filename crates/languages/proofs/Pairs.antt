@@ -17,8 +17,7 @@ use Rattle.feeds.specs.Calls.{Bytes}
 use Rattle.feeds.specs.Pairs.{Pair}
 use Rattle.feeds.proofs.Runs.{bytes-take}
 use Rattle.plain.specs.Plain.{plain, pairsOf}
-use Rattle.demands.specs.Demands.{Due}
-use Rattle.demands.proofs.Due.{due-all}
+use Rattle.demands.proofs.Due.{due-said, due-all}
 use Rattle.texts.specs.Exp.{Exp, eps, size, In}
 use Rattle.texts.specs.Grammar.{Text, okBody, exp}
 use Rattle.texts.specs.Means.{Means}
@@ -99,8 +98,8 @@ module _ (x : Text) (g room : ℕ) (ok : okBody (x .body) ≡ true) (small : g <
   -- the pairs of a flow that has consumed bs, from its opening on, are exactly (g, k) where the first k bytes end in a word of the language
   pub compiled-pairs : (bs : List ℕ) → Bytes bs → (h k : ℕ) → Pair (pairsOf (listOf x g) bs) h k ↔ ((k ≤ length bs) × (h ≡ g) × EndsIn x (take k bs))
   compiled-pairs bs b h k =
-      let d : Due (listOf x g) bs (pairsOf (listOf x g) bs) = due-all (listOf x g) bs _ refl in
+      let d = due-said (listOf x g) bs (pairsOf (listOf x g) bs) (due-all (listOf x g) bs _ refl) h k in
       let a = compiled-accepts (take k bs) (bytes-take k bs b) h in (
-        λ p. let w = d .due h k .0 p in let v = a .0 (w .1) in (w .0, v .0, v .1),
-        λ w. d .due h k .1 (w .0, a .1 (w .1, w .2)),
+        λ p. let w = d .0 p in let v = a .0 (w .1) in (w .0, v .0, v .1),
+        λ w. d .1 (w .0, a .1 (w .1, w .2)),
       )

@@ -6,13 +6,14 @@ use mathlib.Core.List.{List, [], _∷_, _++_}
 use mathlib.Core.Logic.{inl, inr}
 use native.Mathlib.Omega.{arith}
 use native.Mathlib.Decide.{ℕ-discrete}
-use lib.ListN.{length, take, drop}
-use lib.Dec.{eqb}
+use lib.ListN.{length, drop}
 use Rattle.rules.specs.Rules.{Rule, verdict}
-use Rattle.feeds.specs.Engine.{Layout, Outcome, feed}
+use Rattle.feeds.specs.Engine.{Outcome}
+use Rattle.feeds.specs.Calls.{Way, fedBy}
 use Rattle.feeds.proofs.Going.{unfed}
 use Rattle.resends.specs.Resend.{Held, taking, badSizes, early, full, allBefore}
-use Rattle.segments.specs.Segment.{Way, Sent, Kept, Heard, Look, nextOf, takeOf, dueOf, fedOf, keptOf, look, looked, behind, unheard, mostLooks, doorRules, feedSegment}
+use Rattle.segments.specs.Segment.{Sent, Kept, Look, nextOf, takeOf, dueOf, look, looked, behind, mostLooks, atDoor, feedSegment}
+use Rattle.segments.proofs.Looking.{by-look, by-more}
 use Rattle.languages.specs.Flows.{Past}
 
 -- of two answers that are past 1 to 3 either is
@@ -31,51 +32,34 @@ take-past next held p n q seg =
     (record { refusal = 0; start = p; length = cond (allBefore next p n) 0 n; bytes = held })
     refl refl refl
 
-past-look : (b : Bool) (x y : Look) → Past (x .heard .refusal) → Past (y .heard .refusal) → Past (cond b x y .heard .refusal)
-past-look true x y p q = p
-past-look false x y p q = q
-
-past-heard : (b : Bool) (x y : Heard) → Past (x .refusal) → Past (y .refusal) → Past (cond b x y .refusal)
-past-heard true x y p q = p
-past-heard false x y p q = q
-
 past-door : (b : Bool) (rs : List Rule) → Past (verdict rs) → Past (verdict ((18, b) ∷ rs))
 unfolding verdict
 past-door true rs p = inr (omega arith)
 past-door false rs p = p
 
-module _ {C : Type 0} (W : Way C) (K : Layout C) (fed : (R d out : List ℕ) → Past (feed (W .rules R (K .offset R) d) (W .engine) K R d out .refusal)) where
-  taken : (g : Sent) (S : Kept) → Past (takeOf K g S .refusal)
-  taken g S = take-past (nextOf K g S) (S .held) (S .start) (S .length) (g .start) (g .bytes)
+module _ (W : Way) (fed : (R d out : List ℕ) → Past (fedBy W R (W .layout .offset R) d out .refusal)) where
+  taken : (g : Sent) (S : Kept) → Past (takeOf W g S .refusal)
+  taken g S = take-past (nextOf W g S) (S .held) (S .start) (S .length) (g .start) (g .bytes)
 
-  seen : (g : Sent) (S : Kept) (out : List ℕ) → Past (look W K g S out .heard .refusal)
-  unfolding look
-  seen g S out =
-      let h = takeOf K g S in
-      let d = dueOf K g S in
-      let f = fedOf W K g S out in
-      past-look (eqb (length d) 0)
-      (record { on = false; heard = record { refusal = h .refusal; down = []; pairs = 0; all = eqb (h .refusal) 0; words = out; kept = keptOf K g S (S .flow) } })
-      (record { on = f .all; heard = record { refusal = f .refusal; down = take (f .bytes) d; pairs = f .pairs; all = false; words = f .words; kept = keptOf K g S (f .saved) } })
-      (taken g S) (fed (S .flow) d out)
+  seen : (g : Sent) (S : Kept) (out : List ℕ) → Past (look W g S out .heard .refusal)
+  seen g S out = by-look W g S out (λ l. Past (l .heard .refusal)) (λ e. taken g S) (λ e. fed (S .flow) (dueOf W g S) out)
 
-  all-seen : (k : ℕ) (g : Sent) (S : Kept) (out : List ℕ) → Past (looked k W K g S out .refusal)
+  all-seen : (k : ℕ) (g : Sent) (l : Look) → Past (l .heard .refusal) → Past (looked k W g l .heard .refusal)
   unfolding looked behind
-  all-seen zero g S out = inl refl
-  all-seen (suc k) g S out =
-      let h = look W K g S out .heard in
-      let rest = looked k W K g (h .kept) (drop (2 * h .pairs) (h .words)) in
-      past-heard (look W K g S out .on) (behind h rest) h (all-seen k g (h .kept) (drop (2 * h .pairs) (h .words))) (seen g S out)
+  all-seen zero g l p = p
+  all-seen (suc k) g l p =
+      let m = looked k W g l in
+      by-more W g (looked k W g l) (λ m. Past (m .heard .refusal)) (λ e. seen g (m .heard .kept) (drop (2 * m .heard .pairs) (m .heard .words))) (λ e. all-seen k g l p)
 
   -- the rules themselves, at no bytes
-  ruled : (R : List ℕ) → Past (verdict (W .rules R (K .offset R) []))
-  ruled R = elim (ℕ-discrete (verdict (W .rules R (K .offset R) [])) 0) [
+  ruled : (R : List ℕ) → Past (verdict (W .rules R (W .layout .offset R) []))
+  ruled R = elim (ℕ-discrete (verdict (W .rules R (W .layout .offset R) [])) 0) [
     | yes e ↦ inl e
-    | no e ↦ subst Past (ap (λ (o : Outcome). o .refusal) (unfed (W .engine) K R [] [] (W .rules R (K .offset R) []) e)) (fed R [] [])
+    | no e ↦ subst Past (ap (λ (o : Outcome). o .refusal) (unfed (W .engine) (W .layout) R [] [] (W .rules R (W .layout .offset R) []) e)) (fed R [] [])
   ]
 
-  pub segment-past : (g : Sent) (S : Kept) (out : List ℕ) → Past (feedSegment W K g S out .refusal)
+  pub segment-past : (g : Sent) (S : Kept) (out : List ℕ) → Past (feedSegment W g S out .refusal)
   unfolding feedSegment
   segment-past g S out =
-      past-heard (eqb (verdict (doorRules W K g S)) 0) (looked mostLooks W K g S out) (unheard (verdict (doorRules W K g S)) S out) (all-seen mostLooks g S out)
-      (past-door (badSizes (length (S .held)) (S .length) (length (g .bytes))) (W .rules (S .flow) (K .offset (S .flow)) []) (ruled (S .flow)))
+      all-seen mostLooks g (atDoor W g S out)
+      (past-door (badSizes (length (S .held)) (S .length) (length (g .bytes))) (W .rules (S .flow) (W .layout .offset (S .flow)) []) (ruled (S .flow)))

@@ -1,10 +1,12 @@
 -- What a list that compiling wrote is good for: it passes 1 to 3 in every entry point, and a flow under it tells exactly the pairs of the text's language.
 use Prim.Native.Nat.{ℕ, _+_, _*_, _≤_, _<_}
 use mathlib.Core.Path.{_≡_}
+use mathlib.Core.Bool.{true}
 use mathlib.Core.List.{List, _++_}
 use mathlib.Core.Logic.{_⊎_, _↔_}
 use lib.ListN.{length, take}
 use Rattle.lists.specs.List.{listRefusal}
+use Rattle.feeds.specs.Calls.{Bytes}
 use Rattle.feeds.specs.Pairs.{Pair, Before}
 use Rattle.plain.specs.Plain.{openFlow, plainFeed}
 use Rattle.tables.specs.Table.{Table, tableRefusal}
@@ -15,10 +17,12 @@ use Rattle.build.specs.Build.{Building, Builds}
 use Rattle.certificates.specs.Certificate.{certificateRefusal}
 use Rattle.segments.specs.Segment.{Sent, Kept, Heard}
 use Rattle.segments.specs.Ways.{plainSegment, splitSegment}
-use Rattle.demands.specs.Calls.{Call}
-use Rattle.demands.specs.Demands.{openTold, bytesOf, wordsOf, InBytes, Each, Swaps}
-use Rattle.texts.specs.Grammar.{Text}
+use Rattle.feeds.specs.Demands.{openTold}
+use Rattle.demands.specs.Calls.{Call, bytesOf, wordsOf, InBytes, Each}
+use Rattle.demands.specs.Demands.{Swaps}
+use Rattle.texts.specs.Grammar.{Text, okBody, textReads}
 use Rattle.compile.specs.declared.Compiled.{Compiled}
+use Rattle.compile.specs.Compile.{Compiles}
 use Rattle.languages.specs.Language.{EndsIn, RecordsRise}
 
 -- the list that compiling answered: so many bytes of the lent one
@@ -56,3 +60,9 @@ pub record Serves (x : Text) (g : ℕ) (L : List ℕ) : Type 0 where
   -- a flow opened on L and fed by any calls, cut anywhere: plain, through tables that the check accepts, by the filler's matrix, with refused calls between
   pub tells : (R out : List ℕ) → openFlow L R out .refusal ≡ 0 → (cs : List Call) → InBytes cs → Each (Swaps L) (openFlow L R out .saved) cs
       → Tells x g (bytesOf (openFlow L R out .saved) cs) (openTold (openFlow L R out) ++ wordsOf (openFlow L R out .saved) cs)
+
+-- where compiling T under the signature g, into the lent list A, answered r without a refusal and left B: its front is a list for the language of the text's reading
+abbrev pub CompiledServes : Type 0
+CompiledServes =
+    (T : List ℕ) (g : ℕ) (A : List ℕ) (r : Compiled) (B : List ℕ) → Bytes T → g < 256 → Compiles T g A r B → r .refusal ≡ 0
+    → (x : Text) × ((okBody (x .body) ≡ true) × (textReads x ≡ T)) × Serves x g (front r B)

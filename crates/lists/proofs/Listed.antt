@@ -13,6 +13,7 @@ use Rattle.sets.specs.Set.{states, signatures}
 use Rattle.sets.proofs.Sets.{or-false}
 use Rattle.rules.specs.Rules.{Refuses}
 use Rattle.lists.specs.List.{recordSize, mostRecords, records, byteOf, isEdge, isStart, isAccept, low, high, from, target, zeros, goodEdge, goodStart, goodAccept, goodRecord, badLength, badRecord, noStart, listRules, listRefusal}
+use Rattle.lists.specs.Words.{Edge-bytes, Start-bytes, Accept-bytes}
 use Rattle.rules.proofs.Scanning.{both, choose, either-words, equal-words, every-at, every-all, length-words, some-none, none-some, refuses-exactly}
 use Rattle.rules.proofs.Rules.{refuses}
 
@@ -131,27 +132,6 @@ zero-or-one x = (there x, λ s. choose s (λ e. omega (arith, e)) (λ e. omega (
     there : (x : ℕ) → x ≤ 1 → (x ≡ 0) ⊎ (x ≡ 1)
     there zero h = inl refl
     there (suc x) h = inr (omega (arith, h))
-
--- 1, edge: 1 low, 2 high, 3 zero or 1, 4-5 from, 6-7 to
-pub record Edge-bytes (L : List ℕ) (i : ℕ) : Type 0 where
-  pub kind : getD L (8 * i) 0 ≡ 1
-  pub order : getD L (8 * i + 1) 0 ≤ getD L (8 * i + 2) 0
-  pub flag : (getD L (8 * i + 3) 0 ≡ 0) ⊎ (getD L (8 * i + 3) 0 ≡ 1)
-  pub state : getD L (8 * i + 4) 0 + 256 * getD L (8 * i + 5) 0 < states
-  pub next : getD L (8 * i + 6) 0 + 256 * getD L (8 * i + 7) 0 < states
-
--- 2, start: 1-5 zero, 6-7 state
-pub record Start-bytes (L : List ℕ) (i : ℕ) : Type 0 where
-  pub kind : getD L (8 * i) 0 ≡ 2
-  pub reserved : (k : ℕ) → 1 ≤ k → k ≤ 5 → getD L (8 * i + k) 0 ≡ 0
-  pub state : getD L (8 * i + 6) 0 + 256 * getD L (8 * i + 7) 0 < states
-
--- 3, accept: 1-3 zero, 4-5 state, 6-7 signature
-pub record Accept-bytes (L : List ℕ) (i : ℕ) : Type 0 where
-  pub kind : getD L (8 * i) 0 ≡ 3
-  pub reserved : (k : ℕ) → 1 ≤ k → k ≤ 3 → getD L (8 * i + k) 0 ≡ 0
-  pub state : getD L (8 * i + 4) 0 + 256 * getD L (8 * i + 5) 0 < states
-  pub signature : getD L (8 * i + 6) 0 + 256 * getD L (8 * i + 7) 0 < signatures
 
 module _ (L : List ℕ) (i : ℕ) where
   edge-bytes : goodEdge L i ≡ true ↔ Edge-bytes L i

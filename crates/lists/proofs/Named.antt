@@ -21,6 +21,7 @@ use Rattle.lists.specs.List.{records, byteOf, isEdge, isStart, isAccept,
 use Rattle.lists.specs.Automaton.{start, step, namesFrom, namesTarget, withNamed, namedBy, named}
 use Rattle.lists.specs.Survey.{Surveys}
 use Rattle.lists.specs.declared.Survey.{Survey}
+use Rattle.lists.specs.Words.{Names-bytes}
 use Rattle.lists.proofs.Listed.{kind-edge, kind-start, kind-accept, from-bytes, target-bytes}
 use Rattle.lists.proofs.Steps.{start-exactly, step-exactly}
 
@@ -66,13 +67,6 @@ by-exactly L n s = (there, back)
 -- s is named exactly when some record names it; a signature names nothing
 pub named-exactly : (L : List ℕ) (s : ℕ) → holds (named L) s ≡ true ↔ ((s < states) × ((i : ℕ) × (i < records L) × Names L i s))
 named-exactly L s = by-exactly L (records L) s
-
--- byte by byte: an edge, 1, at bytes 4-5 and 6-7; a start, 2, at bytes 6-7; an accept, 3, at bytes 4-5
-abbrev pub Names-bytes : List ℕ → ℕ → ℕ → Type 0
-Names-bytes L i s =
-    ((getD L (8 * i) 0 ≡ 1) × ((getD L (8 * i + 4) 0 + 256 * getD L (8 * i + 5) 0 ≡ s) ⊎ (getD L (8 * i + 6) 0 + 256 * getD L (8 * i + 7) 0 ≡ s)))
-    ⊎ (((getD L (8 * i) 0 ≡ 2) × (getD L (8 * i + 6) 0 + 256 * getD L (8 * i + 7) 0 ≡ s))
-    ⊎ ((getD L (8 * i) 0 ≡ 3) × (getD L (8 * i + 4) 0 + 256 * getD L (8 * i + 5) 0 ≡ s)))
 
 pub names-bytes : (L : List ℕ) (i s : ℕ) → Names L i s ↔ Names-bytes L i s
 names-bytes L i s =

@@ -17,12 +17,8 @@ use Rattle.lists.specs.Automaton.{exchanged, between, edge, leaves, star
 use Rattle.rules.proofs.Scanning.{and-false, both, either-words, every-at, gather-exactly, gather-lt, gather-none, gather-join}
 use Rattle.rules.proofs.Rules.{passes}
 use Rattle.lists.proofs.Letters.{between-words}
+use Rattle.lists.specs.Words.{Takes}
 use Rattle.lists.proofs.Listed.{good-edge, good-accept, edge-good, accept-good}
-
--- byte c takes edge record i: it lies between low and high or, where byte 3 is 1, its exchanged partner does
-pub record Takes (L : List ℕ) (c i : ℕ) : Type 0 where
-  pub kind : isEdge L i ≡ true
-  pub range : ((low L i ≤ c) × (c ≤ high L i)) ⊎ ((byteOf L i 3 ≡ 1) × (low L i ≤ exchanged c) × (exchanged c ≤ high L i))
 
 pub edge-exactly : (L : List ℕ) (c i : ℕ) → edge L c i ≡ true ↔ Takes L c i
 edge-exactly L c i = (there, λ t. rw (t .kind) (range .1 (t .range)))

@@ -1,3 +1,4 @@
 pub mod List
 pub mod Automaton
 pub mod Survey
+pub mod Words

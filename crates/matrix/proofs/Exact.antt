@@ -78,7 +78,7 @@ module _ (L : List ℕ) where
       }
 
 -- 8 does not refuse it
-same-verdict : (L R : List ℕ) (at : ℕ) (piece : List ℕ) → verdict (matrixRules L (filled L) R at piece) ≡ verdict (feedRules L R at piece)
+pub same-verdict : (L R : List ℕ) (at : ℕ) (piece : List ℕ) → verdict (matrixRules L (filled L) R at piece) ≡ verdict (feedRules L R at piece)
 same-verdict L R at piece =
     elim (ℕ-discrete (verdict (feedRules L R at piece)) 0) [
       | yes z ↦ verdict-then (feedRules L R at piece) ((8, wrongMatrix L (filled L)) ∷ []) refl z ∙ last 8 (ap not (eq-eqb _ _ (filled-long L))) ∙ sym z

@@ -10,3 +10,4 @@ pub mod Feeding
 pub mod Exact
 pub mod Joining
 pub mod Unique
+pub mod Lawful

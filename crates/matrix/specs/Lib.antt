@@ -1,3 +1,4 @@
 pub mod Matrix
 pub mod Filling
 pub mod Stepped
+pub mod Means

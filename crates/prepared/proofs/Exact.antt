@@ -38,7 +38,7 @@ module _ (L : List ℕ) (b : ℕ) (T : Table) (a : said.Accepted L b T) where
   index-good = rw (lists-good T (a .lengths) .0, lists-good T (a .lengths) .1, eq-eqb (length (filledIndex L T)) (entryPlace (splitCount (T .splits))) (filled-length L T))
 
   -- only the flow can be refused, by either feed
-  same-verdict : (R : List ℕ) (at : ℕ) (piece : List ℕ) → verdict (preparedRules (T .classes) (T .splits) (filledIndex L T) R at piece) ≡ verdict (splitRules L b T R at piece)
+  pub same-verdict : (R : List ℕ) (at : ℕ) (piece : List ℕ) → verdict (preparedRules (T .classes) (T .splits) (filledIndex L T) R at piece) ≡ verdict (splitRules L b T R at piece)
   same-verdict R at piece =
       let z : verdict (risingRules b T) ≡ 0 = sym (ordered-passes b T (skip 7 _ (a .bound) ∙ last 8 (a .lengths)) (every-all (splitCount (T .splits)) (inOrder (T .splits)) (a .ordered))) in
       verdict-front (flowRules (knownIn (filledIndex L T) (frontierOf R)) R at piece) _ refl (last 8 index-good)

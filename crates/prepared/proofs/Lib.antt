@@ -4,3 +4,4 @@ pub mod TellingSplits
 pub mod Feeding
 pub mod InWords
 pub mod Ready
+pub mod Lawful

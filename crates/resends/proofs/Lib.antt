@@ -1,5 +1,6 @@
 pub mod Circle
 pub mod Parts
 pub mod Words
+pub mod Before
 pub mod Streams
 pub mod Unique

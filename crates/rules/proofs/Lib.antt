@@ -1,3 +1,4 @@
 pub mod Scanning
 pub mod Stacks
 pub mod Rules
+pub mod Saying

@@ -2,29 +2,29 @@
 use Prim.Native.Nat.{ℕ, zero, suc, _+_, _-_, _*_, _%_, _≤_, _<_}
 use mathlib.Core.Path.{_≡_, refl, sym, ap, _∙_}
 use mathlib.Core.Bool.{Bool, true, false, _&&_, _||_, not, cond, true≢false}
-use mathlib.Core.List.{List, [], _∷_, _++_}
+use mathlib.Core.List.{List, [], _++_}
 use native.Mathlib.Omega.{arith}
-use native.Mathlib.Decide.{decLt, ℕ-discrete}
-use lib.ListN.{length, take, drop, length-take, length-drop, length-append}
+use native.Mathlib.Decide.{decLt}
+use lib.ListN.{length, take, drop, length-take, length-drop}
 use lib.Dec.{ltb, eqb}
 use borrow.Author.Tests.{lt-ltb, le-ltb, eqb-true, eqb-false}
 use Rattle.rules.proofs.Scanning.{and-false, both, neither}
 use Rattle.rules.specs.Rules.{verdict}
 use Rattle.rules.proofs.Rules.{passes-front}
-use Rattle.feeds.specs.Engine.{Layout, Outcome, mostOffset, room, run, costs, consumed, ended}
-use Rattle.feeds.proofs.Going.{unfed}
-use Rattle.feeds.proofs.Moves.{feed-ends}
-use Rattle.flows.specs.Flow.{flowLayout, frontierOf, offsetOf, rowsOf, feedRules}
+use Rattle.feeds.specs.Engine.{mostOffset, run, costs, ended}
+use Rattle.feeds.specs.Calls.{Way, fedBy}
+use Rattle.feeds.proofs.Whole.{by-feed}
+use Rattle.flows.specs.Flow.{feedRules}
 use Rattle.flows.proofs.Records.{offset-flow}
 use Rattle.flows.proofs.Passing.{feed-passes}
 use Rattle.tables.specs.Table.{Table, risingRules}
-use Rattle.resends.specs.Resend.{circle, half, mostSegment, heldSize, distance, ahead, hasNext, allBefore, badSizes, early, full, upTo, Held, taking, due}
-use Rattle.resends.proofs.Circle.{distance-back, distance-leads, ahead-more}
+use Rattle.resends.specs.Resend.{circle, half, mostSegment, heldSize, distance, ahead, hasNext, allBefore, badSizes, early, upTo, Held, taking, due}
+use Rattle.resends.proofs.Circle.{distance-back, distance-leads}
 use Rattle.resends.proofs.Parts.{has-bound, sizes-good, up-to-most, due-bad, due-held, due-seg, due-none, refuses, take-refused, take-kept, take-other}
 use Rattle.resends.proofs.Streams.{before-not-next, ahead-not-next, neither-ahead}
-use Rattle.segments.specs.Segment.{Way, Sent, Kept, Heard, Look, nextOf, takeOf, dueOf, fedOf, keptOf, look, behind, looked, mostLooks}
-use Rattle.segments.specs.Ways.{wayBy}
-use Rattle.segments.proofs.Looking.{by-look, look-idle, looked-on, looked-off}
+use Rattle.segments.specs.Segment.{Sent, Kept, Look, nextOf, takeOf, dueOf, look, behind, more, looked, mostLooks}
+use Rattle.segments.specs.Ways.{plainWay, splitWay}
+use Rattle.segments.proofs.Looking.{by-look, look-idle, by-more, more-off}
 
 -- ---- how many looks a segment can still need
 
@@ -241,97 +241,103 @@ fewer next held p n q seg ln lp lq good = go (refuses next held p n q seg) refl 
 
 -- ---- more looks hear no more
 
--- a way by which a look that goes on moves the offset by all that was due
-abbrev pub Moves : {C : Type 0} → Way C → Layout C → Sent → Type 0
-Moves W K g = (S : Kept) (out : List ℕ) → look W K g S out .on ≡ true → K .offset (look W K g S out .heard .kept .flow) ≡ K .offset (S .flow) + length (dueOf K g S)
+-- a way that reads again the offset that it saved, up to the largest, and whose rules let no piece go past that
+pub record Steady (W : Way) : Type 0 where
+  pub reads : (x : W .Config) (k n : ℕ) → k ≤ mostOffset → W .layout .offset (W .layout .save x k n) ≡ k
+  pub short : (R : List ℕ) (at : ℕ) (piece : List ℕ) → verdict (W .rules R at piece) ≡ 0 → W .layout .offset R + length piece ≤ mostOffset
 
 -- sizes are good, and the held place has a number
 abbrev pub Sized : Sent → Kept → Type 0
 Sized g S = (badSizes (length (S .held)) (S .length) (length (g .bytes)) ≡ false) × (S .start < circle)
 
-module _ {C : Type 0} (W : Way C) (K : Layout C) (g : Sent) (lq : g .start < circle) (moves : Moves W K g) where
+module _ (W : Way) (steady : Steady W) (g : Sent) where
+  -- a feed that says all moves the offset by its whole piece
+  fed-on : (R : List ℕ) (at : ℕ) (piece out : List ℕ) → fedBy W R at piece out .all ≡ true → W .layout .offset (fedBy W R at piece out .saved) ≡ W .layout .offset R + length piece
+  unfolding ended
+  fed-on R at piece out =
+      by-feed (W .rules R at piece) (W .engine) (W .layout) R piece out (λ o. o .all ≡ true → W .layout .offset (o .saved) ≡ W .layout .offset R + length piece)
+      (λ v n t.
+      let all : length (take n piece) ≡ length piece = eqb-true (length (take n piece)) (length piece) t in
+      steady .reads (run (W .engine) (W .layout .config R) (take n piece)) (W .layout .offset R + length (take n piece)) (W .layout .rows R + costs (W .engine) (W .layout .config R) (take n piece))
+      (omega (arith, all, steady .short R at piece v))
+      ∙ ap (λ (m : ℕ). W .layout .offset R + m) all)
+      (λ v t. absurd (true≢false (sym t)))
+
+  -- so a look that goes on moves it by all that was due
+  look-on : (S : Kept) (out : List ℕ) → look W g S out .on ≡ true → W .layout .offset (look W g S out .heard .kept .flow) ≡ W .layout .offset (S .flow) + length (dueOf W g S)
+  look-on S out =
+      by-look W g S out (λ l. l .on ≡ true → W .layout .offset (l .heard .kept .flow) ≡ W .layout .offset (S .flow) + length (dueOf W g S))
+      (λ e t. absurd (true≢false (sym t))) (λ e. fed-on (S .flow) (W .layout .offset (S .flow)) (dueOf W g S) out)
+
+module _ (W : Way) (steady : Steady W) (g : Sent) (lq : g .start < circle) where
   abbrev needs : Kept → ℕ
-  needs S = need (nextOf K g S) (S .start) (S .length) (g .start) (length (g .bytes))
+  needs S = need (nextOf W g S) (S .start) (S .length) (g .start) (length (g .bytes))
 
   -- a look that goes on: the sizes stay good, and fewer are needed
-  on-fewer : (S : Kept) (out : List ℕ) → Sized g S → look W K g S out .on ≡ true
-      → Sized g (look W K g S out .heard .kept) × (needs (look W K g S out .heard .kept) < needs S)
+  on-fewer : (S : Kept) (out : List ℕ) → Sized g S → look W g S out .on ≡ true
+      → Sized g (look W g S out .heard .kept) × (needs (look W g S out .heard .kept) < needs S)
   on-fewer S out z t =
-      let m = moves S out t in
-      let f = fewer (nextOf K g S) (S .held) (S .start) (S .length) (g .start) (g .bytes) (omega arith) (z .1) lq (z .0) (busy-due t) in
+      let m = look-on W steady g S out t in
+      let f = fewer (nextOf W g S) (S .held) (S .start) (S .length) (g .start) (g .bytes) (omega arith) (z .1) lq (z .0) (busy-due t) in
       ((rw (kept-held, kept-length) (f .0), rw kept-start (f .1)), rw (kept-start, kept-length, next-is m) (f .2))
     where
-      busy-due : look W K g S out .on ≡ true → length (dueOf K g S) ≡ 0 → ⊥
-      busy-due t e = true≢false (sym t ∙ ap (λ (l : Look). l .on) (look-idle W K g S out e))
+      busy-due : look W g S out .on ≡ true → length (dueOf W g S) ≡ 0 → ⊥
+      busy-due t e = true≢false (sym t ∙ ap (λ (l : Look). l .on) (look-idle W g S out e))
 
-      kept-start : look W K g S out .heard .kept .start ≡ takeOf K g S .start
-      kept-start = by-look W K g S out (λ l. l .heard .kept .start ≡ takeOf K g S .start) (λ e. refl) (λ e. refl)
+      kept-start : look W g S out .heard .kept .start ≡ takeOf W g S .start
+      kept-start = by-look W g S out (λ l. l .heard .kept .start ≡ takeOf W g S .start) (λ e. refl) (λ e. refl)
 
-      kept-length : look W K g S out .heard .kept .length ≡ takeOf K g S .length
-      kept-length = by-look W K g S out (λ l. l .heard .kept .length ≡ takeOf K g S .length) (λ e. refl) (λ e. refl)
+      kept-length : look W g S out .heard .kept .length ≡ takeOf W g S .length
+      kept-length = by-look W g S out (λ l. l .heard .kept .length ≡ takeOf W g S .length) (λ e. refl) (λ e. refl)
 
-      kept-held : look W K g S out .heard .kept .held ≡ takeOf K g S .bytes
-      kept-held = by-look W K g S out (λ l. l .heard .kept .held ≡ takeOf K g S .bytes) (λ e. refl) (λ e. refl)
+      kept-held : look W g S out .heard .kept .held ≡ takeOf W g S .bytes
+      kept-held = by-look W g S out (λ l. l .heard .kept .held ≡ takeOf W g S .bytes) (λ e. refl) (λ e. refl)
 
-      next-is : K .offset (look W K g S out .heard .kept .flow) ≡ K .offset (S .flow) + length (dueOf K g S)
-          → nextOf K g (look W K g S out .heard .kept) ≡ (nextOf K g S + length (dueOf K g S)) % circle
+      next-is : W .layout .offset (look W g S out .heard .kept .flow) ≡ W .layout .offset (S .flow) + length (dueOf W g S)
+          → nextOf W g (look W g S out .heard .kept) ≡ (nextOf W g S + length (dueOf W g S)) % circle
       next-is m = rw m (omega arith)
 
-  one-more : (k : ℕ) (S : Kept) (out : List ℕ) → Sized g S → needs S ≤ k → looked (suc k) W K g S out ≡ looked k W K g S out
-  one-more zero S out z l = absurd (omega (arith, l, need-some (nextOf K g S) (S .start) (S .length) (g .start) (length (g .bytes))))
-  one-more (suc k) S out z l = go (look W K g S out .on) refl (λ t. one-more k h' rest (on-fewer S out z t .0) (omega (arith, l, on-fewer S out z t .1)))
+  -- while looks go on each needs one fewer
+  going : (k : ℕ) (l : Look) → Sized g (l .heard .kept) → looked k W g l .on ≡ true
+      → Sized g (looked k W g l .heard .kept) × (needs (looked k W g l .heard .kept) + k ≤ needs (l .heard .kept))
+  unfolding looked behind
+  going zero l z t = (z, omega arith)
+  going (suc k) l z t =
+      let a = looked k W g l in
+      by-more W g (looked k W g l) (λ m. m .on ≡ true → Sized g (m .heard .kept) × (needs (m .heard .kept) + suc k ≤ needs (l .heard .kept)))
+      (λ e t.
+      let s = going k l z e in
+      let q = on-fewer (a .heard .kept) (drop (2 * a .heard .pairs) (a .heard .words)) (s .0) t in (q .0, omega (arith, q .1, s .1)))
+      (λ e t. absurd (true≢false (sym t ∙ e))) t
+
+  -- after four looks nothing is due, or a feed has not consumed all that was
+  pub none-follows : (l : Look) → Sized g (l .heard .kept) → looked mostLooks W g l .on ≡ false
+  none-follows l z = go (looked mostLooks W g l .on) refl
     where
-      h' : Kept
-      h' = look W K g S out .heard .kept
+      go : (b : Bool) → looked mostLooks W g l .on ≡ b → looked mostLooks W g l .on ≡ false
+      go false e = e
+      go true e =
+          let S = looked mostLooks W g l .heard .kept in
+          let f = going mostLooks l z e .1 in
+          absurd (omega (
+            arith,
+            f,
+            need-some (nextOf W g S) (S .start) (S .length) (g .start) (length (g .bytes)),
+            need-most (nextOf W g (l .heard .kept)) (l .heard .kept .start) (l .heard .kept .length) (g .start) (length (g .bytes)),
+          ))
 
-      rest : List ℕ
-      rest = drop (2 * look W K g S out .heard .pairs) (look W K g S out .heard .words)
-
-      go : (b : Bool) → look W K g S out .on ≡ b → (look W K g S out .on ≡ true → looked (suc k) W K g h' rest ≡ looked k W K g h' rest)
-          → looked (suc (suc k)) W K g S out ≡ looked (suc k) W K g S out
-      go true t ih = looked-on W K g (suc k) S out t ∙ ap (behind (look W K g S out .heard)) (ih t) ∙ sym (looked-on W K g k S out t)
-      go false t ih = looked-off W K g (suc k) S out t ∙ sym (looked-off W K g k S out t)
-
-  -- after four looks nothing is due, or a feed has not consumed all that was: more looks hear the same
-  pub enough : (S : Kept) (out : List ℕ) → Sized g S → (k : ℕ) → looked (mostLooks + k) W K g S out ≡ looked mostLooks W K g S out
-  enough S out z zero = refl
-  enough S out z (suc k) =
+  -- however many more looks there were, nothing more would be heard
+  pub enough : (l : Look) → Sized g (l .heard .kept) → (k : ℕ) → looked (mostLooks + k) W g l ≡ looked mostLooks W g l
+  unfolding looked
+  enough l z zero = refl
+  enough l z (suc k) =
       let e : mostLooks + suc k ≡ suc (mostLooks + k) = omega arith in
-      ap (λ (n : ℕ). looked n W K g S out) e
-      ∙ one-more (mostLooks + k) S out z (omega (arith, need-most (nextOf K g S) (S .start) (S .length) (g .start) (length (g .bytes)))) ∙ enough S out z k
+      ap (λ (n : ℕ). looked n W g l) e ∙ ap (more W g) (enough l z k) ∙ more-off W g (looked mostLooks W g l) (none-follows l z)
 
--- ---- over the plain feed and over the split feed
+-- ---- the ways
 
-way-passes : (flag : Bool) (L : List ℕ) (b : ℕ) (T : Table) (R : List ℕ) (at : ℕ) (piece : List ℕ) → verdict (wayBy flag L b T .rules R at piece) ≡ 0
-    → offsetOf R + length piece ≤ mostOffset
-way-passes true L b T R at piece v = feed-passes L R at piece (passes-front (feedRules L R at piece) (risingRules b T) v) .2
-way-passes false L b T R at piece v = feed-passes L R at piece v .2
+pub plain-steady : (L : List ℕ) → Steady (plainWay L)
+plain-steady L = record { reads = offset-flow; short = λ R at piece v. feed-passes L R at piece v .2 }
 
-moves-by : (flag : Bool) (L : List ℕ) (b : ℕ) (T : Table) (g : Sent) → Moves (wayBy flag L b T) flowLayout g
-unfolding ended
-moves-by flag L b T g S out =
-    by-look (wayBy flag L b T) flowLayout g S out (λ l. l .on ≡ true → offsetOf (l .heard .kept .flow) ≡ offsetOf (S .flow) + length (dueOf flowLayout g S))
-    (λ e t. absurd (true≢false (sym t)))
-    (λ e t.
-    elim (ℕ-discrete (verdict (wayBy flag L b T .rules (S .flow) (offsetOf (S .flow)) (dueOf flowLayout g S))) 0) [
-      | yes v ↦ fed v t
-      | no n ↦ absurd (true≢false (sym t ∙ ap (λ (o : Outcome). o .all) (unfed (wayBy flag L b T .engine) flowLayout (S .flow) (dueOf flowLayout g S) out (wayBy flag L b T .rules (S .flow) (offsetOf (S .flow)) (dueOf flowLayout g S)) n)))
-    ])
-  where
-    fed : verdict (wayBy flag L b T .rules (S .flow) (offsetOf (S .flow)) (dueOf flowLayout g S)) ≡ 0 → fedOf (wayBy flag L b T) flowLayout g S out .all ≡ true
-        → offsetOf (fedOf (wayBy flag L b T) flowLayout g S out .saved) ≡ offsetOf (S .flow) + length (dueOf flowLayout g S)
-    fed v t =
-        let E = wayBy flag L b T .engine in
-        let ds = dueOf flowLayout g S in
-        let F = take (consumed (wayBy flag L b T .engine) (frontierOf (S .flow)) (room out) (dueOf flowLayout g S)) (dueOf flowLayout g S) in
-        let e = feed-ends (wayBy flag L b T .engine) flowLayout (S .flow) (wayBy flag L b T .rules (S .flow) (offsetOf (S .flow)) (dueOf flowLayout g S)) (dueOf flowLayout g S) out v in
-        let all : length F ≡ length ds = eqb-true (length F) (length ds) (sym (ap (λ (o : Outcome). o .all) e) ∙ t) in
-        ap (λ (o : Outcome). offsetOf (o .saved)) e
-        ∙ offset-flow (run E (frontierOf (S .flow)) F) (offsetOf (S .flow) + length F) (rowsOf (S .flow) + costs E (frontierOf (S .flow)) F)
-        (omega (arith, all, way-passes flag L b T (S .flow) (offsetOf (S .flow)) (dueOf flowLayout g S) v))
-        ∙ ap (λ (n : ℕ). offsetOf (S .flow) + n) all
-
--- however many more looks there were, by the list or through the table, nothing more would be heard
-pub enough-by : (flag : Bool) (L : List ℕ) (b : ℕ) (T : Table) (g : Sent) (S : Kept) (out : List ℕ) → g .start < circle → Sized g S
-    → (k : ℕ) → looked (mostLooks + k) (wayBy flag L b T) flowLayout g S out ≡ looked mostLooks (wayBy flag L b T) flowLayout g S out
-enough-by flag L b T g S out lq z = enough (wayBy flag L b T) flowLayout g lq (moves-by flag L b T g) S out z
+pub split-steady : (L : List ℕ) (b : ℕ) (T : Table) → Steady (splitWay L b T)
+split-steady L b T = record { reads = offset-flow; short = λ R at piece v. feed-passes L R at piece (passes-front (feedRules L R at piece) (risingRules b T) v) .2 }

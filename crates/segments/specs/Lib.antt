@@ -1,3 +1,5 @@
 pub mod Segment
 pub mod Ways
 pub mod Post
+pub mod Calls
+pub mod Streamed

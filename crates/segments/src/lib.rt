@@ -1,21 +1,22 @@
-// Feeding a flow by segments: each look takes the segment and feeds what is due, until nothing is due or there is no room.
+// Feeding a flow by segments: each look takes the segment and feeds what is due, until nothing is due or there is no room. What a segment does around the
+// feed knows no engine; each engine has one look, with its own feed in it, and the function that makes the looks.
 use feeds::Fed;
+use resends::Held;
 ghost use mathlib.Core.Path.{_≡_};
-ghost use mathlib.Core.List.{[], _∷_};
-ghost use Prim.Native.Nat.{_+_, _%_};
+ghost use mathlib.Core.Bool.{cond};
+ghost use Prim.Native.Nat.{_+_, _%_, _≤_};
 ghost use lib.ListN.{length};
-ghost use Rattle.rules.specs.Rules.{verdict};
-ghost use Rattle.feeds.specs.Engine.{feed};
-ghost use Rattle.feeds.specs.Fed.{Answers};
-ghost use Rattle.flows.specs.Flow.{flowLayout, offsetOf};
+ghost use Rattle.flows.specs.Flow.{offsetOf};
 ghost use Rattle.tables.specs.Table.{table};
-ghost use Rattle.resends.specs.Resend.{circle};
-ghost use Rattle.segments.specs.Segment.{look, looked, mostLooks, doorRules, feedSegment};
-ghost use Rattle.segments.specs.Ways.{wayBy, plainSegment, splitSegment};
-ghost use Rattle.segments.specs.Post.{Hears, Looks, sent, kept};
+ghost use Rattle.resends.specs.Resend.{circle, badSizes};
+ghost use Rattle.segments.specs.Ways.{plainWay, splitWay, plainSegment, splitSegment};
+ghost use Rattle.segments.specs.Post.{Hears, More, Roomy, sent, kept, begunAs, idleAs, busyAs, heardAs};
 
 // As many looks as a segment can need.
 const MOST_LOOKS: usize = 4;
+
+// As many numbers as there are.
+const CIRCLE: u64 = 4294967296;
 
 // What feeding a segment answers: a refusal's number or 0, the bytes passed down, the pairs told, whether nothing is due any more, and the held place
 // at exit. Where neither is there a refusal nor is nothing due, the pairs had no room: take them, and hand in the same segment again.
@@ -28,7 +29,7 @@ pub struct Heard {
     pub length: u32,
 }
 
-// What one look answers: the same, and whether another follows.
+// What is heard so far: the same, and whether a look follows.
 struct Looked {
     on: bool,
     refusal: u32,
@@ -39,6 +40,8 @@ struct Looked {
     length: u32,
 }
 
+// ---- around the feed
+
 // The offset of a record.
 pub fn offset_of(flow: &[u8]) -> u64
     ensures { λ r. ⌜ r ≡ offsetOf (now (flow .entry)) ⌝ }
@@ -46,279 +49,114 @@ pub fn offset_of(flow: &[u8]) -> u64
     sets::number_at(flow, sets::BYTES, 4)
 }
 
-// The number of the next byte, where the flow's first byte has number `first`.
-fn next_of(first: u32, flow: &[u8]) -> u32
-    ensures { λ r. ⌜ r ≡ (first + offsetOf (now (flow .entry))) % circle ⌝ }
+// The number of the byte at an offset, where the flow's first byte has number `first`.
+fn next_of(first: u32, offset: u64) -> u32
+    ensures { λ r. ⌜ r ≡ (first + offset) % circle ⌝ }
 {
-    std::num::wrapping_add_u32(first, offset_of(flow) as u32)
+    std::num::wrapping_add_u32(first, (offset % CIRCLE) as u32)
 }
 
-// Feeds a piece through the table where the flag says so, else by the list alone.
-fn feed_by(
-    list: &[u8],
-    bound: u64,
-    classes: &[u8],
-    parts: &[u8],
-    rows: &[u8],
-    splits: &[u8],
-    through: bool,
-    flow: &mut [u8],
-    start: u64,
-    piece: &[u8],
-    pairs: &mut [u32],
-) -> Fed
-    ensures { λ r. ⌜ Answers (feed (wayBy through (now (list .entry)) bound (table (now (classes .entry)) (now (parts .entry)) (now (rows .entry)) (now (splits .entry)))
-        .rules (now (flow .entry)) start (now (piece .entry)))
-        (wayBy through (now (list .entry)) bound (table (now (classes .entry)) (now (parts .entry)) (now (rows .entry)) (now (splits .entry))) .engine)
-        flowLayout (now (flow .entry)) (now (piece .entry)) (now (pairs .entry))) r (now (pairs .exit)) (now (flow .exit)) ⌝ }
+// The refusal at the door, by the sizes and the refusal of a feed of no bytes: 18 for the sizes first.
+fn door(met: u32, held_size: usize, held_length: u32, size: usize) -> u32
+    ensures { λ r. ⌜ r ≡ cond (badSizes «held_size» «held_length» size) 18 met ⌝ }
 {
-    if through {
-        return splits::feed(
-            list,
-            bound,
-            classes,
-            parts,
-            rows,
-            splits,
-            flow,
-            start,
-            piece,
-            pairs,
-        );
+    if resends::bad_sizes(held_size, held_length as usize, size) {
+        return resends::NOT_TAKEN;
     }
-    plain::feed(list, flow, start, piece, pairs)
+    met
 }
 
-// One look at a segment: it is taken, and what is then due is fed.
-fn look(
-    list: &[u8],
-    bound: u64,
-    classes: &[u8],
-    parts: &[u8],
-    rows: &[u8],
-    splits: &[u8],
-    through: bool,
-    first: u32,
-    flow: &mut [u8],
-    held: &mut [u8],
-    held_start: u32,
-    held_length: u32,
-    start: u32,
-    segment: &[u8],
-    pairs: &mut [u32],
-) -> Looked
-    ensures { λ r. ⌜ Looks (look (wayBy through (now (list .entry)) bound (table (now (classes .entry)) (now (parts .entry)) (now (rows .entry)) (now (splits .entry))))
-        flowLayout (sent first start (now (segment .entry))) (kept (now (flow .entry)) (now (held .entry)) «held_start» «held_length») (now (pairs .entry)))
-        r (now (pairs .exit)) (now (flow .exit)) (now (held .exit)) ⌝ }
+// A segment at the door: nothing is heard yet, and a look follows where there is no refusal.
+fn begun(refusal: u32, held_start: u32, held_length: u32) -> Looked
+    ensures { λ r. ⌜ r ≡ begunAs refusal «held_start» «held_length» ⌝ }
 {
-    let next = next_of(first, flow);
-    let taken = resends::take(next, held, held_start, held_length, start, segment);
-    let due = resends::due(next, held, taken.start, taken.length, start, segment);
-    if due.len() == 0 {
-        return Looked {
-            on: false,
-            refusal: taken.refusal,
-            bytes: 0,
-            pairs: 0,
-            all: taken.refusal == rules::PASSED,
-            start: taken.start,
-            length: taken.length,
-        };
+    Looked {
+        on: refusal == rules::PASSED,
+        refusal: refusal,
+        bytes: 0,
+        pairs: 0,
+        all: false,
+        start: held_start,
+        length: held_length,
     }
-    let at = offset_of(flow);
-    let fed = feed_by(
-        list,
-        bound,
-        classes,
-        parts,
-        rows,
-        splits,
-        through,
-        flow,
-        at,
-        due,
-        pairs,
-    );
+}
+
+// After a look that found nothing due: what taking the segment answered.
+fn idle(so: Looked, taken: Held) -> Looked
+    ensures { λ r. ⌜ r ≡ idleAs so taken ⌝ }
+{
+    Looked {
+        on: false,
+        refusal: taken.refusal,
+        bytes: so.bytes,
+        pairs: so.pairs,
+        all: taken.refusal == rules::PASSED,
+        start: taken.start,
+        length: taken.length,
+    }
+}
+
+// After a look that fed what was due: what the feed answered, behind what was heard before.
+fn busy(so: Looked, taken: Held, fed: Fed) -> Looked
+    requires { ⌜ (so .bytes + fed .bytes ≤ 18446744073709551615) × (so .pairs + fed .pairs ≤ 18446744073709551615) ⌝ }
+    ensures { λ r. ⌜ r ≡ busyAs so taken fed ⌝ }
+{
     Looked {
         on: fed.all,
         refusal: fed.refusal,
-        bytes: fed.bytes,
-        pairs: fed.pairs,
+        bytes: so.bytes + fed.bytes,
+        pairs: so.pairs + fed.pairs,
         all: false,
         start: taken.start,
         length: taken.length,
     }
 }
 
-// Looks at a segment, with the words behind the pairs told, until nothing is due or a feed does not consume all that is.
-fn looks(
-    list: &[u8],
-    bound: u64,
-    classes: &[u8],
-    parts: &[u8],
-    rows: &[u8],
-    splits: &[u8],
-    through: bool,
-    first: u32,
-    flow: &mut [u8],
-    held: &mut [u8],
-    held_start: u32,
-    held_length: u32,
-    start: u32,
-    segment: &[u8],
-    pairs: &mut [u32],
-) -> Heard
-    ensures { λ r. ⌜ Hears (looked mostLooks (wayBy through (now (list .entry)) bound (table (now (classes .entry)) (now (parts .entry)) (now (rows .entry)) (now (splits .entry))))
-        flowLayout (sent first start (now (segment .entry))) (kept (now (flow .entry)) (now (held .entry)) «held_start» «held_length») (now (pairs .entry)))
-        r (now (pairs .exit)) (now (flow .exit)) (now (held .exit)) ⌝ }
+// The answer, after the last look.
+fn answered(so: Looked) -> Heard
+    ensures { λ r. ⌜ r ≡ heardAs so ⌝ }
 {
-    let mut bytes = 0usize;
-    let mut told = 0usize;
-    let mut place = held_start;
-    let mut length = held_length;
-    for i in 0..MOST_LOOKS {
-        let w = 2 * told;
-        let seen = look(
-            list,
-            bound,
-            classes,
-            parts,
-            rows,
-            splits,
-            through,
-            first,
-            flow,
-            held,
-            place,
-            length,
-            start,
-            segment,
-            &mut pairs[w..],
-        );
-        bytes = bytes + seen.bytes;
-        told = told + seen.pairs;
-        place = seen.start;
-        length = seen.length;
-        if !seen.on {
-            return Heard {
-                refusal: seen.refusal,
-                bytes: bytes,
-                pairs: told,
-                all: seen.all,
-                start: place,
-                length: length,
-            };
-        }
-    }
     Heard {
-        refusal: rules::PASSED,
-        bytes: bytes,
-        pairs: told,
-        all: false,
-        start: place,
-        length: length,
+        refusal: so.refusal,
+        bytes: so.bytes,
+        pairs: so.pairs,
+        all: so.all,
+        start: so.start,
+        length: so.length,
     }
 }
 
-// The check of a segment before it is looked at: 18 for the sizes, then the rules of a feed of no bytes.
-fn door(
-    list: &[u8],
-    bound: u64,
-    classes: &[u8],
-    parts: &[u8],
-    rows: &[u8],
-    splits: &[u8],
-    through: bool,
-    first: u32,
-    flow: &[u8],
-    held: &[u8],
-    held_start: u32,
-    held_length: u32,
-    start: u32,
-    segment: &[u8],
-) -> u32
-    ensures { λ r. ⌜ r ≡ verdict (doorRules (wayBy through (now (list .entry)) bound
-        (table (now (classes .entry)) (now (parts .entry)) (now (rows .entry)) (now (splits .entry)))) flowLayout
-        (sent first start (now (segment .entry))) (kept (now (flow .entry)) (now (held .entry)) «held_start» «held_length»)) ⌝ }
-{
-    if resends::bad_sizes(held.len(), held_length as usize, segment.len()) {
-        return resends::NOT_TAKEN;
-    }
-    let met = flows::feed_refusal(list, flow, offset_of(flow), &segment[0..0]);
-    if met != rules::PASSED {
-        return met;
-    }
-    if through {
-        return tables::rising_refusal(bound, classes, parts, rows, splits);
-    }
-    rules::PASSED
-}
+// ---- by the list alone
 
-// Feeds a segment through the table where the flag says so, else by the list alone.
-fn feed_any(
+// One look more where one follows: the segment is taken, and what is then due is fed, with the words behind the pairs told.
+fn look(
     list: &[u8],
-    bound: u64,
-    classes: &[u8],
-    parts: &[u8],
-    rows: &[u8],
-    splits: &[u8],
-    through: bool,
-    first: u32,
     flow: &mut [u8],
+    first: u32,
     held: &mut [u8],
-    held_start: u32,
-    held_length: u32,
+    so: Looked,
     start: u32,
     segment: &[u8],
     pairs: &mut [u32],
-) -> Heard
-    ensures { λ r. ⌜ Hears (feedSegment (wayBy through (now (list .entry)) bound (table (now (classes .entry)) (now (parts .entry)) (now (rows .entry)) (now (splits .entry))))
-        flowLayout (sent first start (now (segment .entry))) (kept (now (flow .entry)) (now (held .entry)) «held_start» «held_length») (now (pairs .entry)))
+) -> Looked
+    requires { ⌜ Roomy so (length (now pairs)) ⌝ }
+    ensures { λ r. ⌜ More (plainWay (now (list .entry))) (sent first start (now (segment .entry))) so (now (pairs .entry)) (now (flow .entry)) (now (held .entry))
         r (now (pairs .exit)) (now (flow .exit)) (now (held .exit)) ⌝ }
 {
-    let refusal = door(
-        list,
-        bound,
-        classes,
-        parts,
-        rows,
-        splits,
-        through,
-        first,
-        flow,
-        held,
-        held_start,
-        held_length,
-        start,
-        segment,
-    );
-    if refusal != rules::PASSED {
-        return Heard {
-            refusal: refusal,
-            bytes: 0,
-            pairs: 0,
-            all: false,
-            start: held_start,
-            length: held_length,
-        };
+    let on = so.on;
+    if !on {
+        return so;
     }
-    looks(
-        list,
-        bound,
-        classes,
-        parts,
-        rows,
-        splits,
-        through,
-        first,
-        flow,
-        held,
-        held_start,
-        held_length,
-        start,
-        segment,
-        pairs,
-    )
+    let at = offset_of(flow);
+    let next = next_of(first, at);
+    let taken = resends::take(next, held, so.start, so.length, start, segment);
+    let due = resends::due(next, held, taken.start, taken.length, start, segment);
+    if due.len() == 0 {
+        return idle(so, taken);
+    }
+    let w = 2 * so.pairs;
+    let fed = plain::feed(list, flow, at, due, &mut pairs[w..]);
+    busy(so, taken, fed)
 }
 
 // Feeds a segment to a flow by its list alone. The flow's first byte has number `first`, the segment's first byte number `start`; `held` is the held
@@ -338,23 +176,64 @@ pub fn feed_segment(
         (kept (now (flow .entry)) (now (held .entry)) «held_start» «held_length») (now (pairs .entry)))
         r (now (pairs .exit)) (now (flow .exit)) (now (held .exit)) ⌝ }
 {
-    feed_any(
+    let at = offset_of(flow);
+    let met = flows::feed_refusal(list, flow, at, &segment[0..0]);
+    let refusal = door(met, held.len(), held_length, segment.len());
+    let mut so = begun(refusal, held_start, held_length);
+    for i in 0..MOST_LOOKS {
+        so = look(list, flow, first, held, so, start, segment, pairs);
+    }
+    answered(so)
+}
+
+// ---- by its table
+
+// One look more where one follows.
+fn split_look(
+    list: &[u8],
+    bound: u64,
+    classes: &[u8],
+    parts: &[u8],
+    rows: &[u8],
+    splits: &[u8],
+    flow: &mut [u8],
+    first: u32,
+    held: &mut [u8],
+    so: Looked,
+    start: u32,
+    segment: &[u8],
+    pairs: &mut [u32],
+) -> Looked
+    requires { ⌜ Roomy so (length (now pairs)) ⌝ }
+    ensures { λ r. ⌜ More (splitWay (now (list .entry)) bound (table (now (classes .entry)) (now (parts .entry)) (now (rows .entry)) (now (splits .entry))))
+        (sent first start (now (segment .entry))) so (now (pairs .entry)) (now (flow .entry)) (now (held .entry))
+        r (now (pairs .exit)) (now (flow .exit)) (now (held .exit)) ⌝ }
+{
+    let on = so.on;
+    if !on {
+        return so;
+    }
+    let at = offset_of(flow);
+    let next = next_of(first, at);
+    let taken = resends::take(next, held, so.start, so.length, start, segment);
+    let due = resends::due(next, held, taken.start, taken.length, start, segment);
+    if due.len() == 0 {
+        return idle(so, taken);
+    }
+    let w = 2 * so.pairs;
+    let fed = splits::feed(
         list,
-        0,
-        list,
-        list,
-        list,
-        list,
-        false,
-        first,
+        bound,
+        classes,
+        parts,
+        rows,
+        splits,
         flow,
-        held,
-        held_start,
-        held_length,
-        start,
-        segment,
-        pairs,
-    )
+        at,
+        due,
+        &mut pairs[w..],
+    );
+    busy(so, taken, fed)
 }
 
 // Feeds a segment to a flow by its table.
@@ -379,21 +258,36 @@ pub fn split_feed_segment(
         (kept (now (flow .entry)) (now (held .entry)) «held_start» «held_length») (now (pairs .entry)))
         r (now (pairs .exit)) (now (flow .exit)) (now (held .exit)) ⌝ }
 {
-    feed_any(
+    let at = offset_of(flow);
+    let met = splits::feed_refusal(
         list,
         bound,
         classes,
         parts,
         rows,
         splits,
-        true,
-        first,
         flow,
-        held,
-        held_start,
-        held_length,
-        start,
-        segment,
-        pairs,
-    )
+        at,
+        &segment[0..0],
+    );
+    let refusal = door(met, held.len(), held_length, segment.len());
+    let mut so = begun(refusal, held_start, held_length);
+    for i in 0..MOST_LOOKS {
+        so = split_look(
+            list,
+            bound,
+            classes,
+            parts,
+            rows,
+            splits,
+            flow,
+            first,
+            held,
+            so,
+            start,
+            segment,
+            pairs,
+        );
+    }
+    answered(so)
 }

@@ -5,3 +5,4 @@ pub mod Stepping
 pub mod Feeding
 pub mod Rising
 pub mod Unique
+pub mod Lawful

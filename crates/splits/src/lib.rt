@@ -93,7 +93,7 @@ fn split_step(
 }
 
 // The check of a feed: the number of the first of the rules 1 to 9 that refuses it, 0 where none does.
-fn feed_refusal(
+pub fn feed_refusal(
     list: &[u8],
     bound: u64,
     classes: &[u8],

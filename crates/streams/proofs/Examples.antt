@@ -5,8 +5,8 @@ use lib.Dec.{T}
 use Rattle.barn.specs.Examples.{Agree}
 use Rattle.barn.proofs.Examples.{same, agree, same-sound, agree-sound, agree-append, steps, feeds}
 use Rattle.resends.specs.Resend.{distance, ahead, hasNext, allBefore, badSizes, early, full, upTo, taking, partDue, due}
-use Rattle.segments.specs.Segment.{look, behind, looked, feedSegment}
-use Rattle.streams.specs.Handed.{keptAfter, bytesHeard, wordsHeard}
+use Rattle.feeds.specs.Calls.{recordAfter, allTold, allBytes}
+use Rattle.segments.specs.Segment.{look, behind, more, looked, feedSegment}
 use Rattle.streams.specs.Examples.{sizeRow, takeRows, flowRows, singleRows, resendExamples}
 
 -- what the rows compute with
@@ -15,7 +15,7 @@ unfolding distance ahead hasNext allBefore badSizes early full upTo taking partD
 parts = 0
 
 segments : ℕ
-unfolding look behind looked feedSegment keptAfter bytesHeard wordsHeard
+unfolding look behind more looked feedSegment recordAfter allTold allBytes
 segments = 0
 
 sizes-hold : T (same (sizeRow .0) (sizeRow .1))

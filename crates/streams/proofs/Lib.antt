@@ -1,4 +1,4 @@
-pub mod Calls
 pub mod Streams
-pub mod Killed
+pub mod Tied
 pub mod Examples
+pub mod Driving

@@ -6,11 +6,13 @@ use lib.ListN.{replicate, take}
 use Rattle.barn.specs.Examples.{Row, L}
 use Rattle.plain.specs.Plain.{openFlow}
 use Rattle.flows.specs.Flow.{flowSize, flowBytes, offsetOf}
-use Rattle.demands.specs.Calls.{byList}
+use Rattle.feeds.specs.Calls.{recordAfter, allTold, allBytes}
+use Rattle.demands.specs.Calls.{Call, byList}
 use Rattle.resends.specs.Resend.{heldSize, badSizes, Held, taking, due}
 use Rattle.segments.specs.Segment.{Kept}
-use Rattle.streams.specs.Handed.{Handed, hears, keptAfter, bytesHeard, wordsHeard}
-use Rattle.streams.specs.Streamed.{fresh}
+use Rattle.segments.specs.Calls.{hears, handed}
+use Rattle.segments.specs.Streamed.{fresh}
+use Rattle.streams.specs.Streams.{listCalls}
 
 -- ---- taking and what is due: `next`, the held place, and a segment
 
@@ -85,15 +87,15 @@ sizeRow = (
 
 -- ---- whole flows of the barn list, whose first byte has number 1000 or 4,294,967,295
 
-abbrev pub segment : ℕ → List ℕ → Handed
-segment q bs = record { list = L; via = byList; start = q; bytes = bs; out = replicate 8 0 }
+abbrev pub segment : ℕ → List ℕ → Call
+segment q bs = record { list = L; via = byList; at = q; piece = bs; out = replicate 8 0 }
 
 abbrev pub begun₀ : Kept
 begun₀ = fresh (openFlow L (replicate flowSize 0) []) (replicate heldSize 0)
 
 -- the bytes passed down, a dot, the words told, a dot, and how many bytes are held then
-abbrev pub heard : ℕ → List Handed → List ℕ
-heard s cs = bytesHeard s begun₀ cs ++ (0 ∷ (wordsHeard s begun₀ cs ++ (0 ∷ keptAfter s begun₀ cs .length ∷ [])))
+abbrev pub heard : ℕ → List Call → List ℕ
+heard s cs = allBytes (handed listCalls s) begun₀ cs ++ (0 ∷ (allTold (handed listCalls s) begun₀ cs ++ (0 ∷ recordAfter (handed listCalls s) begun₀ cs .length ∷ [])))
 
 abbrev pub flowRows : List Row
 flowRows =
@@ -112,10 +114,19 @@ abbrev pub keptAs : List ℕ → ℕ → ℕ → Kept
 keptAs R p n = record { flow = R; held = holding (98 ∷ 0 ∷ 0 ∷ 0 ∷ []); start = p; length = n }
 
 -- the refusal, the bytes passed down, and then the offset and how many bytes are held
-abbrev pub heardFrom : Kept → Handed → List ℕ
+abbrev pub heardFrom : Kept → Call → List ℕ
 heardFrom S c =
-    let h = hears 1000 S c in
+    let h = hears listCalls 1000 S c in
     h .refusal ∷ (h .down ++ (offsetOf (h .kept .flow) ∷ h .kept .length ∷ []))
+
+-- the refusal, and 1 where nothing is due any more
+abbrev pub saidFrom : Kept → Call → List ℕ
+saidFrom S c =
+    let h = hears listCalls 1000 S c in h .refusal ∷ cond (h .all) 1 0 ∷ []
+
+-- a segment with no room for pairs
+abbrev pub bare : ℕ → List ℕ → Call
+bare q bs = record { list = L; via = byList; at = q; piece = bs; out = [] }
 
 abbrev pub singleRows : List Row
 singleRows =
@@ -127,6 +138,15 @@ singleRows =
     ∷ (heardFrom (keptAs (flowBytes 1 5 5121) 0 0) (segment 1000 (97 ∷ [])), 4 ∷ 5 ∷ 0 ∷ [])
     -- the "b" held from 1001 on is due when another segment comes ahead: "b" is passed down, and the other is then held and not refused
     ∷ (heardFrom (keptAs (flowBytes 3 1 0) 1001 1) (segment 1005 (97 ∷ 98 ∷ [])), 0 ∷ 98 ∷ 2 ∷ 2 ∷ [])
+    -- nothing is due any more behind a segment that is consumed, and behind one that is dropped
+    ∷ (saidFrom (keptAs (flowBytes 1 0 0) 0 0) (segment 1000 (97 ∷ [])), 0 ∷ 1 ∷ [])
+    ∷ (saidFrom (keptAs (flowBytes 1 0 0) 0 0) (segment 990 (97 ∷ [])), 0 ∷ 1 ∷ [])
+    -- 18 for the sizes at the door, 18 of one ahead while another is held, and 6: something is left
+    ∷ (saidFrom (keptAs (flowBytes 1 0 0) 0 4097) (segment 1000 (97 ∷ [])), 18 ∷ 0 ∷ [])
+    ∷ (saidFrom (keptAs (flowBytes 1 0 0) 1005 1) (segment 1010 (97 ∷ [])), 18 ∷ 0 ∷ [])
+    ∷ (saidFrom (keptAs (flowBytes 1 4294967294 0) 0 0) (segment 998 (97 ∷ 98 ∷ [])), 6 ∷ 0 ∷ [])
+    -- "ab" with no room for its pair: no refusal, and "b" is still due
+    ∷ (saidFrom (keptAs (flowBytes 1 0 0) 0 0) (bare 1000 (97 ∷ 98 ∷ [])), 0 ∷ 0 ∷ [])
     ∷ []
 
 -- ---- the table

@@ -1,4 +1,3 @@
-pub mod Handed
-pub mod Streamed
-pub mod Killed
+pub mod Streams
 pub mod Examples
+pub mod Drivers

@@ -1,7 +1,7 @@
 -- `feed_part` meets its promise: the feed of a part of the stream is a turn. Assumes nothing.
 use borrow.Author.Needs.{needs}
 use native.Mathlib.Omega.{arith}
-use Rattle.demands.proofs.Turns.{turned}
+use Rattle.demands.proofs.Driving.{turned}
 use Rattle.demands.proofs.feed_part.Statement.{statement}
 use Rattle.demands.proofs.feed_part.Tie as tie
 
@@ -40,7 +40,7 @@ returns c =
     let feeding = c .before .before .before .before in
     let known = feeding .before .before .before .before .before in
     turned _ _ _ _ _ _ _ _ _ _ _ _ _ (omega arith) (omega arith) (omega arith) (omega arith)
-    (λ i. known .shared-slice-known6 .given i .fits) (search needs) (feeding .feed-by .ensures)
+    (λ i. known .shared-slice-known8 .given i .fits) (search needs) (feeding .feed-by .ensures)
 
 pub feed-part-spec : {M : Type 1} → statement M
 feed-part-spec =

@@ -1,24 +1,33 @@
--- `look` meets its promise: nothing is due, or what is due is fed. Assumes nothing.
+-- `look` meets its promise: no look follows, nothing is due, or what is due is fed. Assumes nothing.
 use borrow.Author.Needs.{needs}
-use mathlib.Core.Path.{_≡_, sym, _∙_}
-use Rattle.feeds.specs.Fed.{Answers}
-use Rattle.flows.specs.Flow.{flowLayout}
-use Rattle.tables.specs.Table.{table}
-use Rattle.segments.specs.Ways.{wayBy}
-use Rattle.segments.specs.Post.{sent, kept}
-use Rattle.segments.proofs.Hearing.{looks-idle, looks-busy}
+use native.Mathlib.Omega.{arith}
+use borrow.Author.Tests.{not-true, not-false}
+use Rattle.segments.specs.Ways.{plainWay}
+use Rattle.segments.proofs.Hearing.{looks-off, looks-idle, looks-busy, fed-few}
 use Rattle.segments.proofs.look.Statement.{statement}
 use Rattle.segments.proofs.look.Tie as tie
 
--- the way back from what is due to the entry
+-- the ways back: from what is due to the taking, to the number and the offset, and to the entry
 abbrev took : tie.After-due → tie.After-take
 took c = c .before .before .before .before
 
-abbrev begins : tie.After-due → tie.After-next-of
-begins c = took c .before .before
+abbrev numbered : tie.After-due → tie.After-next-of
+numbered c = took c .before .before
+
+abbrev placed : tie.After-due → tie.After-offset-of
+placed c = numbered c .before
+
+abbrev follows : tie.After-due → tie.Else1
+follows c = placed c .before .before
 
 abbrev entry : tie.After-due → tie.Start
-entry c = begins c .before .before .before .before .before .before .before .before .before .before .before
+entry c = follows c .before .before .before .before .before .before
+
+returns : tie.Need-returns
+returns c = looks-off _ _ _ _ _ _ (not-true _ (c .if1 .taken))
+
+offset-of-requires : tie.Need-offset-of-requires
+offset-of-requires c κs = search needs
 
 next-of-requires : tie.Need-next-of-requires
 next-of-requires c κs = search needs
@@ -29,24 +38,47 @@ take-requires c κs = search needs
 due-requires : tie.Need-due-requires
 due-requires c κs = search needs
 
+idle-requires : tie.Need-idle-requires
+idle-requires c κs = search needs
+
 same-length : tie.Need-same-length
 same-length c = search needs
 
 same-length-2 : tie.Need-same-length-2
 same-length-2 c = search needs
 
-returns : tie.Need-returns
-returns c =
+returns-2 : tie.Need-returns-2
+returns-2 c = λ l k.
     let d = c .before .before in
+    rw (c .idle .ensures)
+    (looks-idle _ _ _ _ _ _ (not-false _ (follows d .if1 .left)) _ _ _ _ _ (placed d .offset-of .ensures) (numbered d .next-of .ensures) (took d .take .ensures) (d .due .ensures) l k (c .before .if2 .taken))
+
+mul-w : tie.Need-mul-w
+mul-w c = let e = entry (c .before .before) in omega (arith, e .pre .0, e .good .1 .1 .1 .1 .1 .1 .1 .0 .0)
+
+mul-feed : tie.Need-mul-feed
+mul-feed c =
+    let e = entry (c .before .before .before) in
+    let words = e .good .1 .1 .1 .1 .1 .1 .1 .0 in omega (arith, e .pre .0)
+
+sub-feed : tie.Need-sub-feed
+sub-feed c = omega (arith, entry (c .before .before .before) .pre .0)
+
+part-feed-start : tie.Need-part-feed-start
+part-feed-start c = omega (arith, entry (c .before .before .before) .pre .0)
+
+part-feed-end : tie.Need-part-feed-end
+part-feed-end c = search needs
+
+feed-requires : tie.Need-feed-requires
+feed-requires c κs = search needs
+
+busy-requires : tie.Need-busy-requires
+busy-requires c κs =
+    let fed = c .before .before .before .before in
+    let d = fed .before .before .before .before .before in
     let a = entry d .args in
-    looks-idle (wayBy (a .through) (a .list .now) (a .bound) (table (a .classes .now) (a .parts .now) (a .rows .now) (a .splits .now))) flowLayout (sent (a .first) (a .start) (a .segment .now))
-    (kept (a .flow .now) (a .held .now) (a .held-start) (a .held-length)) (a .pairs .now) _ _ _ _ (begins d .next-of .ensures) (took d .take .ensures) (d .due .ensures) (c .before .if1 .taken)
-
-offset-of-requires : tie.Need-offset-of-requires
-offset-of-requires c κs = search needs
-
-feed-by-requires : tie.Need-feed-by-requires
-feed-by-requires c κs = search needs
+    let f = fed-few (plainWay (a .list .now)) (a .so) (a .pairs .now) (a .flow .now) _ _ _ _ _ _ _ _ (entry d .pre) (d .due .ensures) _ _ _ (fed .feed .ensures) in (omega (arith, f .0), omega (arith, f .1, entry d .good .1 .1 .1 .1 .1 .1 .1 .0 .0))
 
 same-length-3 : tie.Need-same-length-3
 same-length-3 c = search needs
@@ -57,30 +89,35 @@ same-length-4 c = search needs
 same-length-5 : tie.Need-same-length-5
 same-length-5 c = search needs
 
-returns-2 : tie.Need-returns-2
-returns-2 c =
-    let fed = c .before .before .before .before in
-    let offset = fed .before .before .before in
-    let left = offset .before .before in
-    let d = left .before in
-    let a = entry d .args in
-    looks-busy (wayBy (a .through) (a .list .now) (a .bound) (table (a .classes .now) (a .parts .now) (a .rows .now) (a .splits .now))) flowLayout (sent (a .first) (a .start) (a .segment .now))
-    (kept (a .flow .now) (a .held .now) (a .held-start) (a .held-length)) (a .pairs .now) _ _ _ _ (begins d .next-of .ensures) (took d .take .ensures) (d .due .ensures)
-    (left .if1 .left) _ _ _ (rw (offset .offset-of .ensures) at (fed .feed-by .ensures))
+returns-3 : tie.Need-returns-3
+returns-3 c = λ l k.
+    let fed = c .before .before .before .before .before in
+    let d = fed .before .before .before .before .before in
+    rw (c .busy .ensures)
+    (looks-busy _ _ _ _ _ _ (not-false _ (follows d .if1 .left)) _ _ _ _ _ (placed d .offset-of .ensures) (numbered d .next-of .ensures) (took d .take .ensures) (d .due .ensures) l k
+    (entry d .pre .0) _ _ _ (fed .feed .ensures) (fed .before .before .before .before .if2 .left))
 
 pub look-spec : {M : Type 1} → statement M
 look-spec =
     tie.close
     (tie.spec
+    returns
+    offset-of-requires
     next-of-requires
     take-requires
     due-requires
+    idle-requires
     same-length
     same-length-2
-    returns
-    offset-of-requires
-    feed-by-requires
+    returns-2
+    mul-w
+    mul-feed
+    sub-feed
+    part-feed-start
+    part-feed-end
+    feed-requires
+    busy-requires
     same-length-3
     same-length-4
     same-length-5
-    returns-2)
+    returns-3)
