@@ -196,13 +196,13 @@
  * COST AND CONTEXT
  *
  *   - Stack: WATCH_MOST_STACK bytes below the caller's frame at most, whatever the input, return addresses and red zone counted; that is for
- *     watch_check_certificate, which keeps the places of the records there, and all others but one take 1,600 at most: watch_compile goes as deep as
- *     the brackets do, and takes WATCH_COMPILE_STACK. tools/stack reads the number off the archive for each function, and tools/test-outside holds
+ *     watch_check_certificate, which keeps the places of the records there, and all others but one take 1,600 at most: watch_compile keeps a row for
+ *     each state, 160 KiB, goes as deep as the brackets do, and takes WATCH_COMPILE_STACK. tools/stack reads the number off the archive for each function, and tools/test-outside holds
  *     these to it.
  *   - No heap, no statics, no locks, no system calls: the archive has no data that can be written, and calls nothing outside itself but C's
- *     memset, which clears a matrix that is filled and the places of a certificate's records, and memcpy, in watch_compile; a compiler asks for both
- *     without an operating system too. Their stack is not in the numbers above. So every function is reentrant: threads, tasks and signal handlers
- *     may be in it at once, each with its own flow and pairs.
+ *     memset, which clears a matrix that is filled, the places of a certificate's records and the compiler's rows, and memcpy, in watch_compile; a
+ *     compiler asks for both without an operating system too. Their stack is not in the numbers above. So every function is reentrant: threads,
+ *     tasks and signal handlers may be in it at once, each with its own flow and pairs.
  *   - The code uses the general registers, the registers of SSE2 and the 128 bytes below the stack pointer, the red zone. So it is not for a
  *     bare interrupt, nor for a kernel that leaves those to the task that it interrupts: wake a task, and call from there.
  *   - Every call ends; that is proved. Its work is bounded by the lengths that it is given, and grows as docs/PERFORMANCE.md shows.
@@ -232,11 +232,11 @@ extern "C" {
 #endif
 
 /* The version of the face that this header describes. */
-#define WATCH_VERSION 13
+#define WATCH_VERSION 14
 
 /* Bytes of stack that a call takes at most, and that one of watch_compile does. */
 #define WATCH_MOST_STACK 9920
-#define WATCH_COMPILE_STACK 80832
+#define WATCH_COMPILE_STACK 230592
 
 /* States are the numbers below this one. */
 #define WATCH_STATES 1024

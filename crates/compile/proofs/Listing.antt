@@ -1,32 +1,31 @@
 -- The records that the code puts in are those of the definition, and they fill the front of the list.
-use Prim.Native.Nat.{ℕ, zero, suc, _+_, _-_, _*_, _/_, _≤_, _<_}
+use Prim.Native.Nat.{ℕ, zero, suc, _+_, _-_, _*_, _≤_, _<_}
 use mathlib.Core.Path.{_≡_, refl, sym, ap, subst, _∙_}
-use mathlib.Core.Bool.{Bool, true, false, _&&_, _||_, not, cond, true≢false, false≢true}
+use mathlib.Core.Bool.{Bool, true, false, _&&_, _||_, not, cond}
 use mathlib.Core.List.{List, [], _∷_, _++_, append-assoc}
 use mathlib.Core.Logic.{_⊎_, inl, inr}
 use native.Mathlib.Omega.{arith}
-use native.Mathlib.Numerals.{add-one}
 use lib.Dec.{eqb, leb, ltb}
-use lib.ListN.{length, take, drop, getD, length-append, length-take, length-drop}
+use lib.ListN.{length, take, drop, getD, length-append, length-drop}
 use lib.Seq.{drop-drop, length-take-le}
 use borrow.Author.Tests.{lt-ltb, le-ltb, ltb-true, ltb-false, le-leb, lt-leb, ne-eqb}
-use Rattle.sets.specs.Set.{states, setOf, sigsOf, holds, insert}
+use Rattle.sets.specs.Set.{states, setOf, holds, insert}
 use Rattle.sets.proofs.Sets.{holds-empty, holds-insert}
 use Rattle.lists.specs.List.{recordSize, mostRecords}
-use Rattle.texts.specs.Exp.{Exp, size, null, letter, first, last, follows, edge, accepts}
+use Rattle.texts.specs.Exp.{Exp, size, null, first, last, follows, edge, accepts}
 use Rattle.texts.specs.Grammar.{Text, textReads, okBody, reads}
-use Rattle.texts.specs.Records.{runs, edgeRecords, startRecord, acceptRecord, each, edgesFrom, edgesTo, acceptsOf, allRecords, recordsOf, insert as put, sortInto, flat, listOf, tooBig}
+use Rattle.texts.specs.Records.{runs, edgeRecords, startRecord, acceptRecord, each, edgesFrom, edgesTo, acceptsOf, allRecords, recordsOf, sortInto, flat, listOf, tooBig}
 use Rattle.texts.proofs.Reading.{body-caret}
 use Rattle.texts.proofs.Words.{headOf}
-use Rattle.shapes.specs.declared.Shape.{Shape}
-use Rattle.shapes.specs.Rows.{cap, Known, Sums}
-use Rattle.shapes.proofs.Sum.{cap-small}
-use Rattle.shapes.proofs.Edges.{row-size, row-known, row-first, row-last, row-last-none, row-prior, row-prior-none, row-letter}
-use Rattle.records.specs.Front.{recsOf, Wrote, Writes, arrowsFrom, endsOf}
-use Rattle.records.proofs.Writing.{writes-more, each-none, each-more, each-length, edges-length}
+use Rattle.walk.specs.declared.Shape.{Shape}
+use Rattle.walk.specs.Rows.{cap, priorAt, bytesOf, Sums}
+use Rattle.walk.proofs.Sum.{cap-small}
+use Rattle.walk.proofs.Edges.{walk-first, walk-last, walk-last-none, walk-prior, walk-prior-none, walk-last-past, walk-prior-past, walk-letter}
+use Rattle.records.specs.Front.{recsOf, Wrote, Writes, Sorts, Below, arrowsFrom, endsOf}
+use Rattle.records.proofs.Writing.{writes-more, each-length, edges-length}
 use Rattle.compile.specs.declared.Compiled.{Compiled}
 use Rattle.texts.specs.Acceptor.{begin, live, verdict}
-use Rattle.compile.specs.Compile.{expOf, freeOf, Arrive, Ends, Outcome, refused, written, made, Gives, Compiles}
+use Rattle.compile.specs.Compile.{expOf, freeOf, Arrive, Ends, refused, written, made, Gives, Compiles}
 
 -- ---- `^`
 
@@ -93,40 +92,52 @@ all-bytes b c h = rw (le-leb 0 c (omega arith), le-leb c 255 (omega arith)) (or-
     or-true true = refl
     or-true false = refl
 
--- to position q
-module _ (free : Bool) (e : Exp) (q : ℕ) (r : Shape) (k : Known (1 + q) 1 e r) (h : q < size e) where
-  from-some : (F : ℕ) → ((p : ℕ) → holds F (suc p) ≡ holds (setOf (r .prior)) (suc p)) → holds F 0 ≡ r .first → Arrive free e (suc q) F (holds (sigsOf (r .letter)))
-  from-some F f g zero c i j =
-      ap (λ z. z && holds (sigsOf (r .letter)) c) (g ∙ row-first e r q k h) ∙ ap (λ z. first e q && z) (row-letter e r q c k h j) ∙ (unfold edge in refl)
-  from-some F f g (suc p) c i j =
-      ap (λ z. z && holds (sigsOf (r .letter)) c) (f p ∙ ap (holds (setOf (r .prior))) (one-more p) ∙ row-prior e r p q k (omega arith) h) ∙ ap (λ z. follows e p q && z) (row-letter e r q c k h j) ∙ (unfold edge in refl)
-
-  arrive-first : (F : ℕ) → r .first ≡ true → F ≡ insert states (setOf (r .prior)) 0 → Arrive free e (suc q) F (holds (sigsOf (r .letter)))
-  arrive-first F t w = from-some F (λ p. ap (λ z. holds z (suc p)) w ∙ with-other (setOf (r .prior)) p) (ap (λ z. holds z 0) w ∙ with-zero (setOf (r .prior)) ∙ sym t)
-
-  arrive-later : r .first ≡ false → Arrive free e (suc q) (setOf (r .prior)) (holds (sigsOf (r .letter)))
-  arrive-later f = from-some (setOf (r .prior)) (λ p. refl) (row-prior-none e r q k ∙ sym f)
-
 -- to any state but 0
-pub arrows-first : (free : Bool) (e : Exp) (t : ℕ) (r : Shape) (F : ℕ) → Sums t 1 e r → size e < states → (t ≡ 0 → ⊥) → t ≤ size e → r .first ≡ true → F ≡ insert states (setOf (r .prior)) 0
-    → Arrive free e t F (holds (sigsOf (r .letter)))
-arrows-first free e zero r F s few n l f w = absurd (n refl)
-arrows-first free e (suc q) r F s few n l f w = arrive-first free e q r (subst (λ z. Known z 1 e r) (one-more q) (row-known (suc q) e r s few)) l F f w
+module _ (free : Bool) (R : List ℕ) (e : Exp) (r : Shape) (k : Sums R 1 e r) (few : size e < states) where
+  from-some : (q F : ℕ) (l : ℕ → Bool) → q < size e → ((p : ℕ) → holds F (suc p) ≡ holds (priorAt R (suc q)) (suc p)) → holds F 0 ≡ holds (setOf (r .first)) (suc q) → ((c : ℕ) → l c ≡ holds (bytesOf R (suc q)) c) → Arrive free e (suc q) F l
+  from-some q F l h f g i zero c j o =
+      ap (λ z. z && l c) (g ∙ ap (holds (setOf (r .first))) (one-more q) ∙ walk-first R e r k few q h) ∙ ap (λ z. first e q && z) (i c ∙ ap (λ z. holds (bytesOf R z) c) (one-more q) ∙ walk-letter R e r k few q c h o) ∙ (unfold edge in refl)
+  from-some q F l h f g i (suc p) c j o =
+      ap (λ z. z && l c) (f p ∙ ap (λ z. holds (priorAt R z) (suc p)) (one-more q) ∙ ap (holds (priorAt R (1 + q))) (one-more p) ∙ walk-prior R e r k few p q (omega arith) h)
+      ∙ ap (λ z. follows e p q && z) (i c ∙ ap (λ z. holds (bytesOf R z) c) (one-more q) ∙ walk-letter R e r k few q c h o) ∙ (unfold edge in refl)
 
-pub arrows-later : (free : Bool) (e : Exp) (t : ℕ) (r : Shape) → Sums t 1 e r → size e < states → (t ≡ 0 → ⊥) → t ≤ size e → r .first ≡ false → Arrive free e t (setOf (r .prior)) (holds (sigsOf (r .letter)))
-arrows-later free e zero r s few n l f = absurd (n refl)
-arrows-later free e (suc q) r s few n l f = arrive-later free e q r (subst (λ z. Known z 1 e r) (one-more q) (row-known (suc q) e r s few)) l f
+  pub arrows-first : (t F G L : ℕ) → (t ≡ 0 → ⊥) → t ≤ size e → G ≡ priorAt R t → L ≡ bytesOf R t → holds (setOf (r .first)) t ≡ true → F ≡ insert states G 0 → Arrive free e t F (holds L)
+  arrows-first zero F G L n l u v f w = absurd (n refl)
+  arrows-first (suc q) F G L n l u v f w =
+      from-some q F (holds L) l (λ p. ap (λ z. holds z (suc p)) w ∙ with-other G p ∙ ap (λ z. holds z (suc p)) u) (ap (λ z. holds z 0) w ∙ with-zero G ∙ sym f) (λ c. ap (λ z. holds z c) v)
+
+  pub arrows-later : (t F L : ℕ) → (t ≡ 0 → ⊥) → t ≤ size e → F ≡ priorAt R t → L ≡ bytesOf R t → holds (setOf (r .first)) t ≡ false → Arrive free e t F (holds L)
+  arrows-later zero F L n l u v f = absurd (n refl)
+  arrows-later (suc q) F L n l u v f =
+      from-some q F (holds L) l (λ p. ap (λ z. holds z (suc p)) u) (ap (λ z. holds z 0) u ∙ ap (λ z. holds (priorAt R z) 0) (one-more q) ∙ walk-prior-none R e r k few q l ∙ sym f) (λ c. ap (λ z. holds z c) v)
+
+  -- none of them is past the last state
+  pub arrows-below : (t : ℕ) → (t ≡ 0 → ⊥) → t ≤ size e → Below (priorAt R t) (suc (size e))
+  arrows-below zero n l = absurd (n refl)
+  arrows-below (suc q) n l = λ p a b. ap (λ z. holds (priorAt R z) p) (one-more q) ∙ walk-prior-past R e r k few q p l a
+
+-- with 0 too, or 0 alone
+pub below-with : (S F n : ℕ) → F ≡ insert states S 0 → Below S (suc n) → Below F (suc n)
+below-with S F n e h zero a b = absurd (omega arith)
+below-with S F n e h (suc q) a b = ap (λ z. holds z (suc q)) e ∙ with-other S q ∙ h (suc q) a b
+
+pub below-none : (b : Bool) (F n : ℕ) → F ≡ cond b 0 (insert states 0 0) → Below F (suc n)
+below-none true F n e = λ q a b. ap (λ z. holds z q) e ∙ holds-empty q
+below-none false F n e = below-with 0 F n e (λ q a b. holds-empty q)
 
 -- ---- the states that accept
 
-pub ends-null : (e : Exp) (r : Shape) (F : ℕ) → Sums 0 1 e r → size e < states → r .null ≡ true → F ≡ insert states (setOf (r .last)) 0 → Ends e F
-ends-null e r F s few n w zero h = ap (λ z. holds z 0) w ∙ with-zero (setOf (r .last)) ∙ sym n ∙ s .nulls ∙ (unfold accepts in refl)
-ends-null e r F s few n w (suc p) h =
-    ap (λ z. holds z (suc p)) w ∙ with-other (setOf (r .last)) p ∙ ap (holds (setOf (r .last))) (one-more p) ∙ row-last e r 0 p (row-known 0 e r s few) (omega arith) ∙ (unfold accepts in refl)
+pub ends-null : (R : List ℕ) (e : Exp) (r : Shape) (F : ℕ) → Sums R 1 e r → size e < states → r .null ≡ true → F ≡ insert states (setOf (r .last)) 0 → Ends e F
+ends-null R e r F s few n w zero h = ap (λ z. holds z 0) w ∙ with-zero (setOf (r .last)) ∙ sym n ∙ s .nulls ∙ (unfold accepts in refl)
+ends-null R e r F s few n w (suc p) h =
+    ap (λ z. holds z (suc p)) w ∙ with-other (setOf (r .last)) p ∙ ap (holds (setOf (r .last))) (one-more p) ∙ walk-last R e r s few p (omega arith) ∙ (unfold accepts in refl)
 
-pub ends-some : (e : Exp) (r : Shape) → Sums 0 1 e r → size e < states → r .null ≡ false → Ends e (setOf (r .last))
-ends-some e r s few n zero h = row-last-none e r 0 (row-known 0 e r s few) ∙ sym n ∙ s .nulls ∙ (unfold accepts in refl)
-ends-some e r s few n (suc p) h = ap (holds (setOf (r .last))) (one-more p) ∙ row-last e r 0 p (row-known 0 e r s few) (omega arith) ∙ (unfold accepts in refl)
+pub ends-some : (R : List ℕ) (e : Exp) (r : Shape) → Sums R 1 e r → size e < states → r .null ≡ false → Ends e (setOf (r .last))
+ends-some R e r s few n zero h = walk-last-none R e r s few ∙ sym n ∙ s .nulls ∙ (unfold accepts in refl)
+ends-some R e r s few n (suc p) h = ap (holds (setOf (r .last))) (one-more p) ∙ walk-last R e r s few p (omega arith) ∙ (unfold accepts in refl)
+
+pub ends-below : (R : List ℕ) (e : Exp) (r : Shape) → Sums R 1 e r → size e < states → Below (setOf (r .last)) (suc (size e))
+ends-below R e r s few q a b = walk-last-past R e r s few q a
 
 -- ---- runs, and each state's records
 
@@ -241,26 +252,28 @@ list-is : (x : Text) (g : ℕ) → flat (sortInto [] (recordsOf x g)) ≡ listOf
 unfolding listOf
 list-is x g = refl
 
-module _ (x : Text) (g : ℕ) (A B : List ℕ) (k : ℕ) (w : Writes A B 0 (recordsOf x g) k) (room : 8 * length (recordsOf x g) ≤ length A) where
+module _ (x : Text) (g : ℕ) (A B C : List ℕ) (k n : ℕ) (w : Writes A B 0 (recordsOf x g) k) (room : 8 * length (recordsOf x g) ≤ length A) (c : n ≡ length (recordsOf x g)) (s : Sorts B C 0 n) where
   done : Wrote A B 0 (recordsOf x g) k
   done = w .wrote (omega (arith, room))
 
-  few : 8 * k ≤ length B
-  few = let c : k ≡ 0 + length (recordsOf x g) = done .counted in let l : length B ≡ length A = w .long in omega arith
+  same : k ≡ n
+  same = let d : k ≡ 0 + length (recordsOf x g) = done .counted in omega (arith, c)
 
-  the-list : flat (recsOf k B) ≡ listOf x g
-  the-list = ap flat (done .sorted ∙ ap (λ z. sortInto z (recordsOf x g)) (recs-none A)) ∙ list-is x g
+  few : 8 * n ≤ length C
+  few = let l : length B ≡ length A = w .long in let m : length C ≡ length B = s .long in omega (arith, c, room)
 
-  pub list-length : length (listOf x g) ≡ 8 * length (recordsOf x g)
-  list-length = ap length (sym the-list) ∙ flat-recs k B few .1 ∙ ap (λ z. 8 * z) (done .counted ∙ none (length (recordsOf x g)))
-    where
-      none : (n : ℕ) → 0 + n ≡ n
-      none n = omega arith
+  the-list : flat (recsOf n C) ≡ listOf x g
+  the-list =
+      let z : n - 0 ≡ n = omega arith in
+      ap flat (ap (λ i. recsOf i C) (sym z) ∙ s .there ∙ ap (λ i. sortInto [] (recsOf i B)) (z ∙ sym same) ∙ ap (sortInto []) (done .listed ∙ ap (λ i. i ++ recordsOf x g) (recs-none A))) ∙ list-is x g
 
-  pub list-left : B ≡ listOf x g ++ drop (length (listOf x g)) A
+  pub list-length : length (listOf x g) ≡ 8 * n
+  list-length = ap length (sym the-list) ∙ flat-recs n C few .1
+
+  pub list-left : C ≡ listOf x g ++ drop (length (listOf x g)) A
   list-left =
-      sym (flat-recs k B few .0) ∙ ap (λ z. z ++ drop (8 * k) B) the-list ∙ ap (λ z. listOf x g ++ z) (done .stayed)
-      ∙ ap (λ z. listOf x g ++ drop z A) (sym (flat-recs k B few .1) ∙ ap length the-list)
+      sym (flat-recs n C few .0) ∙ ap (λ z. z ++ drop (8 * n) C) the-list ∙ ap (λ z. listOf x g ++ z) (s .behind ∙ subst (λ z. drop (8 * z) B ≡ drop (8 * z) A) same (done .stayed))
+      ∙ ap (λ z. listOf x g ++ drop z A) (sym list-length)
 
 -- ---- 21
 
@@ -292,8 +305,8 @@ module _ (x : Text) (g : ℕ) (A : List ℕ) where
   gives-0 r B t a b c d = subst (λ z. Gives (cond z (refused 21 0 A) (written (listOf x g) A)) r B) (sym t) (record { refusal = a; place = b; length = c; list = d })
 
 -- a size as large as the states says that there are too many
-pub size-most : (e : Exp) (r : Shape) (p : ℕ) → Sums p 1 e r → states ≤ r .size → states ≤ size e
-size-most e r p s h = go (ltb (size e) states) refl
+pub size-most : (e : Exp) (r : Shape) (R : List ℕ) → Sums R 1 e r → states ≤ r .size → states ≤ size e
+size-most e r R s h = go (ltb (size e) states) refl
   where
     go : (b : Bool) → ltb (size e) states ≡ b → states ≤ size e
     go false q = ltb-false (size e) states q

@@ -9,6 +9,8 @@ use Rattle.texts.specs.Exp.{Exp, eps, size, edge, accepts}
 use Rattle.texts.specs.Grammar.{Text, textReads, okBody, exp}
 use Rattle.texts.specs.Acceptor.{begin, live, verdict}
 use Rattle.texts.specs.Records.{listOf, tooBig}
+use Rattle.walk.specs.declared.Shape.{Shape}
+use Rattle.walk.specs.Rows.{Sums}
 use Rattle.compile.specs.declared.Compiled.{Compiled}
 
 -- a text's expression, and whether it may begin anywhere
@@ -17,6 +19,10 @@ expOf x = exp eps (x .body)
 
 abbrev pub freeOf : Text → Bool
 freeOf x = not (x .bound)
+
+-- the rows in the work place and the shape are the text's
+abbrev pub Walked : List ℕ → Shape → Bool → Text → Type 0
+Walked R r bound x = Sums R 1 (expOf x) r × (bound ≡ x .bound)
 
 -- the edges to state t are those from the states of F on the bytes of l
 abbrev pub Arrive : Bool → Exp → ℕ → ℕ → (ℕ → Bool) → Type 0

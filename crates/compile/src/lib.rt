@@ -1,17 +1,17 @@
 // From signature text to a list.
 use letters::run_count;
-use letters::span;
 use parser::Parsed;
 use parser::check_text;
 use records::put_arrows;
 use records::put_ends;
 use records::put_in;
+use records::sort;
 use records::start_record;
 use records::weigh;
 use sets::SigSet;
 use sets::StateSet;
-use shapes::Shape;
-use shapes::row;
+use walk::Shape;
+use words::span;
 ghost use mathlib.Core.Path.{_≡_};
 ghost use mathlib.Core.Bool.{true, cond};
 ghost use Prim.Native.Nat.{ℕ, suc, _≤_, _<_, _+_, _*_};
@@ -20,9 +20,10 @@ ghost use Rattle.sets.specs.Set.{states, setOf, sigsOf, holds, insert};
 ghost use Rattle.texts.specs.Exp.{size};
 ghost use Rattle.texts.specs.Grammar.{Text, textReads, okBody};
 ghost use Rattle.texts.specs.Records.{each, edgesTo, recordsOf};
-ghost use Rattle.records.specs.Front.{Writes};
-ghost use Rattle.shapes.specs.Rows.{Sums};
-ghost use Rattle.compile.specs.Compile.{expOf, freeOf, Arrive, Ends, refused, made, Gives, Compiles};
+ghost use Rattle.records.specs.Front.{Writes, Below};
+ghost use Rattle.walk.specs.Rows.{Sums, rowsSize};
+ghost use mathlib.Core.List.{List};
+ghost use Rattle.compile.specs.Compile.{expOf, freeOf, Walked, Arrive, Ends, refused, made, Gives, Compiles};
 
 // What compiling answers: a refusal's number or 0, the place of 19, and the length of the list.
 pub struct Compiled {
@@ -42,7 +43,7 @@ fn is_bound(text: &[u8]) -> bool
     ensures { λ r. ⌜ ((x : Text) → okBody (x .body) ≡ true → textReads x ≡ now (text .entry) → r ≡ x .bound) ⌝ }
 {
     if 0 < text.len() {
-        return text[0] == 94;
+        return text[0] == b'^';
     }
     false
 }
@@ -65,17 +66,18 @@ fn any_arrows(bound: bool) -> Incoming
     }
 }
 
-// The edges to state t of a good text's position automaton.
-fn arrows(text: &[u8], t: usize) -> Incoming
-    ensures { λ r. ⌜ ((x : Text) → okBody (x .body) ≡ true → textReads x ≡ now (text .entry) → size (expOf x) < states → t ≤ size (expOf x) → Arrive (freeOf x) (expOf x) t (setOf (r .from)) (holds (sigsOf (r .letter)))) ⌝ }
+// The edges to state t of a good text's position automaton, whose rows stand in the work place.
+fn arrows(rows: &[u8], shape: Shape, bound: bool, t: usize) -> Incoming
+    requires { ⌜ (t < states) × (length (now rows) ≡ rowsSize) ⌝ }
+    ensures { λ r. ⌜ ((x : Text) → Walked (now (rows .entry)) shape bound x → size (expOf x) < states → t ≤ size (expOf x) → Arrive (freeOf x) (expOf x) t (setOf (r .from)) (holds (sigsOf (r .letter))) × Below (setOf (r .from)) (suc (size (expOf x)))) ⌝ }
 {
     if t == 0 {
-        return any_arrows(is_bound(text));
+        return any_arrows(bound);
     }
-    let shape = row(text, t);
-    let from = shape.prior;
-    let letter = shape.letter;
-    if shape.first {
+    let from = StateSet::whole(rows, walk::ROW * t);
+    let letter = SigSet::whole(rows, walk::ROW * t + sets::BYTES);
+    let first = shape.first;
+    if first.has(t) {
         return Incoming {
             from: from.with(0),
             letter: letter,
@@ -89,7 +91,7 @@ fn arrows(text: &[u8], t: usize) -> Incoming
 
 // The states that accept.
 fn ends_of(shape: Shape) -> StateSet
-    ensures { λ r. ⌜ ((x : Text) → Sums 0 1 (expOf x) shape → size (expOf x) < states → Ends (expOf x) (setOf r)) ⌝ }
+    ensures { λ r. ⌜ ((R : List ℕ) (x : Text) → Sums R 1 (expOf x) shape → size (expOf x) < states → Ends (expOf x) (setOf r) × Below (setOf r) (suc (size (expOf x)))) ⌝ }
 {
     let last = shape.last;
     if shape.null {
@@ -99,32 +101,31 @@ fn ends_of(shape: Shape) -> StateSet
 }
 
 // How many edges a good text's position automaton has; it has m states.
-fn count_edges(text: &[u8], m: usize) -> usize
-    requires { ⌜ m ≤ states ⌝ }
-    ensures { λ r. ⌜ (r ≤ 263168 * m) × ((x : Text) → okBody (x .body) ≡ true → textReads x ≡ now (text .entry) → m ≡ suc (size (expOf x)) → r ≡ length (each (edgesTo (freeOf x) (expOf x)) m)) ⌝ }
+fn count_edges(rows: &[u8], shape: Shape, bound: bool, m: usize) -> usize
+    requires { ⌜ (m ≤ states) × (length (now rows) ≡ rowsSize) ⌝ }
+    ensures { λ r. ⌜ (r ≤ 262144 * m) × ((x : Text) → Walked (now (rows .entry)) shape bound x → m ≡ suc (size (expOf x)) → r ≡ length (each (edgesTo (freeOf x) (expOf x)) m)) ⌝ }
 {
     let mut total: usize = 0;
     let mut t: usize = 0;
     while t < m {
-        let a = arrows(text, t);
+        let a = arrows(rows, shape, bound, t);
         let from = a.from;
         let letter = a.letter;
-        let runs = run_count(letter);
-        total = total + weigh(from, m, runs);
+        total = total + weigh(from, run_count(letter));
         t = t + 1;
     }
     total
 }
 
 // Puts them into an empty front of the list.
-fn put_edges(text: &[u8], list: &mut [u8], m: usize) -> usize
-    requires { ⌜ m ≤ states ⌝ }
-    ensures { λ r. ⌜ ((x : Text) → okBody (x .body) ≡ true → textReads x ≡ now (text .entry) → m ≡ suc (size (expOf x)) → Writes (now (list .entry)) (now (list .exit)) 0 (each (edgesTo (freeOf x) (expOf x)) m) r) ⌝ }
+fn put_edges(rows: &[u8], shape: Shape, bound: bool, list: &mut [u8], m: usize) -> usize
+    requires { ⌜ (m ≤ states) × (length (now rows) ≡ rowsSize) ⌝ }
+    ensures { λ r. ⌜ ((x : Text) → Walked (now (rows .entry)) shape bound x → m ≡ suc (size (expOf x)) → Writes (now (list .entry)) (now (list .exit)) 0 (each (edgesTo (freeOf x) (expOf x)) m) r) ⌝ }
 {
     let mut k: usize = 0;
     let mut t: usize = 0;
     while t < m {
-        let a = arrows(text, t);
+        let a = arrows(rows, shape, bound, t);
         let from = a.from;
         let letter = a.letter;
         k = put_arrows(list, k, from, letter, t, m);
@@ -134,11 +135,19 @@ fn put_edges(text: &[u8], list: &mut [u8], m: usize) -> usize
 }
 
 // Puts all records of a good text into an empty front of the list.
-fn put_all(text: &[u8], g: u8, list: &mut [u8], m: usize, ends: StateSet) -> usize
-    requires { ⌜ m ≤ states ⌝ }
-    ensures { λ r. ⌜ ((x : Text) → okBody (x .body) ≡ true → textReads x ≡ now (text .entry) → m ≡ suc (size (expOf x)) → Ends (expOf x) (setOf ends) → Writes (now (list .entry)) (now (list .exit)) 0 (recordsOf x g) r) ⌝ }
+fn put_all(
+    rows: &[u8],
+    shape: Shape,
+    bound: bool,
+    g: u8,
+    list: &mut [u8],
+    m: usize,
+    ends: StateSet,
+) -> usize
+    requires { ⌜ (m ≤ states) × (length (now rows) ≡ rowsSize) ⌝ }
+    ensures { λ r. ⌜ ((x : Text) → Walked (now (rows .entry)) shape bound x → m ≡ suc (size (expOf x)) → Ends (expOf x) (setOf ends) → Writes (now (list .entry)) (now (list .exit)) 0 (recordsOf x g) r) ⌝ }
 {
-    let k = put_edges(text, list, m);
+    let k = put_edges(rows, shape, bound, list, m);
     let j = put_in(list, k, start_record());
     put_ends(list, j, ends, g, m)
 }
@@ -158,21 +167,24 @@ fn refused(refusal: u32, place: usize) -> Compiled
 fn build(text: &[u8], g: u8, list: &mut [u8]) -> Compiled
     ensures { λ r. ⌜ ((x : Text) → okBody (x .body) ≡ true → textReads x ≡ now (text .entry) → Gives (made x g (now (list .entry))) r (now (list .exit))) ⌝ }
 {
-    let whole = row(text, 0);
+    let mut rows = [0u8; walk::ROWS];
+    let whole = walk::walk(text, &mut rows);
     let n = whole.size;
     if sets::STATES <= n {
         return refused(21, 0);
     }
     let m = n + 1;
+    let bound = is_bound(text);
     let ends = ends_of(whole);
-    let count = count_edges(text, m) + 1 + weigh(ends, m, 1);
+    let count = count_edges(&rows, whole, bound, m) + 1 + weigh(ends, 1);
     if lists::MOST_RECORDS < count {
         return refused(21, 0);
     }
     if list.len() / 8 < count {
         return refused(21, 0);
     }
-    put_all(text, g, list, m, ends);
+    put_all(&rows, whole, bound, g, list, m, ends);
+    sort(list, 0, count, &mut rows);
     Compiled {
         refusal: 0,
         place: 0,

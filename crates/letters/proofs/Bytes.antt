@@ -1,22 +1,20 @@
 -- Single bytes, members and leaves of a good text, from a place on.
-use Prim.Native.Nat.{ℕ, zero, suc, _+_, _-_, _*_, _≤_, _<_}
+use Prim.Native.Nat.{ℕ, zero, suc, _+_, _*_, _≤_, _<_}
 use mathlib.Core.Path.{_≡_, refl, sym, ap, subst, _∙_}
-use mathlib.Core.Bool.{Bool, true, false, _&&_, _||_, not, cond, true≢false, false≢true}
+use mathlib.Core.Bool.{Bool, true, false, _&&_, _||_, not, cond, true≢false}
 use mathlib.Core.List.{List, [], _∷_, _++_}
 use mathlib.Core.Logic.{_⊎_, inl, inr}
 use native.Mathlib.Omega.{arith}
-use lib.Dec.{leb, ltb, eqb}
+use lib.Dec.{leb, eqb}
 use lib.ListN.{length, drop, getD}
 use lib.Seq.{drop-cons}
-use borrow.Author.Tests.{eqb-false, eq-eqb, ne-eqb, lt-ltb, le-ltb, le-leb, lt-leb, leb-true, leb-false, ltb-true, ltb-false, eqb-true}
+use borrow.Author.Tests.{eqb-false, eq-eqb, le-leb, lt-leb, leb-true, eqb-true}
 use Rattle.texts.specs.Grammar.{Single, plain, hex, line, Member, lone, spaces, range, amid, classSpecial, hexValue, value, okSingle, okMember, okMembers, spell, spellMember, spellMembers, memberHas, membersHave, Leaf, single, space, any, class, special, okLeaf, spellLeaf, leafHas}
 use Rattle.texts.proofs.Words.{headOf}
 use Rattle.texts.proofs.Places.{both}
-use Rattle.texts.proofs.Reading.{assoc, members-head, member-head, members-caret}
-use Rattle.texts.proofs.Reading.{amid-out, not-true}
-use Rattle.texts.proofs.Peeling.{peel-lt, peel-at, peel-tail, gone, leaf-not}
-use Rattle.sets.specs.Set.{holds, insert, signatures}
-use Rattle.sets.proofs.Sets.{holds-insert}
+use Rattle.texts.proofs.Reading.{assoc, members-head, member-head, members-caret, amid-out, not-true}
+use Rattle.texts.proofs.Peeling.{peel-lt, peel-at, peel-tail, gone}
+use Rattle.sets.specs.Set.{holds}
 
 pub past-end : (T : List ℕ) (i : ℕ) → length T ≤ i → 0 ≡ getD T i 0
 past-end [] zero h = refl
@@ -56,73 +54,9 @@ module _ (T : List ℕ) (n : ℕ) (y : List ℕ) where
   single-plain out (hex a b) ok e g = absurd (g (peel-at T n 92 (120 ∷ a ∷ b ∷ y) e))
   single-plain out line ok e g = absurd (g (peel-at T n 92 (110 ∷ y) e))
 
--- ---- bytes from one to another
-
-abbrev pub Spanned : ℕ → ℕ → ℕ → ℕ → Type 0
-Spanned s r low i = (c : ℕ) → c < 256 → holds r c ≡ (holds s c || (leb low c && ltb c i))
-
 or-none : (a : Bool) → (a || false) ≡ a
 or-none true = refl
 or-none false = refl
-
-and-none : (a : Bool) → (a && false) ≡ false
-and-none true = refl
-and-none false = refl
-
-pub span-start : (s low : ℕ) → Spanned s s low low
-span-start s low c h = go (leb low c) refl
-  where
-    go : (b : Bool) → leb low c ≡ b → holds s c ≡ (holds s c || (leb low c && ltb c low))
-    go true e = let l : low ≤ c = leb-true low c e in rw (e, le-ltb c low l) (sym (or-none (holds s c)))
-    go false e = rw e (sym (or-none (holds s c)))
-
-next-up : (c i : ℕ) → i ≤ c → (c ≡ i → ⊥) → i + 1 ≤ c
-next-up c i l q = omega arith
-
-pub span-more : (s r low i : ℕ) → low ≤ i → i < 256 → Spanned s r low i → Spanned s (insert signatures r i) low (i + 1)
-span-more s r low i h l f c k = holds-insert signatures r i c ∙ rw (lt-ltb i signatures l, f c k) (go (eqb c i) refl)
-  where
-    shift : (a b d : Bool) → ((a || b) || d) ≡ (a || (b || d))
-    shift true b d = refl
-    shift false b d = refl
-
-    go : (b : Bool) → eqb c i ≡ b → ((holds s c || (leb low c && ltb c i)) || eqb c i) ≡ (holds s c || (leb low c && ltb c (i + 1)))
-    go true e =
-        let q : c ≡ i = eqb-true c i e in
-        rw (e, le-leb low c (omega arith), lt-ltb c (i + 1) (omega arith), le-ltb c i (omega arith)) (ends (holds s c))
-      where
-        ends : (a : Bool) → ((a || false) || true) ≡ (a || true)
-        ends true = refl
-        ends false = refl
-    go false e =
-        let q : c ≡ i → ⊥ = eqb-false c i e in
-        rw (e, same q) (or-none (holds s c || (leb low c && ltb c (i + 1))))
-      where
-        same : (c ≡ i → ⊥) → ltb c i ≡ ltb c (i + 1)
-        same q = inner (ltb c i) refl
-          where
-            inner : (b : Bool) → ltb c i ≡ b → b ≡ ltb c (i + 1)
-            inner true z = let l : c < i = ltb-true c i z in sym (lt-ltb c (i + 1) (omega arith))
-            inner false z = let l : i ≤ c = ltb-false c i z in sym (le-ltb c (i + 1) (next-up c i l q))
-
--- all up to high are there, or all up to 255
-pub span-end : (s r low i high : ℕ) → (high < i) ⊎ (256 ≤ i) → low ≤ i → ((low ≡ i → ⊥) → i ≤ high + 1) → Spanned s r low i → (c : ℕ) → c < 256 → holds r c ≡ (holds s c || (leb low c && leb c high))
-span-end s r low i high h l m f c k = f c k ∙ ap (λ z. holds s c || z) (go (leb low c) refl)
-  where
-    go : (b : Bool) → leb low c ≡ b → (leb low c && ltb c i) ≡ (leb low c && leb c high)
-    go false e = rw e
-    go true e = rw e (tests h)
-      where
-        p : low ≤ c
-        p = leb-true low c e
-
-        tests : (high < i) ⊎ (256 ≤ i) → ltb c i ≡ leb c high
-        tests z = inner (ltb c i) refl z
-          where
-            inner : (b : Bool) → ltb c i ≡ b → (high < i) ⊎ (256 ≤ i) → b ≡ leb c high
-            inner true q z = let u : c < i = ltb-true c i q in let v : i ≤ high + 1 = m (λ y. omega (arith, p)) in sym (le-leb c high (omega arith))
-            inner false q (inl z) = let u : i ≤ c = ltb-false c i q in sym (lt-leb c high (omega arith))
-            inner false q (inr z) = let u : i ≤ c = ltb-false c i q in absurd (omega arith)
 
 -- ---- members
 
@@ -281,42 +215,6 @@ module _ (T : List ℕ) (at n s : ℕ) (h : Had T at n s) where
 
   pub had-gone : length T ≤ n → (ms : List Member) (y : List ℕ) → okMembers ms ≡ true → drop at T ≡ spellMembers ms ++ (93 ∷ y) → ⊥
   had-gone l ms y ok e = let (ns, okn, p, q) = h ms y ok e in gone T n 93 (spellMembers ns) y l p
-
--- ---- the other bytes
-
-abbrev pub Others : ℕ → ℕ → ℕ → Type 0
-Others s r i = (c : ℕ) → c < 256 → holds r c ≡ (ltb c i && not (holds s c))
-
-pub others-start : (s r : ℕ) → ((c : ℕ) → holds r c ≡ false) → Others s r 0
-others-start s r f c k = f c ∙ ap (λ z. z && not (holds s c)) (sym (le-ltb c 0 (omega arith)))
-
-next-test : (c i : ℕ) → (c ≡ i → ⊥) → ltb c (i + 1) ≡ ltb c i
-next-test c i q = inner (ltb c i) refl
-  where
-    inner : (b : Bool) → ltb c i ≡ b → ltb c (i + 1) ≡ b
-    inner true z = let l : c < i = ltb-true c i z in lt-ltb c (i + 1) (omega arith)
-    inner false z = let l : i ≤ c = ltb-false c i z in le-ltb c (i + 1) (next-up c i l q)
-
-pub others-skip : (s r i : ℕ) → holds s i ≡ true → Others s r i → Others s r (i + 1)
-others-skip s r i h f c k = f c k ∙ go (eqb c i) refl
-  where
-    go : (b : Bool) → eqb c i ≡ b → (ltb c i && not (holds s c)) ≡ (ltb c (i + 1) && not (holds s c))
-    go true e = let q : c ≡ i = eqb-true c i e in let g : holds s c ≡ true = ap (holds s) q ∙ h in rw g (and-none (ltb c i) ∙ sym (and-none (ltb c (i + 1))))
-    go false e = rw (next-test c i (eqb-false c i e))
-
-pub others-add : (s r i : ℕ) → i < 256 → holds s i ≡ false → Others s r i → Others s (insert signatures r i) (i + 1)
-others-add s r i l h f c k = holds-insert signatures r i c ∙ rw (lt-ltb i signatures l, f c k) (go (eqb c i) refl)
-  where
-    go : (b : Bool) → eqb c i ≡ b → ((ltb c i && not (holds s c)) || eqb c i) ≡ (ltb c (i + 1) && not (holds s c))
-    go true e = let q : c ≡ i = eqb-true c i e in let g : holds s c ≡ false = ap (holds s) q ∙ h in rw (e, g, lt-ltb c (i + 1) (omega arith)) (ends (ltb c i && true))
-      where
-        ends : (a : Bool) → (a || true) ≡ true
-        ends true = refl
-        ends false = refl
-    go false e = rw (e, next-test c i (eqb-false c i e)) (or-none (ltb c i && not (holds s c)))
-
-pub others-all : (s r i : ℕ) → 256 ≤ i → Others s r i → (c : ℕ) → c < 256 → holds r c ≡ not (holds s c)
-others-all s r i h f c k = f c k ∙ ap (λ z. z && not (holds s c)) (lt-ltb c i (omega arith))
 
 -- ---- leaves
 

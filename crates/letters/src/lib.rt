@@ -1,5 +1,8 @@
-// The byte set of a leaf of a good text.
+// The byte set of a leaf of a good text, and how many longest runs of bytes a set has.
 use sets::SigSet;
+use words::next_byte;
+use words::others;
+use words::span;
 ghost use mathlib.Core.Path.{_≡_};
 ghost use mathlib.Core.Bool.{Bool, true, false, _&&_, _||_, not, cond};
 ghost use mathlib.Core.List.{List, _∷_, _++_};
@@ -91,22 +94,6 @@ fn single_of(text: &[u8], at: usize) -> One
     }
 }
 
-// The bytes from one to another, too.
-pub fn span(set: SigSet, low: usize, high: usize) -> SigSet
-    ensures { λ r. ⌜ ((c : ℕ) → c < 256 → holds (sigsOf r) c ≡ (holds (sigsOf set) c || (leb low c && leb c high))) ⌝ }
-{
-    let mut more = set;
-    let mut i = low;
-    while i < 256 {
-        if high < i {
-            return more;
-        }
-        more = more.with(i);
-        i = i + 1;
-    }
-    more
-}
-
 // Says whether `\s` stands at a place.
 fn white(text: &[u8], at: usize) -> bool
     requires { ⌜ at ≤ length (now text) ⌝ }
@@ -164,23 +151,6 @@ fn class_set(text: &[u8], at: usize) -> SigSet
     set
 }
 
-// The bytes that are not in the set.
-fn others(set: SigSet) -> SigSet
-    ensures { λ r. ⌜ ((c : ℕ) → c < 256 → holds (sigsOf r) c ≡ not (holds (sigsOf set) c)) ⌝ }
-{
-    let mut more = SigSet::EMPTY;
-    let mut i: usize = 0;
-    while i < 256 {
-        if set.has(i) {
-            i = i + 1;
-        } else {
-            more = more.with(i);
-            i = i + 1;
-        }
-    }
-    more
-}
-
 // The byte set of the leaf at a place.
 pub fn leaf_set(text: &[u8], at: usize) -> SigSet
     requires { ⌜ at < length (now text) ⌝ }
@@ -209,60 +179,19 @@ pub fn leaf_set(text: &[u8], at: usize) -> SigSet
     span(none, one.value, one.value)
 }
 
-// The bytes of both sets.
-pub fn joined(a: SigSet, b: SigSet) -> SigSet
-    ensures { λ r. ⌜ sigsOf r ≡ join (sigsOf a) (sigsOf b) ⌝ }
-{
-    let x = a.words;
-    let y = b.words;
-    let mut w = x;
-    for i in 0..sets::SIG_WORDS {
-        w[i] = x[i] | y[i];
-    }
-    SigSet::of_words(w)
-}
-
 // ---- longest runs of bytes
 
-// One more than where the run at hand began, after byte c; 0 where there is none.
-pub fn began(hit: bool, c: usize, low: usize) -> usize
-    requires { ⌜ (c < 256) × (low ≤ 256) ⌝ }
-    ensures { λ r. ⌜ (r ≡ cond hit (cond (eqb low 0) (c + 1) low) 0) × (r ≤ 256) ⌝ }
-{
-    if hit {
-        if low == 0 {
-            return c + 1;
-        }
-        return low;
-    }
-    0
-}
-
-// 1 where a run ends before a byte, else 0.
-fn ended(hit: bool, low: usize) -> usize
-    ensures { λ r. ⌜ (r ≡ cond (hit || eqb low 0) 0 1) × (r ≤ 1) ⌝ }
-{
-    if hit {
-        return 0;
-    }
-    if low == 0 {
-        return 0;
-    }
-    1
-}
-
-// How many longest runs of bytes a set has.
+// How many longest runs of bytes a set has: each goes on to the next byte that is not in it.
 pub fn run_count(set: SigSet) -> usize
-    ensures { λ r. ⌜ (r ≡ length (runs (holds (sigsOf set)) 256 0 0)) × (r ≤ 257) ⌝ }
+    ensures { λ r. ⌜ (r ≡ length (runs (holds (sigsOf set)) 256 0 0)) × (r ≤ 256) ⌝ }
 {
+    let gaps = others(set);
     let mut n: usize = 0;
-    let mut c: usize = 0;
-    let mut low: usize = 0;
+    let mut c = next_byte(set, 0);
     while c < 256 {
-        let hit = set.has(c);
-        n = n + ended(hit, low);
-        low = began(hit, c, low);
-        c = c + 1;
+        let end = next_byte(gaps, c);
+        c = next_byte(set, end);
+        n = n + 1;
     }
-    n + ended(false, low)
+    n
 }

@@ -19,7 +19,7 @@ ghost use Rattle.certificates.specs.Certificate.{certificateRefusal};
 ghost use Rattle.compile.specs.Compile.{Compiles};
 
 // The version of the face, by which a caller compares its header with the archive.
-pub const VERSION: u32 = 13;
+pub const VERSION: u32 = 14;
 
 // What a feed answers, as C lays it out.
 #[repr(C)]

@@ -1,12 +1,7 @@
 -- `any_arrows` meets its promise. Assumes nothing.
 use borrow.Author.Needs.{needs}
-use native.Mathlib.Omega.{arith}
-use Prim.Native.Nat.{_≤_, _<_, _-_, _+_, _*_}
-use lib.ListN.{length, length-set}
-use mathlib.Core.Path.{_≡_, sym, _∙_}
-use mathlib.Core.Bool.{cond}
+use mathlib.Core.Path.{_∙_, ap}
 use Rattle.sets.proofs.Sets.{empty-words}
-use mathlib.Core.Path.{ap}
 use Rattle.compile.proofs.Listing.{all-bytes}
 use lib.ListN.{replicate}
 use Rattle.sets.specs.Set.{states, setWords, sigWords, num, insert, holds}

@@ -1,10 +1,6 @@
 -- `compile` meets its promise. Assumes nothing.
 use borrow.Author.Needs.{needs}
-use native.Mathlib.Omega.{arith}
-use Prim.Native.Nat.{_≤_, _<_, _-_, _+_, _*_}
-use lib.ListN.{length, length-set}
-use mathlib.Core.Path.{_≡_, sym, _∙_}
-use mathlib.Core.Path.{ap}
+use mathlib.Core.Path.{sym, _∙_, ap}
 use Rattle.parser.specs.Went.{answer}
 use Rattle.compile.proofs.Listing.{compiles-good, compiles-bad}
 use Rattle.compile.proofs.compile.Statement.{statement}

@@ -1,9 +1,6 @@
 -- `is_bound` meets its promise. Assumes nothing.
 use borrow.Author.Needs.{needs}
 use native.Mathlib.Omega.{arith}
-use Prim.Native.Nat.{_≤_, _<_, _-_, _+_, _*_}
-use lib.ListN.{length, length-set}
-use mathlib.Core.Path.{_≡_, sym, _∙_}
 use Rattle.compile.proofs.Listing.{bound-front, bound-empty}
 use Rattle.compile.proofs.is_bound.Statement.{statement}
 use Rattle.compile.proofs.is_bound.Tie as tie

@@ -1,14 +1,9 @@
 -- `put_all` meets its promise. Assumes nothing.
 use borrow.Author.Needs.{needs}
-use native.Mathlib.Omega.{arith}
-use Prim.Native.Nat.{_≤_, _<_, _-_, _+_, _*_}
-use lib.ListN.{length, length-set}
-use mathlib.Core.Path.{_≡_, sym, _∙_}
 use mathlib.Core.Path.{subst}
 use mathlib.Core.List.{[], _∷_}
 use Rattle.sets.specs.Set.{setOf}
 use Rattle.records.specs.Front.{Writes}
-use Rattle.compile.specs.Compile.{expOf, freeOf}
 use Rattle.compile.proofs.Listing.{all-put}
 use Rattle.compile.proofs.put_all.Statement.{statement}
 use Rattle.compile.proofs.put_all.Tie as tie
@@ -34,8 +29,8 @@ returns c =
     let u = c .before .before .before .before .before .before .before .before .before .before .before .put-edges in
     let v = c .before .before .before .before .before .before .put-in in
     let w = c .before .before .put-ends in
-    λ x ok e q d. all-put (a .list .now) (u .last .1 .0) (v .last .0) (w .last .0) (u .result) (v .result) (w .result) (a .g) (a .m) x (setOf (a .ends)) q d (u .ensures x ok e q)
-    (subst (λ z. Writes (u .last .1 .0) (v .last .0) (u .result) (z ∷ []) (v .result)) (c .before .before .before .before .before .before .before .start-record .ensures) (v .ensures)) (w .ensures)
+    λ x w0 q d. all-put (a .list .now) (u .last .1 .1 .1 .0) (v .last .0) (w .last .0) (u .result) (v .result) (w .result) (a .g) (a .m) x (setOf (a .ends)) q d (u .ensures x w0 q)
+    (subst (λ z. Writes (u .last .1 .1 .1 .0) (v .last .0) (u .result) (z ∷ []) (v .result)) (c .before .before .before .before .before .before .before .start-record .ensures) (v .ensures)) (w .ensures)
 
 pub put-all-spec : {M : Type 1} → statement M
 put-all-spec =

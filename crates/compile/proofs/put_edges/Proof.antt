@@ -1,40 +1,38 @@
 -- `put_edges` meets its promise. Assumes nothing.
 use borrow.Author.Needs.{needs}
 use native.Mathlib.Omega.{arith}
-use Prim.Native.Nat.{_≤_, _<_, _-_, _+_, _*_}
-use lib.ListN.{length, length-set}
-use mathlib.Core.Path.{_≡_, sym, _∙_}
-use Prim.Native.Nat.{ℕ, suc}
-use mathlib.Core.Path.{refl, subst}
-use mathlib.Core.Bool.{true}
-use Rattle.sets.specs.Set.{states, setOf, sigsOf, holds}
+use Prim.Native.Nat.{_≤_, _-_, suc}
+use lib.ListN.{length}
+use mathlib.Core.Path.{_≡_, _∙_, refl, subst}
+use Rattle.sets.specs.Set.{setOf, sigsOf, holds}
 use Rattle.texts.specs.Exp.{size}
-use Rattle.texts.specs.Grammar.{Text, okBody, textReads}
+use Rattle.texts.specs.Grammar.{Text}
 use Rattle.texts.specs.Records.{each, edgesTo}
 use Rattle.records.specs.Front.{Writes}
 use Rattle.records.proofs.Writing.{each-start, each-with}
-use Rattle.compile.specs.Compile.{expOf, freeOf}
+use Rattle.compile.specs.Compile.{expOf, freeOf, Walked}
 use Rattle.compile.proofs.Listing.{arrows-to}
 use Rattle.compile.proofs.put_edges.Statement.{statement}
 use Rattle.compile.proofs.put_edges.Tie as tie
 
 abbrev Inv-loop : tie.InvT-loop
-Inv-loop text list₀ m k₀ t₀ list k t = (t ≤ m) × (length list ≡ length list₀) × ((x : Text) → okBody (x .body) ≡ true → textReads x ≡ text → m ≡ suc (size (expOf x)) → Writes list₀ list 0 (each (edgesTo (freeOf x) (expOf x)) t) k)
+Inv-loop rows shape bound list₀ m k₀ t₀ list k t = (t ≤ m) × (length list ≡ length list₀) × ((x : Text) → Walked rows shape bound x → m ≡ suc (size (expOf x)) → Writes list₀ list 0 (each (edgesTo (freeOf x) (expOf x)) t) k)
 
 abbrev μ-loop : tie.MeasureT-loop
-μ-loop text list₀ m k₀ t₀ list k t = m - t
+μ-loop rows shape bound list₀ m k₀ t₀ list k t = m - t
 
 loop-holds : tie.Need-loop-holds Inv-loop μ-loop
 loop-holds c =
     let a = c .before .before .args in
-    (omega arith, refl, λ x ok e q. each-start (a .list .now) 0 (edgesTo (freeOf x) (expOf x)))
+    (omega arith, refl, λ x w0 q. each-start (a .list .now) 0 (edgesTo (freeOf x) (expOf x)))
 
 arrows-requires : tie.Need-arrows-requires Inv-loop μ-loop
-arrows-requires c κs = search needs
+arrows-requires c κs =
+    (omega (arith, c .loop-test .taken, c .before .before .before .before .pre .0), c .before .before .before .before .pre .1)
 
 put-arrows-requires : tie.Need-put-arrows-requires Inv-loop μ-loop
 put-arrows-requires c κs =
-    (omega (arith, c .before .before .before .before .loop-test .taken, c .before .before .before .before .before .before .before .before .pre), c .before .before .before .before .before .before .before .before .pre)
+    (omega (arith, c .before .before .before .before .loop-test .taken, c .before .before .before .before .before .before .before .before .pre .0), c .before .before .before .before .before .before .before .before .pre .0)
 
 add-t : tie.Need-add-t Inv-loop μ-loop
 add-t c = search needs
@@ -50,10 +48,10 @@ loop-again c =
     let u = c .before .before .put-arrows in (
       omega (arith, c .before .before .before .before .before .before .before .loop-test .taken),
       u .kept .0 ∙ l .inv .1,
-      λ x ok e q.
-          each-with (a .list .now) (l .list) (u .last .0) 0 (l .k) (u .result) (edgesTo (freeOf x) (expOf x)) (l .t) (l .inv .2 x ok e q)
+      λ x w0 q.
+          each-with (a .list .now) (l .list) (u .last .0) 0 (l .k) (u .result) (edgesTo (freeOf x) (expOf x)) (l .t) (l .inv .2 x w0 q)
           (subst (λ z. Writes (l .list) (u .last .0) (l .k) z (u .result))
-          (arrows-to (freeOf x) (expOf x) (l .t) (setOf (r .result .from)) (holds (sigsOf (r .result .letter))) (r .ensures x ok e (omega (arith, q, c .before .before .before .before .before .before .before .before .before .before .before .pre)) (omega (arith, q, c .before .before .before .before .before .before .before .loop-test .taken))) (a .m) q)
+          (arrows-to (freeOf x) (expOf x) (l .t) (setOf (r .result .from)) (holds (sigsOf (r .result .letter))) (r .ensures x w0 (omega (arith, q, c .before .before .before .before .before .before .before .before .before .before .before .pre .0)) (omega (arith, q, c .before .before .before .before .before .before .before .loop-test .taken)) .0) (a .m) q)
           (u .ensures)),
     )
 
@@ -66,7 +64,7 @@ returns c =
     let a = c .before .before .before .before .args in
     let l = c .before .loop in
     let z : l .t ≡ a .m = omega (arith, l .inv .0, c .loop-test .left) in
-    λ x ok e q. subst (λ i. Writes (a .list .now) (l .list) 0 (each (edgesTo (freeOf x) (expOf x)) i) (l .k)) z (l .inv .2 x ok e q)
+    λ x w0 q. subst (λ i. Writes (a .list .now) (l .list) 0 (each (edgesTo (freeOf x) (expOf x)) i) (l .k)) z (l .inv .2 x w0 q)
 
 pub put-edges-spec : {M : Type 1} → statement M
 put-edges-spec =

@@ -8,11 +8,6 @@ use mathlib.Core.Bool.{true, false}
 use mathlib.Core.Path.{_≡_}
 use Rattle.letters.proofs.hex_value.Statement.{statement}
 use Rattle.letters.proofs.hex_value.Tie as tie
-use Rattle.letters.proofs.hex_value.Reads as reads
-use Rattle.letters.proofs.hex_value.Lts as lts
-use Rattle.letters.proofs.is_digit.Reads as is-digit-reads
-use Rattle.letters.proofs.less.Reads as less-reads
-use Rattle.letters.proofs.wide.Reads as wide-reads
 
 wide-requires : tie.Need-wide-requires
 wide-requires c κs = search needs

@@ -1,26 +1,15 @@
 -- `leaf_set` meets its promise. Assumes nothing.
 use borrow.Author.Needs.{needs}
 use native.Mathlib.Omega.{arith}
-use Prim.Native.Nat.{ℕ, _≤_, _<_, _+_, _-_, _*_}
-use mathlib.Core.Path.{_≡_, refl, sym, ap, subst, _∙_}
-use mathlib.Core.Bool.{Bool, true, false, _&&_, _||_}
+use mathlib.Core.Path.{sym, ap, _∙_}
 use mathlib.Core.Logic.{_⊎_, inl, inr, ⊎-elim}
-use mathlib.Core.List.{List, [], _∷_, _++_}
-use lib.Dec.{eqb, leb}
-use lib.ListN.{length, drop, getD, replicate}
-use Rattle.sets.specs.Set.{num, insert, sigsOf, holds, signatures, sigWords}
+use lib.ListN.{replicate}
+use Rattle.sets.specs.Set.{num, sigsOf, holds, sigWords}
 use Rattle.sets.proofs.Sets.{empty-words, holds-empty}
-use Rattle.texts.specs.Grammar.{Member, okMembers, spellMembers, membersHave, hexValue, value}
-use Rattle.letters.proofs.Bytes.{past-end, single-hex, single-line, single-plain, Spanned, span-start, span-more, span-end, member-white, member-lone, member-range, Had, had-start, had-end, had-more, had-gone, others-start, others-skip, others-add, others-all, Others, Adds, adds-none, leaf-any, leaf-negated, leaf-members, leaf-space, leaf-single}
+use Rattle.texts.specs.Grammar.{value}
+use Rattle.letters.proofs.Bytes.{adds-none, leaf-any, leaf-negated, leaf-members, leaf-space, leaf-single}
 use Rattle.letters.proofs.leaf_set.Statement.{statement}
 use Rattle.letters.proofs.leaf_set.Tie as tie
-use Rattle.letters.proofs.leaf_set.Reads as reads
-use Rattle.letters.proofs.leaf_set.Lts as lts
-use Rattle.letters.proofs.class_set.Reads as class-set-reads
-use Rattle.letters.proofs.others.Reads as others-reads
-use Rattle.letters.proofs.single_of.Reads as single-of-reads
-use Rattle.letters.proofs.span.Reads as span-reads
-use Rattle.letters.proofs.white.Reads as white-reads
 
 shared-slice-read-c : tie.Need-shared-slice-read-c
 shared-slice-read-c c = search needs

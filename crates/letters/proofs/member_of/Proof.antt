@@ -1,24 +1,13 @@
 -- `member_of` meets its promise. Assumes nothing.
 use borrow.Author.Needs.{needs}
 use native.Mathlib.Omega.{arith}
-use Prim.Native.Nat.{ℕ, _≤_, _<_, _+_, _-_, _*_}
-use mathlib.Core.Path.{_≡_, refl, sym, ap, subst, _∙_}
-use mathlib.Core.Bool.{Bool, true, false, _&&_, _||_}
+use mathlib.Core.Path.{sym, _∙_}
 use mathlib.Core.Logic.{_⊎_, inl, inr, ⊎-elim}
-use mathlib.Core.List.{List, [], _∷_, _++_}
-use lib.Dec.{eqb, leb}
-use lib.ListN.{length, drop, getD}
-use Rattle.sets.specs.Set.{sigsOf, holds, signatures, sigWords}
-use Rattle.sets.proofs.Sets.{empty-words, holds-empty}
-use Rattle.texts.specs.Grammar.{Member, okMembers, spellMembers, membersHave, hexValue, value}
-use Rattle.letters.proofs.Bytes.{past-end, single-hex, single-line, single-plain, Spanned, span-start, span-more, span-end, member-white, member-lone, member-range, Had, had-start, had-end, had-more, had-gone}
+use Rattle.sets.specs.Set.{sigsOf}
+use Rattle.texts.specs.Grammar.{value}
+use Rattle.letters.proofs.Bytes.{member-white, member-lone, member-range}
 use Rattle.letters.proofs.member_of.Statement.{statement}
 use Rattle.letters.proofs.member_of.Tie as tie
-use Rattle.letters.proofs.member_of.Reads as reads
-use Rattle.letters.proofs.member_of.Lts as lts
-use Rattle.letters.proofs.single_of.Reads as single-of-reads
-use Rattle.letters.proofs.span.Reads as span-reads
-use Rattle.letters.proofs.white.Reads as white-reads
 
 white-requires : tie.Need-white-requires
 white-requires c κs = search needs

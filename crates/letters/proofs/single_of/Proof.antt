@@ -1,24 +1,10 @@
 -- `single_of` meets its promise. Assumes nothing.
 use borrow.Author.Needs.{needs}
 use native.Mathlib.Omega.{arith}
-use Prim.Native.Nat.{ℕ, _≤_, _<_, _+_, _-_, _*_}
-use mathlib.Core.Path.{_≡_, refl, sym, ap, subst, _∙_}
-use mathlib.Core.Bool.{Bool, true, false, _&&_, _||_}
-use mathlib.Core.Logic.{_⊎_, inl, inr}
-use mathlib.Core.List.{List, [], _∷_, _++_}
-use lib.Dec.{eqb, leb}
-use lib.ListN.{length, drop, getD}
-use Rattle.sets.specs.Set.{sigsOf, holds, signatures, sigWords}
-use Rattle.sets.proofs.Sets.{empty-words, holds-empty}
-use Rattle.texts.specs.Grammar.{Member, okMembers, spellMembers, membersHave, hexValue, value}
-use Rattle.letters.proofs.Bytes.{past-end, single-hex, single-line, single-plain, Spanned, span-start, span-more, span-end}
+use mathlib.Core.Path.{sym, _∙_}
+use Rattle.letters.proofs.Bytes.{single-hex, single-line, single-plain}
 use Rattle.letters.proofs.single_of.Statement.{statement}
 use Rattle.letters.proofs.single_of.Tie as tie
-use Rattle.letters.proofs.single_of.Reads as reads
-use Rattle.letters.proofs.single_of.Lts as lts
-use Rattle.letters.proofs.byte_at.Reads as byte-at-reads
-use Rattle.letters.proofs.hex_value.Reads as hex-value-reads
-use Rattle.letters.proofs.wide.Reads as wide-reads
 
 byte-at-requires : tie.Need-byte-at-requires
 byte-at-requires c κs = search needs

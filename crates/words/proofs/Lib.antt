@@ -1,0 +1,4 @@
+pub mod Bits
+pub mod Further
+pub mod Visiting
+pub mod Masks
