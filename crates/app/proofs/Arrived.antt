@@ -15,8 +15,9 @@ use Rattle.lists.specs.List.{listRefusal}
 use Rattle.plain.specs.Plain.{pairsOf}
 use Rattle.app.specs.Text.{places, decimal, line, lines, endWord, refusedWord, lastLine}
 use Rattle.app.specs.App.{texts, handed, joined}
+use Rattle.app.specs.Words.{linesOf, linesDue}
 use Rattle.app.proofs.Handed.{handed-front}
-use Rattle.app.proofs.Output.{linesOf, linesDue, undisturbed, joined-append, output}
+use Rattle.app.proofs.Output.{undisturbed, joined-append, output}
 
 -- P holds of each element
 abbrev Each : (ℕ → Type 0) → List ℕ → Type 0

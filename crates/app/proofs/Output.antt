@@ -1,40 +1,43 @@
--- An undisturbed run: the lines of the pairs due in the bytes consumed, then the last line, however pieces and rooms cut it. Assumes nothing.
+-- An undisturbed run: the lines of the pairs due in the bytes consumed, then the last line, however pieces and rooms cut it; and when it is refused. Assumes nothing.
 use Prim.Native.Nat.{ℕ, zero, suc, _+_, _*_, _-_, _/_, _%_, _^_, _≤_, _<_}
 use mathlib.Core.Path.{_≡_, refl, sym, ap, _∙_}
-use mathlib.Core.Bool.{Bool, true, false, cond}
+use mathlib.Core.Bool.{Bool, true, false, cond, not, _||_}
 use mathlib.Core.List.{List, [], _∷_, _++_, append-nil, append-assoc}
+use mathlib.Core.Logic.{_⊎_, inl, inr}
 use native.Mathlib.Omega.{arith}
-use native.Mathlib.Decide.{ℕ-discrete}
+use native.Mathlib.Nat.{lt-of-not-le}
+use native.Mathlib.Decide.{ℕ-discrete, decLt}
 use lib.ListN.{length, take, drop, getD, length-append, length-take, length-drop, List·getD-append}
 use lib.Seq.{take-take, take-add, drop-drop, getD-append-add}
-use lib.Dec.{eqb, lit<}
-use borrow.Author.Tests.{eqb-true, eqb-false, eq-eqb, ne-eqb}
-use Rattle.sets.specs.Set.{states}
-use Rattle.rules.proofs.Rules.{last, verdict-then, verdict-refused, verdict-lt}
+use lib.Dec.{eqb, ltb}
+use borrow.Author.Tests.{eqb-true, eqb-false, eq-eqb, ne-eqb, ltb-true, ltb-false}
+use Rattle.sets.specs.Set.{states, within}
+use Rattle.rules.specs.Rules.{verdict}
+use Rattle.rules.proofs.Rules.{skip, stop, last, verdict-then, verdict-refused}
 use Rattle.lists.specs.List.{listRules, listRefusal}
-use Rattle.lists.specs.Automaton.{start}
-use Rattle.lists.proofs.Steps.{start-lt, step-lt}
-use Rattle.feeds.specs.Engine.{Outcome, run, told, consumed, room, ended}
+use Rattle.lists.specs.Automaton.{start, named}
+use Rattle.lists.proofs.Steps.{start-lt}
+use Rattle.lists.proofs.Named.{named-lt, start-named, step-named}
+use Rattle.feeds.specs.Engine.{Outcome, mostOffset, run, costs, told, consumed, room, ended}
 use Rattle.feeds.proofs.Runs.{take-front, length-take-most, run-append, told-append, told-length}
 use Rattle.feeds.proofs.Moves.{feed-ends, no-refusal}
 use Rattle.feeds.specs.Opening.{Opening}
 use Rattle.feeds.proofs.Opening.{opens, opening-refusal}
-use Rattle.flows.specs.Flow.{flowLayout, frontierOf, offsetOf, wrongSize, feedRules}
-use Rattle.flows.proofs.Records.{frontier-flow, offset-flow}
+use Rattle.flows.specs.Flow.{flowLayout, frontierOf, offsetOf, rowsOf, wrongSize, badFlow, otherStart, tooLong, flowRules, feedRules}
+use Rattle.flows.proofs.Records.{frontier-flow, offset-flow, flow-good}
+use Rattle.flows.proofs.Passing.{feed-passes}
+use Rattle.flows.proofs.Kept.{rows-few}
 use Rattle.plain.specs.Plain.{plain, openPairs, openRules, opened, openFlow, pairsOf, plainFeed}
-use Rattle.plain.proofs.Plain.{plain-refusal}
+use Rattle.plain.proofs.Plain.{plain-refusal, plain-cheap}
 use Rattle.plain.proofs.Opening.{openPairs-long, room-suffices}
 use Rattle.plain.proofs.Progress.{progress}
 use Rattle.app.specs.Text.{line, lines, lastLine}
 use Rattle.app.specs.App.{pieceSize, noWords, noRecord, turnOf, restAt, textsFrom, texts, handed, joined}
+use Rattle.app.specs.Words.{PiecesFilled, linesOf, linesDue, longestInput, refusedPiece, Undisturbed, EveryRun}
 use Rattle.app.proofs.Feeding.{turn-by, open-by}
 use Rattle.app.proofs.Handed.{handed-all}
 
 -- ---- lines
-
--- the lines of all pairs of some words
-abbrev pub linesOf : List ℕ → List ℕ
-linesOf ws = lines ws (length ws / 2)
 
 -- words behind the pairs have no say
 lines-front : (xs ys : List ℕ) (m : ℕ) → 2 * m ≤ length xs → lines (xs ++ ys) m ≡ lines xs m
@@ -73,15 +76,41 @@ rest-end : (B : List ℕ) (at : ℕ) → length B ≤ 0 + at → length (restAt 
 unfolding restAt
 rest-end B at l = omega (arith, l, length-take-most (pieceSize - at % pieceSize) (drop at B), length-drop at B)
 
-run-lt : (L : List ℕ) (F : ℕ) (cs : List ℕ) → F < 2 ^ states → run (plain L) F cs < 2 ^ states
+-- what is left ends where a piece of 4,096 bytes or the input does
+pub pieces-filled : PiecesFilled
+unfolding restAt
+pieces-filled B at l =
+    let n = 4096 - at % 4096 in
+    let a = length-take n (drop at B) in
+    let b = length-drop at B in
+    record {
+      front = sym (take-front n (drop at B));
+      filled =
+          elim (decLt (length B) (at + n)) [
+            | yes h ↦ inr (omega (arith, h, l, a, b), omega (arith, h, l, a, b))
+            | no h ↦ inl (omega (arith, lt-of-not-le (λ (k : suc (length B) ≤ at + n). h k), a, b))
+          ];
+    }
+
+-- the frontiers of a run hold states that the list names
+run-named : (L : List ℕ) (F : ℕ) (cs : List ℕ) → within F (named L) ≡ true → within (run (plain L) F cs) (named L) ≡ true
 unfolding run
-run-lt L F [] h = h
-run-lt L F (c ∷ cs) h = run-lt L (plain L .next F c) cs (step-lt L F c)
+run-named L F [] h = h
+run-named L F (c ∷ cs) h = run-named L (plain L .next F c) cs (step-named L F c)
+
+-- a byte costs at most a row for each state
+costs-few : (L : List ℕ) (F : ℕ) (cs : List ℕ) → costs (plain L) F cs ≤ states * length cs
+unfolding costs
+costs-few L F [] = omega arith
+costs-few L F (c ∷ cs) = omega (arith, plain-cheap L F, costs-few L (plain L .next F c) cs)
 
 module _ (L B : List ℕ) where
   -- the frontier after the first bytes of the input
   abbrev frontierAt : ℕ → ℕ
   frontierAt at = run (plain L) (start L) (take at B)
+
+  at-named : (at : ℕ) → within (frontierAt at) (named L) ≡ true
+  at-named at = run-named L (start L) (take at B) (start-named L)
 
   -- the bytes of the input from an offset up to another, and the words of their pairs
   abbrev toldFrom : ℕ → ℕ → List ℕ
@@ -111,6 +140,7 @@ module _ (L B : List ℕ) where
       pub tells : lines (o .words) (o .pairs) ≡ linesOf (toldFrom at (o .bytes))
       pub frontier : frontierOf (o .saved) ≡ frontierAt (at + o .bytes)
       pub offset : offsetOf (o .saved) ≡ at + o .bytes
+      pub good : badFlow (o .saved) ≡ false
 
     feeds : o .refusal ≡ 0 → Feeds
     unfolding ended restAt
@@ -133,11 +163,23 @@ module _ (L B : List ℕ) where
         record {
           some = omega (arith, p .front, most, length-drop at B);
           tells = rw g (lines-front ws (drop (length ws) noWords) (length ws / 2) (omega arith)) ∙ ap linesOf w;
-          frontier = rw g (frontier-flow _ _ _ (run-lt L (frontierOf R) front (rw f (run-lt L (start L) (take at B) (start-lt L))))) ∙ x;
+          frontier = rw g (frontier-flow _ _ _ (rw x (named-lt L _ (at-named (at + o .bytes))))) ∙ x;
           offset = y ∙ omega (arith, k, b);
+          good =
+              rw g (flow-good _ _ _ (omega (arith, p .front, p .short, b, k))
+              (omega (arith, costs-few L (frontierOf R) front, rows-few R (feed-passes L R at (restAt B at) v .0))));
         }
 
   -- ---- the texts from an offset on
+
+  -- an offset that a run comes to: an input that is too long is not consumed past its last piece
+  abbrev Comes : ℕ → Type 0
+  Comes at = (at ≤ length B) × (longestInput < length B → at ≤ refusedPiece)
+
+  -- how a run ends at an offset, with a refusal or 0
+  pub record Ending (at refusal : ℕ) : Type 0 where
+    pub fine : length B ≤ longestInput → (refusal ≡ 0) × (at ≡ length B)
+    pub too-long : longestInput < length B → (refusal ≡ 6) × (at ≡ refusedPiece)
 
   pub record Ends (at : ℕ) (ts : List (List ℕ)) : Type 0 where
     -- the texts before the last line, its refusal or 0, and how far the input is consumed
@@ -146,23 +188,19 @@ module _ (L B : List ℕ) where
     pub bytes : ℕ
     pub last : ts ≡ before ++ (lastLine refusal (at + bytes) ∷ [])
     pub told-before : joined before ≡ linesOf (toldFrom at bytes)
-    pub within : at + bytes ≤ length B
-    -- without a refusal all is consumed
-    pub all : refusal ≡ 0 → at + bytes ≡ length B
-    -- a refusal is one of 1 to 6
-    pub known : refusal < 7
+    pub ending : Ending (at + bytes) refusal
 
   -- nothing is fed: the last line alone
-  ends-now : (at refusal : ℕ) → at ≤ length B → (refusal ≡ 0 → at ≡ length B) → refusal < 7 → Ends at (lastLine refusal at ∷ [])
+  ends-now : (at refusal : ℕ) → Ending at refusal → Ends at (lastLine refusal at ∷ [])
   unfolding told joined lines
-  ends-now at refusal l h k =
+  ends-now at refusal e =
       let z : at + 0 ≡ at = omega arith in
-      record { before = []; refusal = refusal; bytes = 0; last = rw z; told-before = refl; within = omega (arith, l); all = λ e. z ∙ h e; known = k }
+      record { before = []; refusal = refusal; bytes = 0; last = rw z; told-before = refl; ending = rw z e }
 
   -- one feed, and the texts behind it
-  ends-then : (at n : ℕ) (t : List ℕ) (ts : List (List ℕ)) → n ≤ length B - at → at ≤ length B → t ≡ linesOf (toldFrom at n) → Ends (at + n) ts → Ends at (t ∷ ts)
+  ends-then : (at n : ℕ) (t : List ℕ) (ts : List (List ℕ)) → n ≤ length B - at → t ≡ linesOf (toldFrom at n) → Ends (at + n) ts → Ends at (t ∷ ts)
   unfolding joined
-  ends-then at n t ts l h e r =
+  ends-then at n t ts l e r =
       let a : at + (n + r .bytes) ≡ at + n + r .bytes = omega arith in
       record {
         before = t ∷ r .before;
@@ -170,42 +208,92 @@ module _ (L B : List ℕ) where
         bytes = n + r .bytes;
         last = rw a (ap (λ (us : List (List ℕ)). t ∷ us) (r .last));
         told-before = rw (e, r .told-before) (sym (told-more at n (r .bytes) l));
-        within = rw a (r .within);
-        all = λ z. a ∙ r .all z;
-        known = r .known;
+        ending = rw a (r .ending);
       }
 
-  -- the plain feed refuses by its rules alone, which have the numbers 1 to 6
-  feed-known : (R : List ℕ) (at : ℕ) → plainFeed L R at (restAt B at) noWords .refusal < 7
-  feed-known R at = rw (plain-refusal L R at (restAt B at) noWords) (verdict-lt 7 (feedRules L R at (restAt B at)) (lit< tt) refl)
+  -- how long what is left is: to the next multiple of 4,096, or to the input's end
+  rest-length : (at : ℕ) → at ≤ length B
+      → (at % 4096 + length (restAt B at) ≡ 4096) ⊎ ((at % 4096 + length (restAt B at) < 4096) × (at + length (restAt B at) ≡ length B))
+  rest-length at l = pieces-filled B at l .filled
 
-  -- a turn, where the texts behind it end so
-  ends-turn : (ts : List ℕ → ℕ → List (List ℕ)) (R : List ℕ) (at : ℕ) (f : frontierOf R ≡ frontierAt at) (k : offsetOf R ≡ at) → at ≤ length B
-      → ((Q : List ℕ) (n : ℕ) → frontierOf Q ≡ frontierAt n → offsetOf Q ≡ n → n ≤ length B → at < n → Ends n (ts Q n))
-      → let t = turnOf L R at (restAt B at) in Ends at (t .text ∷ cond (t .last) [] (ts (t .saved) (at + t .bytes)))
-  ends-turn ts R at f k l ih = go (eqb (length (restAt B at)) 0) (eqb (o R at f k .refusal) 0) refl refl
-    where
-      go : (e z : Bool) → eqb (length (restAt B at)) 0 ≡ e → eqb (o R at f k .refusal) 0 ≡ z
-          → let t = turnOf L R at (restAt B at) in Ends at (t .text ∷ cond (t .last) [] (ts (t .saved) (at + t .bytes)))
-      go true z p q = rw (turn-by L R at (restAt B at) true z p q) (ends-now at 0 l (λ e. omega (arith, l, rest-none B at (eqb-true _ 0 p))) (omega arith))
-      go false false p q = rw (turn-by L R at (restAt B at) false false p q) (ends-now at _ l (λ e. absurd (eqb-false _ 0 q e)) (feed-known R at))
-      go false true p q =
-          let d = feeds R at f k (eqb-true _ 0 q) in
-          let g = progress L R at (restAt B at) noWords (eqb-true _ 0 q) in
-          let s : length (restAt B at) ≡ 0 → ⊥ = eqb-false (length (restAt B at)) 0 p in
-          rw (turn-by L R at (restAt B at) false true p q)
-          (ends-then at _ _ _ (d .some) l (d .tells)
-          (ih (o R at f k .saved) (at + o R at f k .bytes) (d .frontier) (d .offset) (omega (arith, d .some, l)) (omega (arith, g .moves (omega (arith, s)) (omega arith)))))
+  rest-fits : (at : ℕ) → at ≤ length B → at + length (restAt B at) ≤ length B
+  unfolding restAt
+  rest-fits at l = omega (arith, l, length-take (pieceSize - at % pieceSize) (drop at B), length-drop at B)
 
-  ends-from : (n : ℕ) (R : List ℕ) (at : ℕ) → frontierOf R ≡ frontierAt at → offsetOf R ≡ at → at ≤ length B → length B ≤ n + at → Ends at (textsFrom (suc n) L B R at)
-  unfolding textsFrom
-  ends-from zero R at f k l m = ends-turn (λ Q i. []) R at f k l (λ Q i f′ k′ l′ h. absurd (omega (arith, m, l′, h)))
-  ends-from (suc n) R at f k l m = ends-turn (λ Q i. textsFrom (suc n) L B Q i) R at f k l (λ Q i f′ k′ l′ h. ends-from n Q i f′ k′ l′ (omega (arith, m, h)))
+  -- where nothing is left the input is consumed, and it was not too long
+  all-read : (at : ℕ) → Comes at → length (restAt B at) ≡ 0 → Ending at 0
+  all-read at c e =
+      let m = rest-none B at e in
+      record { fine = λ s. (refl, omega (arith, c .0, m)); too-long = λ t. absurd (omega (arith, t, m, c .1 t)) }
 
-  -- from an opened flow on
-  ends : Ends 0 (textsFrom (suc (length B)) L B (opened L) 0)
-  unfolding run
-  ends = ends-from (length B) (opened L) 0 (frontier-flow (start L) 0 0 (start-lt L)) (offset-flow (start L) 0 0 (omega arith)) (omega arith) (omega arith)
+  -- a piece that would end behind the largest offset is the one that is refused
+  last-piece : (at : ℕ) → Comes at → longestInput < at + length (restAt B at) → Ending at 6
+  last-piece at c t =
+      let m : longestInput < length B = omega (arith, t, rest-fits at (c .0)) in
+      elim (rest-length at (c .0)) [
+        | inl e ↦ record { fine = λ s. absurd (omega (arith, s, m)); too-long = λ u. (refl, omega (arith, t, e, c .1 u)) }
+        | inr e ↦ absurd (omega (arith, t, e .0, c .1 m))
+      ]
+
+  -- and what is consumed of one that does not ends before it
+  comes-on : (at n : ℕ) → Comes at → n ≤ length (restAt B at) → n ≤ length B - at → at + length (restAt B at) ≤ mostOffset → Comes (at + n)
+  comes-on at n c h s m = (
+    omega (arith, c .0, s),
+    λ t. elim (rest-length at (c .0)) [
+      | inl e ↦ omega (arith, e, h, m, c .1 t)
+      | inr e ↦ absurd (omega (arith, e .1, m, t))
+    ],
+  )
+
+  module _ (z : listRefusal L ≡ 0) where
+    -- on a good record of the run the feed is refused with 6 alone
+    feed-refuses : (R : List ℕ) (at : ℕ) → frontierOf R ≡ frontierAt at → offsetOf R ≡ at → badFlow R ≡ false
+        → plainFeed L R at (restAt B at) noWords .refusal ≡ verdict ((6, tooLong R (restAt B at)) ∷ [])
+    feed-refuses R at f k g =
+        plain-refusal L R at (restAt B at) noWords ∙ verdict-then (listRules L) (flowRules (within (frontierOf R) (named L)) R at (restAt B at)) refl z
+        ∙ skip 4 _ (rw (g, f, at-named at)) ∙ skip 5 _ (rw (eq-eqb at (offsetOf R) (sym k)))
+
+    refused-6 : (R : List ℕ) (at : ℕ) → offsetOf R ≡ at → (n : ℕ) → n ≡ verdict ((6, tooLong R (restAt B at)) ∷ []) → (n ≡ 0 → ⊥)
+        → (n ≡ 6) × (longestInput < at + length (restAt B at))
+    refused-6 R at k n e h = go (tooLong R (restAt B at)) refl
+      where
+        go : (b : Bool) → tooLong R (restAt B at) ≡ b → (n ≡ 6) × (longestInput < at + length (restAt B at))
+        go true p = (e ∙ stop 6 [] p, rw k at (ltb-true mostOffset (offsetOf R + length (restAt B at)) p))
+        go false p = absurd (h (e ∙ last 6 p))
+
+    -- a turn, where the texts behind it end so
+    ends-turn : (ts : List ℕ → ℕ → List (List ℕ)) (R : List ℕ) (at : ℕ) (f : frontierOf R ≡ frontierAt at) (k : offsetOf R ≡ at) → badFlow R ≡ false → Comes at
+        → ((Q : List ℕ) (n : ℕ) → frontierOf Q ≡ frontierAt n → offsetOf Q ≡ n → badFlow Q ≡ false → Comes n → at < n → Ends n (ts Q n))
+        → let t = turnOf L R at (restAt B at) in Ends at (t .text ∷ cond (t .last) [] (ts (t .saved) (at + t .bytes)))
+    ends-turn ts R at f k g c ih = go (eqb (length (restAt B at)) 0) (eqb (o R at f k .refusal) 0) refl refl
+      where
+        go : (e y : Bool) → eqb (length (restAt B at)) 0 ≡ e → eqb (o R at f k .refusal) 0 ≡ y
+            → let t = turnOf L R at (restAt B at) in Ends at (t .text ∷ cond (t .last) [] (ts (t .saved) (at + t .bytes)))
+        go true y p q = rw (turn-by L R at (restAt B at) true y p q) (ends-now at 0 (all-read at c (eqb-true _ 0 p)))
+        go false false p q =
+            let r = refused-6 R at k (o R at f k .refusal) (feed-refuses R at f k g) (eqb-false _ 0 q) in
+            rw (turn-by L R at (restAt B at) false false p q, r .0) (ends-now at 6 (last-piece at c (r .1)))
+        go false true p q =
+            let d = feeds R at f k (eqb-true _ 0 q) in
+            let m = progress L R at (restAt B at) noWords (eqb-true _ 0 q) in
+            let s : length (restAt B at) ≡ 0 → ⊥ = eqb-false (length (restAt B at)) 0 p in
+            rw (turn-by L R at (restAt B at) false true p q)
+            (ends-then at _ _ _ (d .some) (d .tells)
+            (ih (o R at f k .saved) (at + o R at f k .bytes) (d .frontier) (d .offset) (d .good) (comes-on at _ c (m .front) (d .some) (m .short))
+            (omega (arith, m .moves (omega (arith, s)) (omega arith)))))
+
+    ends-from : (n : ℕ) (R : List ℕ) (at : ℕ) → frontierOf R ≡ frontierAt at → offsetOf R ≡ at → badFlow R ≡ false → Comes at → length B ≤ n + at
+        → Ends at (textsFrom (suc n) L B R at)
+    unfolding textsFrom
+    ends-from zero R at f k g c m = ends-turn (λ Q i. []) R at f k g c (λ Q i f′ k′ g′ c′ h. absurd (omega (arith, m, c′ .0, h)))
+    ends-from (suc n) R at f k g c m = ends-turn (λ Q i. textsFrom (suc n) L B Q i) R at f k g c (λ Q i f′ k′ g′ c′ h. ends-from n Q i f′ k′ g′ c′ (omega (arith, m, h)))
+
+    -- from an opened flow on
+    ends : Ends 0 (textsFrom (suc (length B)) L B (opened L) 0)
+    unfolding run
+    ends =
+        ends-from (length B) (opened L) 0 (frontier-flow (start L) 0 0 (start-lt L)) (offset-flow (start L) 0 0 (omega arith)) (flow-good (start L) 0 0 (omega arith) (omega arith))
+        (omega arith, λ t. omega arith) (omega arith)
 
 -- ---- the opening
 
@@ -244,30 +332,15 @@ module _ (L : List ℕ) where
 
 -- ---- the whole run
 
--- the lines of all pairs due in some bytes, from offset 0 on; none where the list is refused
-abbrev pub linesDue : List ℕ → List ℕ → List ℕ
-linesDue L bs = cond (eqb (listRefusal L) 0) (linesOf (pairsOf L bs)) []
-
--- texts, and behind them the last line; the texts are the lines of the pairs due in the bytes consumed, and without a refusal all of the input is
-pub record Undisturbed (L B : List ℕ) : Type 0 where
-  pub before : List (List ℕ)
-  pub refusal : ℕ
-  pub bytes : ℕ
-  pub texts-are : texts L B ≡ before ++ (lastLine refusal bytes ∷ [])
-  pub lines-are : joined before ≡ linesDue L (take bytes B)
-  pub within : bytes ≤ length B
-  pub all : refusal ≡ 0 → bytes ≡ length B
-  -- a refusal is one of 1 to 6
-  pub known : refusal < 7
-
-pub undisturbed : (L B : List ℕ) → Undisturbed L B
+pub undisturbed : EveryRun
 unfolding run joined
 undisturbed L B = elim (ℕ-discrete (listRefusal L) 0) [ yes z ↦ passed z | no v ↦ refused v ]
   where
     passed : listRefusal L ≡ 0 → Undisturbed L B
     passed z =
-        let e = ends L B in
+        let e = ends L B z in
         let q : 0 + e .bytes ≡ e .bytes = omega arith in
+        let g = rw q at (e .ending) in
         record {
           before = linesOf (openPairs L) ∷ e .before;
           refusal = e .refusal;
@@ -277,9 +350,9 @@ undisturbed L B = elim (ℕ-discrete (listRefusal L) 0) [ yes z ↦ passed z | n
               rw (eq-eqb (listRefusal L) 0 z)
               (ap (λ (xs : List ℕ). linesOf (openPairs L) ++ xs) (e .told-before)
               ∙ sym (lines-of-append (openPairs L) (told (plain L) (start L) 0 (take (e .bytes) B)) _ (openPairs-long L)));
-          within = omega (arith, e .within);
-          all = λ y. omega (arith, e .all y);
-          known = e .known;
+          bad-list = λ v. absurd (v z);
+          ends = λ y s. g .fine s;
+          too-long = λ y t. g .too-long t;
         }
 
     refused : (listRefusal L ≡ 0 → ⊥) → Undisturbed L B
@@ -290,9 +363,9 @@ undisturbed L B = elim (ℕ-discrete (listRefusal L) 0) [ yes z ↦ passed z | n
           bytes = 0;
           texts-are = texts-refused L v B;
           lines-are = rw (ne-eqb (listRefusal L) 0 v);
-          within = omega arith;
-          all = λ y. absurd (v y);
-          known = verdict-lt 7 (listRules L) (lit< tt) refl;
+          bad-list = λ w. (refl, refl);
+          ends = λ z s. absurd (v z);
+          too-long = λ z t. absurd (v z);
         }
 
 -- all texts one after the other

@@ -13,7 +13,7 @@ use borrow.Author.Tests.{lt-ltb, le-ltb}
 use Rattle.io.specs.Digits.{digits, Fewest}
 use Rattle.sets.specs.Set.{placed}
 use Rattle.sets.proofs.Placing.{placed-fits, length-placed, placed-none, placed-one, placed-after}
-use Rattle.app.specs.Text.{mostDigits, lineSize, places, decimal, line, lines, Puts}
+use Rattle.app.specs.Text.{mostDigits, lineSize, places, decimal, line, lines, lastLine, Puts}
 
 -- the first two pairs of "abab": `7 2`, `7 4`
 pub lines-abab : lines (7 ∷ 2 ∷ 7 ∷ 4 ∷ []) 2 ≡ 55 ∷ 32 ∷ 50 ∷ 10 ∷ 55 ∷ 32 ∷ 52 ∷ 10 ∷ []
@@ -23,6 +23,14 @@ lines-abab = refl
 pub decimal-most : decimal 4294967295 ≡ 52 ∷ 50 ∷ 57 ∷ 52 ∷ 57 ∷ 54 ∷ 55 ∷ 50 ∷ 57 ∷ 53 ∷ []
 unfolding decimal places
 decimal-most = refl
+
+-- the last lines, as bytes: `end 4`, `end 4294967295`, `refused 1`, `refused 6`
+pub last-lines : (lastLine 0 4 ≡ 101 ∷ 110 ∷ 100 ∷ 32 ∷ 52 ∷ 10 ∷ [])
+    × (lastLine 0 4294967295 ≡ 101 ∷ 110 ∷ 100 ∷ 32 ∷ 52 ∷ 50 ∷ 57 ∷ 52 ∷ 57 ∷ 54 ∷ 55 ∷ 50 ∷ 57 ∷ 53 ∷ 10 ∷ [])
+    × (lastLine 1 0 ≡ 114 ∷ 101 ∷ 102 ∷ 117 ∷ 115 ∷ 101 ∷ 100 ∷ 32 ∷ 49 ∷ 10 ∷ [])
+    × (lastLine 6 4294963200 ≡ 114 ∷ 101 ∷ 102 ∷ 117 ∷ 115 ∷ 101 ∷ 100 ∷ 32 ∷ 54 ∷ 10 ∷ [])
+unfolding lastLine decimal places
+last-lines = (refl, refl, refl, refl)
 
 -- ---- putting
 
