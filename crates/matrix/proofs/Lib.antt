@@ -11,3 +11,4 @@ pub mod Exact
 pub mod Joining
 pub mod Unique
 pub mod Lawful
+pub mod Words

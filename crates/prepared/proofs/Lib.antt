@@ -5,3 +5,4 @@ pub mod Feeding
 pub mod InWords
 pub mod Ready
 pub mod Lawful
+pub mod Words
