@@ -21,7 +21,7 @@ use Rattle.matrix.specs.Matrix.{highestBy}
 use Rattle.indexes.specs.Index.{knownIn, toldAt, rowsOf, leadsTo, spent, tells, moves, entry, entries}
 use Rattle.prepared.specs.Prepared.{halved, soughtOf, badIndex}
 use Rattle.classes.specs.Classes.{alike}
-use Rattle.build.specs.Build.{steps as reaching, partsOf, splitsOf}
+use Rattle.build.specs.Build.{partsOf, splitsOf}
 use Rattle.barn.specs.Examples.{Row, Agree, feedRows, openRow, openedRow, acceptedRow, acceptedRow₁, acceptedRow₀, boundRow, closedRow, startRow, loudRow, indexRow, alikeRow, orderRows, indexRows, buildRows, examples}
 
 -- rows are compared by computing; what computes as the same is the same
@@ -71,7 +71,7 @@ unfolding opening openPairs run costs due pairsAt told consumed ended feed recor
 feeds = 0
 
 builds : ℕ
-unfolding alike stack reaching partsOf splitsOf
+unfolding alike stack run partsOf splitsOf
 builds = 0
 
 -- each row that runs the table check is computed by itself, and the feeds' rows together

@@ -7,16 +7,16 @@ use lib.ListN.{replicate}
 use Rattle.sets.specs.Set.{states, signatures, setSize, digits, setBytes}
 use Rattle.lists.specs.List.{mostRecords, listRefusal}
 use Rattle.lists.specs.Automaton.{start, edge, step}
-use Rattle.feeds.specs.Engine.{Outcome, mostOffset}
+use Rattle.feeds.specs.Engine.{Outcome, mostOffset, run}
 use Rattle.feeds.specs.Opening.{Opening}
 use Rattle.flows.specs.Flow.{flowSize, flowBytes, rowsOf}
-use Rattle.plain.specs.Plain.{opened, openFlow, pairsOf}
+use Rattle.plain.specs.Plain.{plain, opened, openFlow, pairsOf}
 use Rattle.tables.specs.Table.{Table, table, splitSize, mostClass, mostParts, mostSplits, mostBound, tableRefusal}
 use Rattle.matrix.specs.Matrix.{matrixLength, cellAt}
 use Rattle.indexes.specs.Index.{entrySize, sigsPlace, notePlace, entryPlace, filledIndex}
 use Rattle.prepared.specs.Prepared.{preparedFeed}
 use Rattle.classes.specs.Classes.{mostClasses, alike}
-use Rattle.build.specs.Build.{mostRows, steps, lower, partsOf, splitsOf}
+use Rattle.build.specs.Build.{mostRows, lower, partsOf, splitsOf}
 use Rattle.demands.specs.Calls.{Via, byList, byTable, byMatrix, Call, outcome, wordsOf, after}
 
 -- a row: what a definition gives, and what the example says
@@ -335,7 +335,7 @@ orderRows =
 abbrev pub buildRows : List Row
 buildRows =
     -- {0,1} can be reached by "a", {0,2} by "ab", and {0} again by "abb"; of these sets the parts and the splits are those made by hand
-    (steps L (start L) (a ∷ []) ∷ steps L (start L) (a ∷ b ∷ []) ∷ steps L (start L) (a ∷ b ∷ b ∷ []) ∷ [], 3 ∷ 5 ∷ 1 ∷ [])
+    (run (plain L) (start L) (a ∷ []) ∷ run (plain L) (start L) (a ∷ b ∷ []) ∷ run (plain L) (start L) (a ∷ b ∷ b ∷ []) ∷ [], 3 ∷ 5 ∷ 1 ∷ [])
     ∷ (partsOf (1 ∷ 3 ∷ 5 ∷ []), T₁ .parts)
     ∷ (splitsOf (1 ∷ 3 ∷ 5 ∷ []), T₁ .splits)
     -- the empty set comes before {8}, and {8} before {0}

@@ -29,6 +29,7 @@ use Rattle.build.specs.Words.{Tabled}
 use Rattle.build.proofs.Reached.{reach-start, reach-step, reach-lt}
 use Rattle.classes.proofs.Classes.{lowest-step}
 use Rattle.classes.proofs.Totals.{class-length, class-at, class-lt}
+use Rattle.classes.proofs.Words.{coarsest}
 
 pub slots-long : (i : ℕ) → length (slotBytes i) ≡ 8
 slots-long i = simp (length-append, length-digits, length-replicate)
@@ -221,6 +222,7 @@ module _ (L : List ℕ) (good : listRefusal L ≡ 0) (xs : List ℕ) (a : Reache
         same-set = λ i h. let l : i < length xs = inside i h in split-at xs small i l ∙ sym (part-at xs small i l);
         one-slot = λ i h. let l : i < length xs = inside i h in split-slots xs i l (omega arith);
         class-of = λ c h. class-at L c h;
+        coarsest = coarsest L good;
         row-of = λ p c h hc. let l : p < length xs = inside p h in row-at p c l hc ∙ ap (λ (F : ℕ). step L F c) (sym (part-at xs small p l));
       }
     where

@@ -15,13 +15,17 @@ use Rattle.rules.specs.Scan.{first}
 use Rattle.lists.specs.Automaton.{start, step}
 use Rattle.rules.proofs.Scanning.{some-intro, first-found}
 use Rattle.lists.proofs.Steps.{start-lt, step-lt}
+use Rattle.feeds.specs.Engine.{run}
+use Rattle.feeds.specs.Calls.{Bytes}
+use Rattle.feeds.proofs.Runs.{run-append}
+use Rattle.plain.specs.Plain.{plain}
 use Rattle.tables.specs.Table.{Table, byteValues, mostParts}
 use Rattle.classes.specs.Classes.{mostClasses, classTotal}
 use Rattle.classes.proofs.Pigeons.{pigeons}
-use Rattle.build.specs.Build.{Bytes, steps, Reach, Many, In, lower, Reached, Building, Builds, refuses, passesLimits, builds, laid, tableOf}
+use Rattle.build.specs.Build.{Reach, Many, In, lower, Reached, Building, Builds, refuses, passesLimits, builds, laid, tableOf}
 
 pub reach-start : (L : List ℕ) → Reach L (start L)
-unfolding steps
+unfolding run
 reach-start L = ([], λ i. omega arith, refl)
 
 bytes-more : (w : List ℕ) (c : ℕ) → Bytes w → c < byteValues → Bytes (w ++ (c ∷ []))
@@ -30,24 +34,20 @@ bytes-more [] c b h (suc i) = omega arith
 bytes-more (x ∷ w) c b h zero = b zero
 bytes-more (x ∷ w) c b h (suc i) = bytes-more w c (λ j. b (suc j)) h i
 
-steps-more : (L : List ℕ) (F : ℕ) (w : List ℕ) (c : ℕ) → steps L F (w ++ (c ∷ [])) ≡ step L (steps L F w) c
-unfolding steps
-steps-more L F [] c = refl
-steps-more L F (x ∷ w) c = steps-more L (step L F x) w c
-
 pub reach-step : (L : List ℕ) (S c : ℕ) → c < byteValues → Reach L S → Reach L (step L S c)
+unfolding run
 reach-step L S c h r =
-    (r .0 ++ (c ∷ []), bytes-more (r .0) c (r .1) h, steps-more L (start L) (r .0) c ∙ ap (λ (F : ℕ). step L F c) (r .2))
+    (r .0 ++ (c ∷ []), bytes-more (r .0) c (r .1) h, run-append (plain L) (start L) (r .0) (c ∷ []) ∙ ap (λ (F : ℕ). step L F c) (r .2))
 
 -- a property that every step keeps holds after any bytes
-steps-keep : (L : List ℕ) (P : ℕ → Type 0) → ((F c : ℕ) → c < byteValues → P F → P (step L F c)) → (w : List ℕ) (F : ℕ) → Bytes w → P F → P (steps L F w)
-unfolding steps
-steps-keep L P k [] F b p = p
-steps-keep L P k (c ∷ w) F b p = steps-keep L P k w (step L F c) (λ i. b (suc i)) (k F c (b zero) p)
+run-keeps : (L : List ℕ) (P : ℕ → Type 0) → ((F c : ℕ) → c < byteValues → P F → P (step L F c)) → (w : List ℕ) (F : ℕ) → Bytes w → P F → P (run (plain L) F w)
+unfolding run
+run-keeps L P k [] F b p = p
+run-keeps L P k (c ∷ w) F b p = run-keeps L P k w (step L F c) (λ i. b (suc i)) (k F c (b zero) p)
 
 -- so a collection that has the start set, and with each set its steps, has all that can be reached
 pub closed-all : (L : List ℕ) (P : ℕ → Type 0) → P (start L) → ((F c : ℕ) → c < byteValues → P F → P (step L F c)) → (S : ℕ) → Reach L S → P S
-closed-all L P s k S r = rw (← r .2) (steps-keep L P k (r .0) (start L) (r .1) s)
+closed-all L P s k S r = rw (← r .2) (run-keeps L P k (r .0) (start L) (r .1) s)
 
 pub reach-lt : (L : List ℕ) (S : ℕ) → Reach L S → S < 2 ^ states
 reach-lt L = closed-all L (λ S. S < 2 ^ states) (start-lt L) (λ F c h l. step-lt L F c)

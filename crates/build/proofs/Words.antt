@@ -28,6 +28,7 @@ over-ends front lent h = (
   length-append front (replicate (length lent - length front) 0) ∙ omega (arith, length-replicate {A = ℕ} (length lent - length front) 0),
   λ i l. let q : i ≡ length front + (i - length front) = omega arith in
       ap (λ (x : ℕ). getD (over front lent) x 0) q ∙ getD-append-add front (replicate (length lent - length front) 0) (i - length front) 0 ∙ zeros-get (length lent - length front) (i - length front),
+  h,
 )
 
 -- the lengths answered are no longer than the lists

@@ -11,6 +11,9 @@ use Rattle.rules.specs.Scan.{stack}
 use Rattle.rules.specs.Rules.{Rule, verdict}
 use Rattle.lists.specs.List.{listRules}
 use Rattle.lists.specs.Automaton.{start, step}
+use Rattle.feeds.specs.Engine.{run}
+use Rattle.feeds.specs.Calls.{Bytes}
+use Rattle.plain.specs.Plain.{plain}
 use Rattle.tables.specs.Table.{Table, byteValues, mostParts, splitSize}
 use Rattle.classes.specs.Classes.{mostClasses, classesOf, classTotal, lowestOf}
 
@@ -20,17 +23,9 @@ mostRows = mostParts * mostClasses
 
 -- ---- what can be reached
 
-abbrev pub Bytes : List ℕ → Type 0
-Bytes w = (i : ℕ) → getD w i 0 < byteValues
-
--- the frontier after the bytes w
-unfoldable pub steps : List ℕ → ℕ → List ℕ → ℕ
-steps L F [] = F
-steps L F (c ∷ w) = steps L (step L F c) w
-
--- S is the frontier after some bytes
+-- S is the frontier of a flow after some bytes
 abbrev pub Reach : List ℕ → ℕ → Type 0
-Reach L S = (w : List ℕ) × Bytes w × (steps L (start L) w ≡ S)
+Reach L S = (w : List ℕ) × Bytes w × (run (plain L) (start L) w ≡ S)
 
 -- at least n sets can be reached: n of them, numbered, no two the same
 abbrev pub Many : List ℕ → ℕ → Type 0

@@ -8,6 +8,7 @@ use Rattle.sets.specs.Order.{Smaller}
 use Rattle.lists.specs.Automaton.{step}
 use Rattle.tables.specs.Table.{Table, byteValues, partCount, splitCount, part, row, splitSet, slots}
 use Rattle.classes.specs.Classes.{classOf}
+use Rattle.classes.specs.Words.{Coarsest}
 use Rattle.build.specs.Build.{Reach, Building}
 
 -- the fronts of the lists that it names, as a table
@@ -21,7 +22,7 @@ fronts o =
     }
 
 -- what the table of a list holds: one part for each set that can be reached and no other, in rising order of their bytes; for each part one split, of its
--- set, with that one slot; for each byte its class, and the row that a part and a byte select
+-- set, with that one slot; for each byte its class, as coarse as the list permits, and the row that a part and a byte select
 pub record Tabled (L : List ℕ) (T : Table) : Type 0 where
   pub sound : (p : ℕ) → p < partCount (T .parts) → Reach L (part (T .parts) p)
   pub all : (S : ℕ) → Reach L S → (p : ℕ) × (p < partCount (T .parts)) × (part (T .parts) p ≡ S)
@@ -31,6 +32,7 @@ pub record Tabled (L : List ℕ) (T : Table) : Type 0 where
   pub same-set : (i : ℕ) → i < partCount (T .parts) → splitSet (T .splits) i ≡ part (T .parts) i
   pub one-slot : (i : ℕ) → i < partCount (T .parts) → slots (T .splits) i ≡ i ∷ (65535 ∷ (65535 ∷ (65535 ∷ [])))
   pub class-of : (c : ℕ) → c < byteValues → getD (T .classes) c 0 ≡ classOf L c
+  pub coarsest : Coarsest L (T .classes)
   pub row-of : (p c : ℕ) → p < partCount (T .parts) → c < byteValues → row (T .classes) (T .rows) p c ≡ step L (part (T .parts) p) c
 
 -- no lengths
@@ -48,9 +50,9 @@ pub record Untouched (T : Table) (o : Building) : Type 0 where
   pub splits : o .splits ≡ 0
   pub lists : o .lists ≡ T
 
--- b is as long as the list lent, and has zeros from n to its very end
+-- b is as long as the list lent, and has zeros from n, which lies in it, to its very end
 abbrev pub Ends : List ℕ → List ℕ → ℕ → Type 0
-Ends lent b n = (length b ≡ length lent) × ((i : ℕ) → n ≤ i → getD b i 0 ≡ 0)
+Ends lent b n = (length b ≡ length lent) × ((i : ℕ) → n ≤ i → getD b i 0 ≡ 0) × (n ≤ length lent)
 
 -- so have all four, from the lengths answered on
 pub record ZerosBehind (T : Table) (o : Building) : Type 0 where

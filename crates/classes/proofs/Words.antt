@@ -19,7 +19,7 @@ use Rattle.lists.proofs.Steps.{step-checked}
 use Rattle.tables.specs.Table.{byteValues, largest}
 use Rattle.tables.proofs.Entries.{largest-exactly}
 use Rattle.classes.specs.Classes.{alike, count, lowestLike, leads, classOf, classesOf, classTotal, lowestOf}
-use Rattle.classes.specs.Words.{Moves, Alike, Needs}
+use Rattle.classes.specs.Words.{Moves, Alike, Needs, LowestIn, Coarsest}
 use Rattle.classes.proofs.Pigeons.{pigeons}
 use Rattle.classes.proofs.Classes.{same-truth, at-alike, alike-step, count-one, lowest-like, lowest-upto, class-alike, alike-class, class-lead, class-low, class-hit}
 use Rattle.classes.proofs.Totals.{class-length, class-at, class-lt}
@@ -105,3 +105,20 @@ module _ (L : List ℕ) (good : listRefusal L ≡ 0) where
       back (f, b, d) =
           pigeons (classTotal L) n (λ i. classOf L (f i)) (λ i l. class-lt L (f i) (b i l))
           (λ i j li lj e. d i j li lj (shares-exactly L good (f i) (f j) (b i li) (b j lj) .0 e))
+
+-- ---- the list of them
+
+module _ (L : List ℕ) (good : listRefusal L ≡ 0) where
+  lowest-in : (c : ℕ) → c < byteValues → LowestIn (classesOf L) c → Lowest L c
+  lowest-in c h l b k e = l b k (class-at L b (omega (arith, h, k)) ∙ e ∙ sym (class-at L c h))
+
+  pub coarsest : Coarsest L (classesOf L)
+  coarsest =
+      record {
+        many = class-length L;
+        shared = λ c d hc hd. rw (class-at L c hc, class-at L d hd) (shares-exactly L good c d hc hd);
+        rise = λ c d l h a b.
+            let k : c < byteValues = omega (arith, l, h) in
+            rw (class-at L c k, class-at L d h) (numbers-rise L c d l h (lowest-in c k a) (lowest-in d h b));
+        no-gaps = λ c q h l. let d = no-gaps L c q h (rw (class-at L c h) at l) in (d .0, d .1, class-at L (d .0) (d .1) ∙ d .2);
+      }
