@@ -1,20 +1,21 @@
 -- When compiling refuses, where, and that its answer and the list are determined.
-use Prim.Native.Nat.{ℕ, suc, _<_}
+use Prim.Native.Nat.{ℕ, suc}
 use mathlib.Core.Path.{_≡_, refl, sym, ap, subst, _∙_}
 use mathlib.Core.Bool.{Bool, true, false, cond}
 use mathlib.Core.List.{List, [], _∷_, _++_}
 use mathlib.Core.Logic.{_⊎_, inl, inr, _↔_}
 use native.Mathlib.Omega.{arith}
 use lib.Dec.{eqb}
-use lib.ListN.{length, take, drop}
+use lib.ListN.{length, drop}
 use borrow.Author.Tests.{eqb-true, eqb-false}
-use Rattle.texts.specs.Grammar.{Text, textReads, okBody, Bytes, Fits, Viable, TooDeep}
+use Rattle.texts.specs.Grammar.{Text, Bytes, Fits, TooDeep}
 use Rattle.texts.specs.Acceptor.{State, begin, live, step, good, isDead, deep, verdict}
 use Rattle.texts.specs.Records.{listOf, tooBig}
 use Rattle.texts.proofs.Place.{place-19}
 use Rattle.texts.proofs.Deep.{deep-20, good-0}
 use Rattle.compile.specs.declared.Compiled.{Compiled}
 use Rattle.compile.specs.Compile.{Outcome, refused, written, made, Gives, Compiles}
+use Rattle.compile.specs.Words.{Reading, FirstBad, CompileExactly}
 
 -- a verdict is 0, 19 or 20
 abbrev Three : ℕ × ℕ → Type 0
@@ -60,14 +61,6 @@ made-big x g A h = ap (λ z. cond z (refused 21 0 A) (written (listOf x g) A)) h
 
 made-fits : (x : Text) (g : ℕ) (A : List ℕ) → tooBig (length A) x g ≡ false → made x g A ≡ written (listOf x g) A
 made-fits x g A h = ap (λ z. cond z (refused 21 0 A) (written (listOf x g) A)) h
-
--- the text fits, and this is its reading
-abbrev pub Reading : List ℕ → Text → Type 0
-Reading T x = (okBody (x .body) ≡ true) × (textReads x ≡ T)
-
--- the first place where no continuation fits, or the end of a text cut short
-abbrev pub FirstBad : List ℕ → ℕ → Type 0
-FirstBad T p = Viable (take p T) × (((p ≡ length T) × (Fits T → ⊥)) ⊎ ((p < length T) × (Viable (take (suc p) T) → ⊥)))
 
 module _ (T : List ℕ) (g : ℕ) (A : List ℕ) (r : Compiled) (B : List ℕ) (bytes : Bytes T) (c : Compiles T g A r B) where
   abbrev v : ℕ
@@ -191,6 +184,19 @@ module _ (T : List ℕ) (g : ℕ) (A : List ℕ) (r : Compiled) (B : List ℕ) (
       go (inl z) = big z (good-cases z)
       go (inr (inl z)) = let k = c .bad (λ y. omega (arith, y, z)) in (k .list, k .length)
       go (inr (inr z)) = let k = c .bad (λ y. omega (arith, y, z)) in (k .list, k .length)
+
+-- all of it
+pub compile-exactly : CompileExactly
+compile-exactly T g A r B bytes c =
+    record {
+      deep = compile-20 T g A r B bytes c;
+      bad = compile-19 T g A r B bytes c;
+      place = compile-place T g A r B bytes c;
+      placeless = compile-placeless T g A r B bytes c;
+      big = compile-21 T g A r B bytes c;
+      wrote = compile-0 T g A r B bytes c;
+      stays = compile-refused T g A r B bytes c;
+    }
 
 -- two outcomes that the promise allows are the same
 pub unique-compile : (T : List ℕ) (g : ℕ) (A : List ℕ) (r s : Compiled) (B C : List ℕ) → Bytes T → Compiles T g A r B → Compiles T g A s C

@@ -21,7 +21,8 @@ use Rattle.texts.specs.Exp.{Exp, size, edge, accepts, Leads}
 use Rattle.texts.specs.Records.{runs, edgeRecord, startRecord, acceptRecord, allRecords, sortInto, flat}
 use Rattle.records.proofs.Rising.{Mem, Long, sort-mem, mem-sort}
 use Rattle.languages.proofs.Found.{mem-at, at-mem, long-all, flat-records, flat-at}
-use Rattle.languages.proofs.Ran.{Has, Run, runs-sound, runs-cover}
+use Rattle.languages.specs.Records.{Longest}
+use Rattle.languages.proofs.Ran.{Has, all-longest, runs-cover}
 use Rattle.languages.proofs.Bounds.{edge-within, accepts-within}
 use Rattle.languages.proofs.Members.{AnEdge, AnAccept, One, mem-one, edge-mem, start-mem, accept-mem, one-long}
 
@@ -86,10 +87,10 @@ module _ (free : Bool) (e : Exp) (g : ℕ) where
             let lo : low (theList free e g) i ≡ a .range .0 = byte-of i 1 r l (omega arith) (a .is) in
             let hi : high (theList free e g) i ≡ a .range .1 = byte-of i 2 r l (omega arith) (a .is) in
             let fl : byteOf (theList free e g) i 3 ≡ 0 = byte-of i 3 r l (omega arith) (a .is) in
-            let u : Run (edge free e (a .source) (a .target)) (0 + 256) (a .range) = runs-sound (edge free e (a .source) (a .target)) 256 0 0 (omega arith, λ j z m n. absurd (omega arith)) (a .range) (a .run) in
+            let u = all-longest (edge free e (a .source) (a .target)) (a .range) (a .run) in
             (a .source, subst (λ z. holds F z ≡ true) fs f, subst (λ z. edge free e (a .source) z c ≡ true) (sym ts ∙ q) (inside u lo hi fl (k .range)))
           where
-            inside : Run (edge free e (a .source) (a .target)) (0 + 256) (a .range) → low (theList free e g) i ≡ a .range .0 → high (theList free e g) i ≡ a .range .1 → byteOf (theList free e g) i 3 ≡ 0
+            inside : Longest (edge free e (a .source) (a .target)) 256 (a .range .0) (a .range .1) → low (theList free e g) i ≡ a .range .0 → high (theList free e g) i ≡ a .range .1 → byteOf (theList free e g) i 3 ≡ 0
                 → ((low (theList free e g) i ≤ c) × (c ≤ high (theList free e g) i)) ⊎ ((byteOf (theList free e g) i 3 ≡ 1) × (low (theList free e g) i ≤ exchanged c) × (exchanged c ≤ high (theList free e g) i))
                 → edge free e (a .source) (a .target) c ≡ true
             inside u lo hi fl (inl (x, y)) = u .inside c (omega arith) (omega arith)

@@ -15,7 +15,7 @@ use Rattle.lists.proofs.Listed.{bad-length, bad-record, no-start, record-exactl
 use Rattle.texts.specs.Exp.{Exp, size}
 use Rattle.texts.specs.Records.{edgeRecord, startRecord, acceptRecord, allRecords}
 use Rattle.languages.proofs.Found.{flat-length, flat-records}
-use Rattle.languages.proofs.Ran.{Run, runs-sound}
+use Rattle.languages.proofs.Ran.{all-longest}
 use Rattle.languages.proofs.Members.{AnEdge, AnAccept, One, start-mem}
 use Rattle.languages.proofs.Automaton.{sorted, theList, two-bytes, sorted-long, at-one, byte-of, stands}
 use Rattle.texts.specs.Exp as ex
@@ -37,7 +37,7 @@ module _ (free : Bool) (e : Exp) (g : ℕ) (few : size e < states) (small : g < 
       go : One free e g (getD (sorted free e g) i []) → (Edge-bytes (theList free e g) i ⊎ Start-bytes (theList free e g) i) ⊎ Accept-bytes (theList free e g) i
       go (inl a) =
           let r = edgeRecord (a .range .0) (a .range .1) (a .source) (a .target) in
-          let u : Run (ex.edge free e (a .source) (a .target)) (0 + 256) (a .range) = runs-sound (ex.edge free e (a .source) (a .target)) 256 0 0 (omega arith, λ j z m n. absurd (omega arith)) (a .range) (a .run) in
+          let u = all-longest (ex.edge free e (a .source) (a .target)) (a .range) (a .run) in
           let b : (k : ℕ) → k < 8 → getD (theList free e g) (8 * i + k) 0 ≡ getD r k 0 = λ k h. byte-of free e g i k r l h (a .is) in
           inl (inl (record {
             kind = first i r l (a .is);

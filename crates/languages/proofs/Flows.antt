@@ -32,7 +32,8 @@ use Rattle.texts.specs.Records.{listOf, tooBig}
 use Rattle.texts.proofs.Deep.{good-0}
 use Rattle.compile.specs.declared.Compiled.{Compiled}
 use Rattle.compile.specs.Compile.{Outcome, refused, written, made, Gives, Compiles}
-use Rattle.compile.proofs.Exactly.{Reading, compile-0}
+use Rattle.compile.specs.Words.{Reading}
+use Rattle.compile.proofs.Exactly.{compile-0}
 use Rattle.languages.specs.Language.{EndsIn, RecordsRise}
 use Rattle.languages.specs.Flows.{front, Past, PassesAll, Tells, Serves, CompiledServes}
 use Rattle.segments.specs.Ways.{plainWay, splitWay}

@@ -2,6 +2,7 @@ pub mod Found
 pub mod Ran
 pub mod Bounds
 pub mod Members
+pub mod Said
 pub mod Automaton
 pub mod Checked
 pub mod Rise

@@ -1,28 +1,32 @@
--- Longest runs of bytes: each is a run, every byte of the set lies in one, and no two are the same.
+-- Longest runs of bytes: each is one, every byte of the set lies in one, no two are the same, and there are no others.
 use Prim.Native.Nat.{ℕ, zero, suc, _+_, _-_, _≤_, _<_}
 use mathlib.Core.Path.{_≡_, refl, sym, ap, subst, _∙_}
 use mathlib.Core.Bool.{Bool, true, false, _||_, cond, true≢false, false≢true}
 use mathlib.Core.List.{List, [], _∷_, _++_}
 use mathlib.Core.Logic.{_⊎_, inl, inr}
 use native.Mathlib.Omega.{arith}
+use native.Mathlib.Nat.{lt-of-not-le}
 use native.Mathlib.Decide.{decLt}
 use lib.Dec.{eqb}
 use borrow.Author.Tests.{eqb-true, eqb-false}
 use Rattle.texts.specs.Records.{runs}
+use Rattle.languages.specs.Records.{Longest}
 
 abbrev pub Has : ℕ × ℕ → List (ℕ × ℕ) → Type 0
 Has p [] = ⊥
 Has p (x ∷ xs) = (p ≡ x) ⊎ Has p xs
 
--- the bytes from low to high, all of them in the set, below m
-pub record Run (f : ℕ → Bool) (m : ℕ) (p : ℕ × ℕ) : Type 0 where
-  pub ordered : p .0 ≤ p .1
-  pub below : p .1 < m
-  pub inside : (i : ℕ) → p .0 ≤ i → i ≤ p .1 → f i ≡ true
+-- the byte before the run at hand, or before c where none is, is not in the set
+abbrev Free : (ℕ → Bool) → ℕ → ℕ → Type 0
+Free f c low = (i : ℕ) → (low ≡ 0 → suc i ≡ c → f i ≡ false) × ((low ≡ 0 → ⊥) → suc (suc i) ≡ low → f i ≡ false)
 
 -- the run at hand: from low - 1 to the byte before c
 abbrev At : (ℕ → Bool) → ℕ → ℕ → Type 0
-At f c low = (low ≤ c) × ((i : ℕ) → (low ≡ 0 → ⊥) → low ≤ suc i → i < c → f i ≡ true)
+At f c low = (low ≤ c) × ((i : ℕ) → (low ≡ 0 → ⊥) → low ≤ suc i → i < c → f i ≡ true) × Free f c low
+
+-- none is at hand behind a byte that is not in the set
+at-none : (f : ℕ → Bool) (c : ℕ) → f c ≡ false → At f (suc c) 0
+at-none f c q = (omega arith, λ i z l k. absurd (z refl), λ i. (λ z e. let w : c ≡ i = omega (arith, e) in subst (λ y. f y ≡ false) w q, λ z. absurd (z refl)))
 
 module _ (f : ℕ → Bool) where
   -- how the runs go on, by the byte at hand and whether a run is at hand
@@ -50,35 +54,46 @@ module _ (f : ℕ → Bool) where
   unfolding runs
   goes-end n c low h e = rw (h, e)
 
-  ended : (c low m : ℕ) (p : ℕ × ℕ) → At f c low → (low ≡ 0 → ⊥) → c ≤ m → p ≡ (low - 1, c - 1) → Run f m p
-  ended c low m p (l, g) n h e =
-      subst (Run f m) (sym e) (record { ordered = omega arith; below = omega arith; inside = λ i a b. g i n (omega arith) (omega arith) })
+  ended : (c low m : ℕ) (p : ℕ × ℕ) → At f c low → (low ≡ 0 → ⊥) → c ≤ m → (c < m → f c ≡ false) → p ≡ (low - 1, c - 1) → Longest f m (p .0) (p .1)
+  ended c low m p (l, g, o) n h q e =
+      let d : suc (c - 1) ≡ c = omega arith in
+      subst (λ (z : ℕ × ℕ). Longest f m (z .0) (z .1)) (sym e)
+      (record {
+        ordered = omega arith;
+        below = omega arith;
+        inside = λ i a b. g i n (omega arith) (omega arith);
+        before = λ i a. o i .1 n (omega (arith, a));
+        behind = λ a. subst (λ y. f y ≡ false) (sym d) (q (omega (arith, a, d)));
+      })
 
-  wide : (m k : ℕ) (p : ℕ × ℕ) → m ≡ k → Run f m p → Run f k p
-  wide m k p e r = subst (λ z. Run f z p) e r
+  wide : (m k : ℕ) (p : ℕ × ℕ) → m ≡ k → Longest f m (p .0) (p .1) → Longest f k (p .0) (p .1)
+  wide m k p e r = subst (λ z. Longest f z (p .0) (p .1)) e r
 
-  pub runs-sound : (n c low : ℕ) → At f c low → (p : ℕ × ℕ) → Has p (runs f n c low) → Run f (c + n) p
+  pub runs-sound : (n c low : ℕ) → At f c low → (p : ℕ × ℕ) → Has p (runs f n c low) → Longest f (c + n) (p .0) (p .1)
   runs-sound zero c low a p h = go (eqb low 0) refl
     where
-      go : (b : Bool) → eqb low 0 ≡ b → Run f (c + 0) p
+      go : (b : Bool) → eqb low 0 ≡ b → Longest f (c + 0) (p .0) (p .1)
       go true e = absurd (subst (Has p) (ap (runs f zero c) (eqb-true low 0 e) ∙ last-none c) h)
       go false e = one (subst (Has p) (last-one c low e) h)
         where
-          one : Has p ((low - 1, c - 1) ∷ []) → Run f (c + 0) p
-          one (inl q) = ended c low (c + 0) p a (eqb-false low 0 e) (omega arith) q
+          one : Has p ((low - 1, c - 1) ∷ []) → Longest f (c + 0) (p .0) (p .1)
+          one (inl q) = ended c low (c + 0) p a (eqb-false low 0 e) (omega arith) (λ k. absurd (omega (arith, k))) q
   runs-sound (suc n) c low a p h = go (λ d lo b k. runs-sound n d lo b p k) (f c) (eqb low 0) refl refl
     where
       count : suc c + n ≡ c + suc n
       count = omega arith
 
-      go : ((d lo : ℕ) → At f d lo → Has p (runs f n d lo) → Run f (d + n) p) → (x y : Bool) → f c ≡ x → eqb low 0 ≡ y → Run f (c + suc n) p
+      go : ((d lo : ℕ) → At f d lo → Has p (runs f n d lo) → Longest f (d + n) (p .0) (p .1)) → (x y : Bool) → f c ≡ x → eqb low 0 ≡ y → Longest f (c + suc n) (p .0) (p .1)
       go ih true true q e =
-          wide (suc c + n) (c + suc n) p count (ih (suc c) (suc c) (omega arith, λ i z l k. subst (λ j. f j ≡ true) (same i l k) q) (subst (Has p) (ap (runs f (suc n) c) (eqb-true low 0 e) ∙ goes-begin n c q) h))
+          wide (suc c + n) (c + suc n) p count
+          (ih (suc c) (suc c)
+          (omega arith, λ i z l k. subst (λ j. f j ≡ true) (same i l k) q, λ i. (λ z. absurd (omega (arith, z)), λ z k. a .2 i .0 (eqb-true low 0 e) (omega (arith, k))))
+          (subst (Has p) (ap (runs f (suc n) c) (eqb-true low 0 e) ∙ goes-begin n c q) h))
         where
           same : (i : ℕ) → suc c ≤ suc i → i < suc c → c ≡ i
           same i l k = omega arith
       go ih true false q e =
-          wide (suc c + n) (c + suc n) p count (ih (suc c) low (omega (arith, a .0), more) (subst (Has p) (goes-on n c low q e) h))
+          wide (suc c + n) (c + suc n) p count (ih (suc c) low (omega (arith, a .0), more, λ i. (λ z. absurd (eqb-false low 0 e z), λ z k. a .2 i .1 z k)) (subst (Has p) (goes-on n c low q e) h))
         where
           more : (i : ℕ) → (low ≡ 0 → ⊥) → low ≤ suc i → i < suc c → f i ≡ true
           more i z l k =
@@ -87,12 +102,12 @@ module _ (f : ℕ → Bool) where
                 | no j ↦ let w : c ≡ i = omega arith in subst (λ y. f y ≡ true) w q
               ]
       go ih false true q e =
-          wide (suc c + n) (c + suc n) p count (ih (suc c) 0 (omega arith, λ i z l k. absurd (z refl)) (subst (Has p) (ap (runs f (suc n) c) (eqb-true low 0 e) ∙ goes-none n c q) h))
+          wide (suc c + n) (c + suc n) p count (ih (suc c) 0 (at-none f c q) (subst (Has p) (ap (runs f (suc n) c) (eqb-true low 0 e) ∙ goes-none n c q) h))
       go ih false false q e = head (subst (Has p) (goes-end n c low q e) h)
         where
-          head : Has p ((low - 1, c - 1) ∷ runs f n (suc c) 0) → Run f (c + suc n) p
-          head (inl w) = ended c low (c + suc n) p a (eqb-false low 0 e) (omega arith) w
-          head (inr w) = wide (suc c + n) (c + suc n) p count (ih (suc c) 0 (omega arith, λ i z l k. absurd (z refl)) w)
+          head : Has p ((low - 1, c - 1) ∷ runs f n (suc c) 0) → Longest f (c + suc n) (p .0) (p .1)
+          head (inl w) = ended c low (c + suc n) p a (eqb-false low 0 e) (omega arith) (λ k. q) w
+          head (inr w) = wide (suc c + n) (c + suc n) p count (ih (suc c) 0 (at-none f c q) w)
 
   -- where the runs that are left begin
   abbrev From : ℕ → ℕ → ℕ → Type 0
@@ -180,3 +195,39 @@ module _ (f : ℕ → Bool) where
       go ih false false q e =
           subst Apart (sym (goes-end n c low q e))
           (λ p h. (let v = runs-late n (suc c) 0 (omega arith) p h in omega (arith, v .0 refl)), ih (suc c) 0 (omega arith))
+
+-- ---- of all 256 bytes
+
+module _ (f : ℕ → Bool) where
+  pub all-longest : (p : ℕ × ℕ) → Has p (runs f 256 0 0) → Longest f 256 (p .0) (p .1)
+  all-longest p h = runs-sound f 256 0 0 (omega arith, λ i z l k. absurd (z refl), λ i. (λ z k. absurd (omega (arith, k)), λ z. absurd (z refl))) p h
+
+  -- two longest runs that share a byte are the same
+  same-run : (i a b c d : ℕ) → Longest f 256 a b → Longest f 256 c d → a ≤ i → i ≤ b → c ≤ i → i ≤ d → (a ≡ c) × (b ≡ d)
+  same-run i a b c d p q la lb lc ld = (
+    elim (decLt a c) [
+      | yes l ↦ absurd (true≢false (sym (p .inside (c - 1) (omega arith) (omega arith)) ∙ q .before (c - 1) (omega arith)))
+      | no l ↦ elim (decLt c a) [
+        | yes k ↦ absurd (true≢false (sym (q .inside (a - 1) (omega arith) (omega arith)) ∙ p .before (a - 1) (omega arith)))
+        | no k ↦ omega (arith, lt-of-not-le (λ (x : suc a ≤ c). l x), lt-of-not-le (λ (x : suc c ≤ a). k x))
+      ]
+    ],
+    elim (decLt b d) [
+      | yes l ↦ absurd (true≢false (sym (q .inside (suc b) (omega arith) (omega arith)) ∙ p .behind (omega (arith, q .below))))
+      | no l ↦ elim (decLt d b) [
+        | yes k ↦ absurd (true≢false (sym (p .inside (suc d) (omega arith) (omega arith)) ∙ q .behind (omega (arith, p .below))))
+        | no k ↦ omega (arith, lt-of-not-le (λ (x : suc b ≤ d). l x), lt-of-not-le (λ (x : suc d ≤ b). k x))
+      ]
+    ],
+  )
+
+  -- and each is among them
+  pub longest-has : (low high : ℕ) → Longest f 256 low high → Has (low, high) (runs f 256 0 0)
+  longest-has low high r =
+      let t : f low ≡ true = r .inside low (omega arith) (r .ordered) in
+      let (p, h, a, b) = runs-cover f 256 0 0 low (omega arith) t (omega (arith, r .ordered, r .below)) (λ z. omega arith, omega arith) in
+      let e = same-run low (p .0) (p .1) low high (all-longest p h) r a b (omega arith) (r .ordered) in
+      subst (λ (q : ℕ × ℕ). Has q (runs f 256 0 0)) (pair-path (p .0) low (p .1) high (e .0) (e .1)) h
+    where
+      pair-path : (a b c d : ℕ) → a ≡ b → c ≡ d → _≡_ {A = ℕ × ℕ} (a, c) (b, d)
+      pair-path a b c d x y = rw (x, y)

@@ -20,9 +20,10 @@ use Rattle.segments.specs.Ways.{plainSegment, splitSegment}
 use Rattle.feeds.specs.Demands.{openTold}
 use Rattle.demands.specs.Calls.{Call, bytesOf, wordsOf, InBytes, Each}
 use Rattle.demands.specs.Demands.{Swaps}
-use Rattle.texts.specs.Grammar.{Text, okBody, textReads}
+use Rattle.texts.specs.Grammar.{Text}
 use Rattle.compile.specs.declared.Compiled.{Compiled}
 use Rattle.compile.specs.Compile.{Compiles}
+use Rattle.compile.specs.Words.{Reading}
 use Rattle.languages.specs.Language.{EndsIn, RecordsRise}
 
 -- the list that compiling answered: so many bytes of the lent one
@@ -65,4 +66,4 @@ pub record Serves (x : Text) (g : ℕ) (L : List ℕ) : Type 0 where
 abbrev pub CompiledServes : Type 0
 CompiledServes =
     (T : List ℕ) (g : ℕ) (A : List ℕ) (r : Compiled) (B : List ℕ) → Bytes T → g < 256 → Compiles T g A r B → r .refusal ≡ 0
-    → (x : Text) × ((okBody (x .body) ≡ true) × (textReads x ≡ T)) × Serves x g (front r B)
+    → (x : Text) × Reading T x × Serves x g (front r B)

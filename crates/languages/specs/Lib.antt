@@ -1,2 +1,3 @@
 pub mod Language
+pub mod Records
 pub mod Flows

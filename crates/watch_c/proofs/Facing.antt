@@ -1,4 +1,4 @@
--- The face of an answer answers the same outcome, and only one face does; so of an opening and of building. Assumes nothing.
+-- The face of an answer answers the same outcome, and only one face does; so of an opening, of building and of compiling. Assumes nothing.
 use Prim.Native.Nat.{ℕ}
 use mathlib.Core.Bool.{Bool}
 use mathlib.Core.Path.{_≡_, sym, ap, _∙_}
@@ -7,13 +7,17 @@ use Rattle.feeds.specs.Engine.{Outcome}
 use Rattle.feeds.specs.Opening.{Opening}
 use Rattle.feeds.specs.declared.Fed.{Fed}
 use Rattle.feeds.specs.Fed.{Answers}
+use Rattle.feeds.specs.Calls.{Bytes}
 use Rattle.tables.specs.Table.{Table}
-use Rattle.build.specs.Build.{Builds}
+use Rattle.build.specs.Build.{Building, Builds}
 use Rattle.build.proofs.Reached.{unique-build}
+use Rattle.compile.specs.Compile.{Compiles}
+use Rattle.compile.proofs.Exactly.{unique-compile}
 use Rattle.watch_c.specs.declared.WatchBuilt.{WatchBuilt}
+use Rattle.watch_c.specs.declared.WatchCompiled.{WatchCompiled}
 use Rattle.watch_c.specs.declared.WatchFed.{WatchFed}
 use Rattle.watch_c.specs.declared.WatchOpened.{WatchOpened}
-use Rattle.watch_c.specs.Face.{Faces, FaceAnswers, FaceOpens, faceBuilt}
+use Rattle.watch_c.specs.Face.{Faces, FaceAnswers, FaceOpens, faceBuilt, faceCompiled}
 
 pub faced : {o : Outcome} {f : Fed} {w : WatchFed} {ws sv : List ℕ} → Answers o f ws sv → Faces f w → FaceAnswers o w ws sv
 faced a h =
@@ -50,6 +54,21 @@ unique-face-open o v w vs ws rv rw2 a b = (
   a .saved ∙ sym (b .saved),
 )
 
--- and of building: two answers and lists that one list and the lists lent allow are the same
-pub unique-face-build : (L : List ℕ) (T : Table) (v w : WatchBuilt) (X Y : Table) → Builds L T (faceBuilt v X) → Builds L T (faceBuilt w Y) → faceBuilt v X ≡ faceBuilt w Y
-unique-face-build L T v w X Y a b = unique-build L T (faceBuilt v X) (faceBuilt w Y) a b
+-- and of building: two answers and lists that one list and the lists lent allow are the same, the answer and the lists each
+pub unique-face-build : (L : List ℕ) (T : Table) (v w : WatchBuilt) (X Y : Table) → Builds L T (faceBuilt v X) → Builds L T (faceBuilt w Y) → (v ≡ w) × (X ≡ Y)
+unique-face-build L T v w X Y a b =
+    let p = unique-build L T (faceBuilt v X) (faceBuilt w Y) a b in (
+      ap {B = WatchBuilt} (λ (o : Building). record { classes = o .classes; parts = o .parts; rows = o .rows; splits = o .splits; refusal = o .refusal }) p,
+      ap (λ (o : Building). o .lists) p,
+    )
+
+-- and of compiling a text of bytes
+pub unique-face-compile : (T : List ℕ) (g : ℕ) (A : List ℕ) (v w : WatchCompiled) (B C : List ℕ) → Bytes T → Compiles T g A (faceCompiled v) B → Compiles T g A (faceCompiled w) C
+    → (v ≡ w) × (B ≡ C)
+unique-face-compile T g A v w B C bytes a b =
+    let (p, q, r, s) = unique-compile T g A (faceCompiled v) (faceCompiled w) B C bytes a b in (
+      ap {B = WatchCompiled} (λ (n : ℕ). record { place = n; length = v .length; refusal = v .refusal }) q
+          ∙ ap {B = WatchCompiled} (λ (n : ℕ). record { place = w .place; length = n; refusal = v .refusal }) r
+          ∙ ap {B = WatchCompiled} (λ (n : ℕ). record { place = w .place; length = w .length; refusal = n }) p,
+      s,
+    )
