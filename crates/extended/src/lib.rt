@@ -10,15 +10,16 @@ ghost use lib.Dec.{eqb};
 ghost use Rattle.sets.specs.Set.{signatures, sigWords, sigsOf, num, size, placed};
 ghost use Rattle.rules.specs.Scan.{every};
 ghost use Rattle.rules.specs.Rules.{verdict};
-ghost use Rattle.feeds.specs.Engine.{mostOffset};
+ghost use Rattle.feeds.specs.Engine.{mostOffset, room, consumed};
 ghost use Rattle.feeds.specs.Fed.{Answers};
 ghost use Rattle.feeds.specs.Opening.{Opens};
+ghost use Rattle.feeds.proofs.Going.{Going};
 ghost use Rattle.extended.specs.Program.{counterCount, programLength, lower, bitsBy, countersBy, alertNow, word};
 ghost use Rattle.extended.specs.Machine.{mostStates, byteValues, moveSize, programSize, stateCount, move, badLengths, goodTarget, goodInstruction, goodRecord};
 ghost use Rattle.extended.specs.Machine.{badMachine, machineRefusal, idle, machine};
 ghost use Rattle.extended.specs.Record.{flowSize, offsetOf, fours, configAt, configOf, fourBytes, flowBytes, goodCounters, badFlow, flowRules};
 ghost use Rattle.extended.specs.Extended.{firstRules, extendedOpen, feedRules, extendedFeed};
-ghost use Rattle.extended.specs.Ran.{Runs, Programs, TellsRoom, Leaves};
+ghost use Rattle.extended.specs.Ran.{Runs, Programs, TellsRoom};
 
 // The most states of a machine.
 pub const X_STATES: usize = 1024;
@@ -532,7 +533,7 @@ pub fn open_flow(moves: &[u8], programs: &[u8], flow: &mut [u8], pairs: &mut [u3
     }
 }
 
-// Runs the automaton from a configuration at an offset over the bytes whose pairs all fit the words.
+// Runs the automaton from a configuration at an offset over the bytes whose pairs all fit the words; it ends where the definition does.
 fn feed_bytes(
     moves: &[u8],
     programs: &[u8],
@@ -542,7 +543,8 @@ fn feed_bytes(
     pairs: &mut [u32],
 ) -> Ran
     requires { ⌜ (badMachine (now moves) (now programs) ≡ false) × (first .state < stateCount (now moves)) × (offset + length (now piece) ≤ mostOffset) ⌝ }
-    ensures { λ r. ⌜ Leaves (now (moves .entry)) (now (programs .entry)) first offset (now (piece .entry)) (now (pairs .entry)) r (now (pairs .exit)) ⌝ }
+    ensures { λ r. ⌜ Going (machine (now (moves .entry)) (now (programs .entry))) first offset (now (piece .entry)) (now (pairs .entry)) (r .config) (now (pairs .exit)) (r .bytes) (r .words) 0
+        × (consumed (machine (now (moves .entry)) (now (programs .entry))) first (room (now (pairs .entry))) (now (piece .entry)) ≡ r .bytes) ⌝ }
 {
     let mut x = first;
     let mut words = 0usize;

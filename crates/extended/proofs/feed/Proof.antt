@@ -65,7 +65,7 @@ feed-bytes-requires c κs =
     (p .0, omega (arith, whole (c .before .before .before) .in-table, ap (λ (x : Config). x .state) (c .before .load .ensures)), omega (arith, p .2, p .3))
 
 add-save : tie.Need-add-save
-add-save c = let p = passes (c .before .before .before .before .before .before .before .before) in omega (arith, p .2, p .3, c .before .before .before .before .feed-bytes .ensures .going .short)
+add-save c = let p = passes (c .before .before .before .before .before .before .before .before) in omega (arith, p .2, p .3, c .before .before .before .before .feed-bytes .ensures .0 .short)
 
 save-requires : tie.Need-save-requires
 save-requires c κs = whole (c .before .before .before .before .before .before .before .before) .whole
@@ -85,7 +85,7 @@ returns-2 c =
     let p = passes e in
     let l = rw (ran .before .before .load .ensures, p .2) at (ran .feed-bytes .ensures) in
     answers-fed (machine (a .moves .now) (a .programs .now)) flowLayout (a .flow .now) (a .piece .now) (a .pairs .now) (feedRules (a .moves .now) (a .programs .now) (a .flow .now) (a .start) (a .piece .now)) _
-    (ran .feed-bytes .result .config) _ (ran .feed-bytes .result .bytes) (ran .feed-bytes .result .words) 0 (l .going) (verdict-0 e) (l .longest)
+    (ran .feed-bytes .result .config) _ (ran .feed-bytes .result .bytes) (ran .feed-bytes .result .words) 0 (l .0) (verdict-0 e) (l .1)
     (refused-free (ran .feed-bytes .result .bytes) (length (a .piece .now)) _ refl) refl refl refl _ (rw (p .2) at (end .save .ensures))
 
 pub feed-spec : {M : Type 1} → statement M

@@ -103,7 +103,7 @@ returns c =
     let l = head t .loop in
     let a = entry (head t) .args in
     let e = stops (a .moves .now) (a .programs .now) (l .inv .0) (omega arith) (t .target .result) (t .target .ensures) (c .before .before .before .before .before .before .before .run-program .ensures .alerts) (c .before .before .before .tell-alerts .ensures) (c .if2 .taken) in
-    record { going = e .1; longest = e .0 }
+    (e .1, e .0)
 
 mul-words : tie.Need-mul-words Inv-loop μ-loop
 mul-words c = let f = fits c in let w = entry (head (c .before .before .before .before .before .before .before .before .before .before)) .good in search needs
@@ -135,7 +135,7 @@ returns-2 : tie.Need-returns-2 Inv-loop μ-loop
 returns-2 c =
     let l = c .before .loop in
     let e : l .i ≡ length (entry (c .before) .args .piece .now) = omega arith in
-    record { going = rw (sym e) (l .inv .0); longest = finish (l .inv .0) e ∙ e }
+    (rw (sym e) (l .inv .0), finish (l .inv .0) e ∙ e)
 
 pub feed-bytes-spec : {M : Type 1} → statement M
 feed-bytes-spec =
