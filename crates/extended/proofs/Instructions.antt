@@ -173,9 +173,12 @@ lower-more n h = rw (ne-eqb (suc n) 0 (λ e. omega arith), ne-eqb (suc n) off (�
 
 -- ---- what a kind leaves alone
 
-pub bits-stay : (k w D : ℕ) → 3 ≤ k → D ≡ bitsBy k w D
+pub bits-other : (k w D : ℕ) → (k ≡ 1 → ⊥) → (k ≡ 2 → ⊥) → D ≡ bitsBy k w D
 unfolding bitsBy
-bits-stay k w D l = rw (ne-eqb k 1 (λ e. omega arith), ne-eqb k 2 (λ e. omega arith))
+bits-other k w D a b = rw (ne-eqb k 1 a, ne-eqb k 2 b)
+
+pub bits-stay : (k w D : ℕ) → 3 ≤ k → D ≡ bitsBy k w D
+bits-stay k w D l = bits-other k w D (λ e. omega arith) (λ e. omega arith)
 
 pub counters-stay : (k w n : ℕ) (cs : List ℕ) → (k ≡ 3 → ⊥) → (k ≡ 4 → ⊥) → (k ≡ 5 → ⊥) → cs ≡ countersBy k w n cs
 unfolding countersBy

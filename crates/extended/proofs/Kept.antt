@@ -5,14 +5,16 @@ use mathlib.Core.Bool.{true, false}
 use mathlib.Core.List.{List, [], _∷_}
 use native.Mathlib.Omega.{arith}
 use native.Mathlib.Decide.{decLt}
-use lib.ListN.{length, getD, replicate, length-replicate, List·getD-eq-default, getD-replicate}
+use lib.ListN.{length, getD, drop, replicate, length-replicate, List·getD-eq-default, getD-replicate}
 use lib.Dec.{eqb, ltb, leb, lit<}
 use lib.Pow.{pow-pos}
 use borrow.Author.Tests.{eq-eqb, lt-ltb, le-leb}
+use Rattle.sets.proofs.Laws.{num-take-lt}
 use Rattle.rules.proofs.Scanning.{every-all}
 use Rattle.feeds.specs.Calls.{Bytes}
+use Rattle.feeds.proofs.Runs.{bytes-drop}
 use Rattle.extended.specs.declared.Config.{Config}
-use Rattle.extended.specs.Program.{bitCount, counterCount, off, programLength, kindOf, whichOf, numberOf, blank, moved, after}
+use Rattle.extended.specs.Program.{bitCount, counterCount, off, programLength, word, kindOf, whichOf, numberOf, blank, moved, after}
 use Rattle.extended.specs.Machine.{mostStates, stateCount, move, badMachine, machine, first}
 use Rattle.extended.specs.Record.{flowSize, stateOf, configAt, configOf, flowBytes, wrongSize, goodCounters, badFlow}
 use Rattle.extended.proofs.Instructions.{bits-kept, counters-length, counters-kept}
@@ -69,6 +71,10 @@ kept-flow n x k l v =
 
 -- ---- a program, a move, and the start
 
+-- two bytes are a number below 65,536
+word-lt : (b : List ℕ) → Bytes b → (at : ℕ) → word b at < 65536
+word-lt b h at = num-take-lt 8 (drop at b) (bytes-drop at b h) 2
+
 -- the variables keep within their limits: the bits are 64, the counters 16, and none is over b
 record Bounded (b : ℕ) (x : Config) : Type 0 where
   bits-small : x .bits < 2 ^ bitCount
@@ -84,7 +90,7 @@ after-bounded P hp q b o x v (suc j) =
     record {
       bits-small = bits-kept (kindOf P i) (whichOf P i) (after P q x j .bits) (ih .bits-small);
       sixteen = counters-length (kindOf P i) (whichOf P i) (numberOf P i) (after P q x j .counters) ∙ ih .sixteen;
-      most = counters-kept (kindOf P i) (whichOf P i) (numberOf P i) (after P q x j .counters) b o (omega (arith, hp (4 * i + 2), hp (4 * i + 2 + 1))) (ih .most);
+      most = counters-kept (kindOf P i) (whichOf P i) (numberOf P i) (after P q x j .counters) b o (omega (arith, word-lt P hp (4 * i + 2))) (ih .most);
     }
 
 -- of any two lists of bytes a configuration that has a record leads to one that has
@@ -94,7 +100,7 @@ machine-fine M P hm hp x c l f =
     let at = 2 * (256 * x .state + c) in
     let v = after-bounded P hp q 4294967295 (omega arith) (moved q x) (record { bits-small = f .bits-small; sixteen = f .sixteen; most = λ i. omega (arith, f .counters-small i) }) programLength in
     record {
-      state-small = omega (arith, after-state P q (moved q x) programLength, hm at, hm (at + 1));
+      state-small = omega (arith, after-state P q (moved q x) programLength, word-lt M hm at);
       bits-small = v .bits-small;
       sixteen = v .sixteen;
       counters-small = λ i. omega (arith, v .most i);

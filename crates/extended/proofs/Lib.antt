@@ -1,5 +1,6 @@
 pub mod Instructions
 pub mod Programs
+pub mod Stepping
 pub mod Machines
 pub mod Records
 pub mod Kept

@@ -5,20 +5,22 @@ use mathlib.Core.Bool.{Bool, true, false, _&&_, _||_, not, true≢false}
 use mathlib.Core.List.{List}
 use mathlib.Core.Logic.{_⊎_, inl, inr, _↔_}
 use native.Mathlib.Omega.{arith}
-use lib.ListN.{length, getD}
+use lib.ListN.{length, getD, take, drop}
+use lib.Seq.{drop-drop}
 use lib.Dec.{eqb, ltb, leb}
 use borrow.Author.Tests.{ltb-true, lt-ltb, ltb-false, le-ltb, leb-false, lt-leb, not-true}
-use Rattle.sets.specs.Set.{signatures, size}
+use Rattle.sets.specs.Set.{signatures, num, size}
 use Rattle.rules.specs.Scan.{every}
 use Rattle.rules.proofs.Scanning.{both, choose, either-words, differ-words, over-words, length-words, refuses-exactly}
 use Rattle.feeds.specs.Engine.{mostOffset}
 use Rattle.feeds.specs.Opening.{noRoom}
 use Rattle.extended.specs.Program.{bitCount, counterCount, off, programLength, word, kindOf, whichOf, numberOf}
 use Rattle.extended.specs.Machine.{mostStates, byteValues, moveSize, programSize, stateCount, move, badLengths, goodTarget, whichLimits, numberLimits, goodInstruction, goodRecord, badMachine, firstAlerts}
-use Rattle.extended.specs.Record.{flowSize, stateOf, reservedOf, offsetOf, configOf, wrongSize, goodCounters, badFlow, otherStart, tooLong}
+use Rattle.extended.specs.Record.{flowSize, stateOf, reservedOf, offsetOf, configAt, configOf, wrongSize, goodCounters, badFlow, otherStart, tooLong}
 use Rattle.extended.specs.Extended.{openPairs}
-use Rattle.extended.specs.Words.{Miscounted, Astray, Instruction, Faulty, BadFlow}
+use Rattle.extended.specs.Words.{Miscounted, Astray, Instruction, Faulty, four, BadFlow}
 use Rattle.extended.proofs.Instructions.{which-below, number-below}
+use Rattle.extended.proofs.Records.{fours-at}
 use Rattle.extended.proofs.Opening.{openPairs-long}
 
 -- ---- an instruction
@@ -117,18 +119,22 @@ module _ (R : List ℕ) where
   pub size-said : wrongSize R ≡ true ↔ (length R ≡ flowSize → ⊥)
   size-said = differ-words (length R) flowSize
 
-  counters-said : not (goodCounters (configOf R .counters)) ≡ true ↔ ((i : ℕ) × (i < counterCount) × (off < getD (configOf R .counters) i 0))
+  counter-at : (i : ℕ) → i < counterCount → getD (configOf R .counters) i 0 ≡ four R (16 + 4 * i)
+  unfolding configAt
+  counter-at i l = fours-at counterCount (drop 16 R) i l ∙ ap (λ (b : List ℕ). num 8 (take 4 b)) (drop-drop (4 * i) 16 R)
+
+  counters-said : not (goodCounters (configOf R .counters)) ≡ true ↔ ((i : ℕ) × (i < counterCount) × (off < four R (16 + 4 * i)))
   counters-said =
       let e = refuses-exactly counterCount (λ i. leb (getD (configOf R .counters) i 0) off) in (
-        λ h. let w = e .0 h in (w .0, w .1, leb-false (getD (configOf R .counters) (w .0) 0) off (w .2)),
-        λ w. e .1 (w .0, w .1, lt-leb (getD (configOf R .counters) (w .0) 0) off (w .2)),
+        λ h. let w = e .0 h in (w .0, w .1, omega (arith, counter-at (w .0) (w .1), leb-false (getD (configOf R .counters) (w .0) 0) off (w .2))),
+        λ w. e .1 (w .0, w .1, lt-leb (getD (configOf R .counters) (w .0) 0) off (omega (arith, counter-at (w .0) (w .1), w .2))),
       )
 
   -- 4, when fed
   pub flow-said : (n : ℕ) → badFlow n R ≡ true ↔ BadFlow n R
   unfolding badFlow
   flow-said n =
-      either-words (((length R ≡ flowSize → ⊥) ⊎ (n ≤ stateOf R)) ⊎ (reservedOf R ≡ 0 → ⊥)) ((i : ℕ) × (i < counterCount) × (off < getD (configOf R .counters) i 0))
+      either-words (((length R ≡ flowSize → ⊥) ⊎ (n ≤ stateOf R)) ⊎ (reservedOf R ≡ 0 → ⊥)) ((i : ℕ) × (i < counterCount) × (off < four R (16 + 4 * i)))
       (wrongSize R || not (ltb (stateOf R) n) || not (eqb (reservedOf R) 0)) (not (goodCounters (configOf R .counters)))
       (either-words ((length R ≡ flowSize → ⊥) ⊎ (n ≤ stateOf R)) (reservedOf R ≡ 0 → ⊥) (wrongSize R || not (ltb (stateOf R) n)) (not (eqb (reservedOf R) 0))
       (either-words (length R ≡ flowSize → ⊥) (n ≤ stateOf R) (wrongSize R) (not (ltb (stateOf R) n)) size-said

@@ -2,10 +2,10 @@
 use Prim.Native.Nat.{ℕ, zero, suc, _+_, _-_, _*_, _^_}
 use mathlib.Core.Bool.{Bool, _&&_, _||_, cond}
 use mathlib.Core.List.{List}
-use lib.ListN.{getD, set, replicate}
+use lib.ListN.{getD, set, replicate, take, drop}
 use lib.Dec.{eqb}
 use lib.Bits.{bitXor}
-use Rattle.sets.specs.Set.{signatures, holds, join, insert}
+use Rattle.sets.specs.Set.{signatures, num, holds, join, insert}
 use Rattle.extended.specs.declared.Config.{Config}
 
 -- ---- sizes: each stands here, and once in src/
@@ -71,7 +71,7 @@ done k w n x = record { state = x .state; bits = bitsBy k w (x .bits); counters 
 
 -- two bytes at a place of a list, low byte first
 abbrev pub word : List ℕ → ℕ → ℕ
-word b at = getD b at 0 + 256 * getD b (at + 1) 0
+word b at = num 8 (take 2 (drop at b))
 
 abbrev pub kindOf : List ℕ → ℕ → ℕ
 kindOf P i = getD P (recordSize * i) 0

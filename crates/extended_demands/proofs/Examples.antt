@@ -13,7 +13,7 @@ use Rattle.extended.specs.Program.{without, bitsBy, countersBy, alertsBy, after
 use Rattle.extended.specs.Machine.{badLengths, goodInstruction, badMachine}
 use Rattle.extended.specs.Record.{fours, fourBytes, configAt, flowBytes, badFlow}
 use Rattle.extended.specs.Extended.{openPairs}
-use Rattle.extended_demands.specs.Examples.{Row, Agree, flowRows, openRows, feedRows, checkRows, examples}
+use Rattle.extended_demands.specs.Examples.{Row, Agree, flowRows, openRows, feedRows, checkRows, sizeRows, examples}
 
 -- rows are compared by computing; what computes as the same is the same
 abbrev pub same : List ℕ → List ℕ → Bool
@@ -61,9 +61,13 @@ unfolding num digits holds join insert members every verdict run costs due pairs
 feed-rows = agree-sound feedRows tt
 
 check-rows : Agree checkRows
-unfolding every verdict badLengths goodInstruction badMachine checkRows
+unfolding num every verdict badLengths goodInstruction badMachine checkRows
 check-rows = agree-sound checkRows tt
+
+size-rows : Agree sizeRows
+unfolding sizeRows
+size-rows = agree-sound sizeRows tt
 
 pub examples-hold : Agree examples
 unfolding examples
-examples-hold = agree-append flowRows _ flow-rows (agree-append openRows _ open-rows (agree-append feedRows _ feed-rows check-rows))
+examples-hold = agree-append flowRows _ flow-rows (agree-append openRows _ open-rows (agree-append feedRows _ feed-rows (agree-append checkRows _ check-rows size-rows)))

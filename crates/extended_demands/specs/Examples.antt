@@ -3,12 +3,12 @@ use Prim.Native.Nat.{ℕ, zero, suc}
 use mathlib.Core.Bool.{Bool, true, false, cond}
 use mathlib.Core.List.{List, [], _∷_, _++_}
 use mathlib.Core.Path.{_≡_}
-use lib.ListN.{replicate, take, set}
-use Rattle.feeds.specs.Engine.{Outcome, run}
+use lib.ListN.{replicate, take, drop, set}
+use Rattle.feeds.specs.Engine.{Outcome, run, mostOffset}
 use Rattle.feeds.specs.Opening.{Opening}
-use Rattle.extended.specs.Program.{off}
-use Rattle.extended.specs.Machine.{goodInstruction, machineRefusal, machine, first}
-use Rattle.extended.specs.Record.{flowBytes}
+use Rattle.extended.specs.Program.{bitCount, counterCount, off, programLength, recordSize, blank}
+use Rattle.extended.specs.Machine.{mostStates, byteValues, moveSize, programSize, goodInstruction, machineRefusal, machine, first}
+use Rattle.extended.specs.Record.{flowSize, flowBytes}
 use Rattle.extended.specs.Extended.{opened, extendedOpen, pairsOf, extendedFeed}
 
 -- a row: what a definition gives, and what the example says
@@ -49,6 +49,19 @@ onePrograms =
 abbrev pub only : List ℕ → List ℕ
 only r = r ++ nothings 7
 
+-- ---- two states by the same moves: state 0 sets bit 9, state 1 alerts 5 where it is set
+
+abbrev pub keptPrograms : List ℕ
+keptPrograms = only (1 ∷ 9 ∷ 0 ∷ 0 ∷ []) ++ only (7 ∷ 9 ∷ 5 ∷ 0 ∷ [])
+
+-- one state sets counter 0 to 300
+abbrev pub longPrograms : List ℕ
+longPrograms = only (3 ∷ 0 ∷ 44 ∷ 1 ∷ [])
+
+-- byte 1 leads state 0 to state 258
+abbrev pub farMoves : List ℕ
+farMoves = 0 ∷ 0 ∷ 2 ∷ 1 ∷ []
+
 -- the two lists of one record: 24 or 0
 abbrev pub refusalOf : ℕ → ℕ → ℕ → ℕ
 refusalOf k w n = cond (goodInstruction k w n) 0 24
@@ -67,6 +80,14 @@ fedOne out = extendedFeed oneMoves onePrograms (opened onePrograms) 0 (122 ∷ 1
 
 abbrev pub fedTwo : List ℕ → ℕ → Outcome
 fedTwo R at = extendedFeed twoMoves twoPrograms R at (46 ∷ []) (8 ∷ 8 ∷ [])
+
+-- the two states that keep a bit, fed so
+abbrev pub fedKept : List ℕ → ℕ → Outcome
+fedKept R at = extendedFeed twoMoves keptPrograms R at (46 ∷ []) (8 ∷ 8 ∷ [])
+
+-- a record of the two states at the last offset
+abbrev pub late : List ℕ
+late = take 4 (opened twoPrograms) ++ (255 ∷ 255 ∷ 255 ∷ 255 ∷ drop 8 (opened twoPrograms))
 
 abbrev pub eights : ℕ → List ℕ
 eights n = replicate n 8
@@ -87,6 +108,13 @@ flowRows =
     ∷ (pairsOf oneMoves onePrograms (122 ∷ []), 1 ∷ 0 ∷ 4 ∷ 0 ∷ 1 ∷ 1 ∷ 4 ∷ 1 ∷ [])
     -- the record after the opening: state 0, offset 0, no bits, counter 0 at 2 and the others off
     ∷ (opened twoPrograms, replicate 16 0 ++ ((2 ∷ 0 ∷ 0 ∷ 0 ∷ []) ++ offs 15))
+    -- both bytes of a number and of a target: counter 0 at 300, and state 258
+    ∷ (first longPrograms .counters, 300 ∷ replicate 15 off)
+    ∷ (opened longPrograms, replicate 16 0 ++ ((44 ∷ 1 ∷ 0 ∷ 0 ∷ []) ++ offs 15))
+    ∷ (run (machine farMoves []) blank (1 ∷ []) .state ∷ [], 258 ∷ [])
+    -- a bit stays over the bytes, and every one of them tells it
+    ∷ (pairsOf twoMoves keptPrograms (46 ∷ 46 ∷ []), 5 ∷ 1 ∷ 5 ∷ 2 ∷ [])
+    ∷ (opened keptPrograms, replicate 9 0 ++ (2 ∷ (replicate 6 0 ++ offs 16)))
     ∷ []
 
 unfoldable pub openRows : List Row
@@ -115,6 +143,12 @@ feedRows =
     ∷ (fedTwo (set (opened twoPrograms) 3 1) 1 .refusal ∷ [], 4 ∷ [])
     ∷ (fedTwo (take 79 (opened twoPrograms)) 0 .refusal ∷ [], 4 ∷ [])
     ∷ (fedTwo (opened twoPrograms) 1 .refusal ∷ [], 5 ∷ [])
+    -- a byte after the last offset: 6; 5 and 4 come before it; an empty piece passes there
+    ∷ (fedTwo late 4294967295 .refusal ∷ fedTwo late 0 .refusal ∷ fedTwo (set late 3 1) 0 .refusal ∷ [], 6 ∷ 5 ∷ 4 ∷ [])
+    ∷ (answer (extendedFeed twoMoves twoPrograms late 4294967295 [] (8 ∷ 8 ∷ [])), 0 ∷ 0 ∷ 0 ∷ 1 ∷ 8 ∷ 8 ∷ [])
+    -- a bit is saved, and a feed goes on with it
+    ∷ (fedKept (opened keptPrograms) 0 .saved, (1 ∷ 0 ∷ 0 ∷ 0 ∷ 1 ∷ 0 ∷ 0 ∷ 0 ∷ 0 ∷ 2 ∷ []) ++ (replicate 6 0 ++ offs 16))
+    ∷ (answer (fedKept (fedKept (opened keptPrograms) 0 .saved) 1), 0 ∷ 1 ∷ 1 ∷ 1 ∷ 5 ∷ 2 ∷ [])
     ∷ []
 
 unfoldable pub checkRows : List Row
@@ -130,5 +164,13 @@ checkRows =
     ∷ (refusalOf 8 15 255 ∷ refusalOf 8 16 255 ∷ refusalOf 8 15 256 ∷ refusalOf 9 0 0 ∷ refusalOf 255 0 0 ∷ [], 0 ∷ 24 ∷ 24 ∷ 24 ∷ 24 ∷ [])
     ∷ []
 
+unfoldable pub sizeRows : List Row
+sizeRows =
+    -- bits, counters, off, records of a program, their bytes
+    (bitCount ∷ counterCount ∷ off ∷ programLength ∷ recordSize ∷ [], 64 ∷ 16 ∷ 65536 ∷ 8 ∷ 4 ∷ [])
+    -- states, bytes that may come, bytes of a state's targets, of its program, and of a flow record; the last offset
+    ∷ (mostStates ∷ byteValues ∷ moveSize ∷ programSize ∷ flowSize ∷ mostOffset ∷ [], 1024 ∷ 256 ∷ 512 ∷ 32 ∷ 80 ∷ 4294967295 ∷ [])
+    ∷ []
+
 unfoldable pub examples : List Row
-examples = flowRows ++ (openRows ++ (feedRows ++ checkRows))
+examples = flowRows ++ (openRows ++ (feedRows ++ (checkRows ++ sizeRows)))

@@ -1,7 +1,9 @@
 -- `two_bytes` reads two bytes. Assumes nothing.
 use borrow.Author.Needs.{needs}
 use Prim.Native.Nat.{_+_}
+use mathlib.Core.Path.{sym}
 use native.Mathlib.Omega.{arith}
+use Rattle.sets.proofs.Bytes.{num-two}
 use Rattle.extended.proofs.two_bytes.Statement.{statement}
 use Rattle.extended.proofs.two_bytes.Tie as tie
 
@@ -27,7 +29,7 @@ add-result-2 : tie.Need-add-result-2
 add-result-2 c = omega (arith, c .shared-slice-known2 .given (c .before .before .args .at), c .shared-slice-known2 .given (c .before .before .args .at + 1))
 
 returns : tie.Need-returns
-returns c = search needs
+returns c = sym (num-two _ _ (c .before .before .pre))
 
 pub two-bytes-spec : {M : Type 1} → statement M
 two-bytes-spec =
