@@ -1,22 +1,29 @@
 -- An accepted certificate: the machine follows the list, so both feeds tell the same pairs from opening on. Assumes nothing.
-use Prim.Native.Nat.{ℕ, _+_}
-use mathlib.Core.Path.{_≡_, refl, sym, ap, ap₂, _∙_}
+use Prim.Native.Nat.{ℕ, _+_, _/_}
+use mathlib.Core.Path.{_≡_, refl, sym, ap, ap₂, subst, _∙_}
+use mathlib.Core.Bool.{Bool, true, false, cond, not}
+use mathlib.Core.Logic.{_↔_}
 use mathlib.Core.List.{List, [], _∷_, _++_, append-assoc}
-use lib.ListN.{length, take}
-use lib.Dec.{lit<}
+use native.Mathlib.Decide.{ℕ-discrete}
+use lib.ListN.{length, take, drop}
+use lib.Dec.{eqb}
+use borrow.Author.Tests.{eq-eqb, ne-eqb}
 use Rattle.sets.specs.Set.{signatures, members}
-use Rattle.lists.specs.List.{listRefusal}
+use Rattle.rules.specs.Rules.{Rule, verdict}
+use Rattle.rules.proofs.Rules.{verdict-then}
+use Rattle.lists.specs.List.{listRules, listRefusal}
 use Rattle.lists.specs.Automaton.{start}
 use Rattle.feeds.specs.Engine.{Engine, run, pairsAt, told}
 use Rattle.feeds.specs.Calls.{Bytes, Follows}
+use Rattle.feeds.specs.Opening.{noRoom, opening}
 use Rattle.feeds.proofs.Runs.{told-append}
 use Rattle.feeds.proofs.Follows.{told-same}
-use Rattle.plain.specs.Plain.{plain, openPairs, openFlow, pairsOf}
+use Rattle.plain.specs.Plain.{plain, openPairs, openRules, opened, openFlow, pairsOf}
 use Rattle.demands.specs.Demands.{Due, Swapped}
 use Rattle.demands.proofs.Due.{due-all}
 use Rattle.demands.proofs.Swapping.{swapped}
 use Rattle.extended.specs.declared.Config.{Config}
-use Rattle.extended.specs.Machine.{machineRefusal, machine, first}
+use Rattle.extended.specs.Machine.{machineRules, machineRefusal, machine, first}
 use Rattle.extended.specs.Record.{flowLayout}
 use Rattle.extended.specs.Extended as ext
 use Rattle.extended_demands.proofs.Demand2.{demand-2-opened, calls-bytes}
@@ -24,7 +31,7 @@ use Rattle.certificates.specs.Certificate.{certificateRefusal}
 use Rattle.certificates.specs.Words.{Recorded, Certified}
 use Rattle.certificates.proofs.Accepts.{certificate-refuses, accepts-exactly, gives-22, list-first, machine-second}
 use Rattle.certificates.proofs.Following.{begins-recorded, opens-same, recorded-leads}
-use Rattle.certificate_demands.specs.Alike.{Demand1, ListFlow, listBytes, listWords, MachineFlow, machineBytes, machineWords, Front, Alike, CertifiedAlike}
+use Rattle.certificate_demands.specs.Alike.{Demand1, ListFlow, listBytes, listWords, MachineFlow, machineBytes, machineWords, Front, OpenedAlike, Alike, CertifiedAlike}
 use Rattle.certificate_demands.proofs.Next.{next-alike}
 
 pub demand-1 : Demand1
@@ -50,6 +57,27 @@ module _ (L M P Z : List ℕ) (ok : certificateRefusal L M P Z ≡ 0) where
 
   pub pairs-both : (bs : List ℕ) → Bytes bs → ext.pairsOf M P bs ≡ pairsOf L bs
   pairs-both bs h = ap₂ (λ (xs ys : List ℕ). xs ++ ys) open-both (told-both bs h)
+
+-- ---- both openings
+
+-- what an opening answers goes by what refuses it and by its words
+opened-alike : (rs qs : List Rule) (ws S T R Q out : List ℕ) → verdict rs ≡ verdict qs → OpenedAlike (opening rs ws S R out) (opening qs ws T Q out)
+unfolding opening
+opened-alike rs qs ws S T R Q out e = rw e (go (eqb (verdict qs) 0))
+  where
+    go : (b : Bool)
+        → OpenedAlike
+        (cond b (record { refusal = 0; pairs = length ws / 2; words = ws ++ drop (length ws) out; saved = S }) (record { refusal = verdict qs; pairs = 0; words = out; saved = R }))
+        (cond b (record { refusal = 0; pairs = length ws / 2; words = ws ++ drop (length ws) out; saved = T }) (record { refusal = verdict qs; pairs = 0; words = out; saved = Q }))
+    go true = record { refusal = refl; pairs = refl; words = refl }
+    go false = record { refusal = refl; pairs = refl; words = refl }
+
+-- two tests that pass together
+same-test : (m k n l : ℕ) → (m ≡ k) ↔ (n ≡ l) → not (eqb m k) ≡ not (eqb n l)
+same-test m k n l f = elim (ℕ-discrete m k) [
+  | yes e ↦ rw (eq-eqb m k e, eq-eqb n l (f .0 e))
+  | no d ↦ rw (ne-eqb m k d, ne-eqb n l (λ e. d (f .1 e)))
+]
 
 -- a flow of the list changes between what is checked
 pub list-swaps : (L : List ℕ) (f : ListFlow L) → Swapped L (openFlow L (f .flow) (f .out)) (f .calls)
@@ -80,9 +108,22 @@ module _ (L M P Z : List ℕ) (hm : Bytes M) (hp : Bytes P) (ok : certificateRef
   accepted : (listRefusal L ≡ 0) × (machineRefusal M P ≡ 0) × Certified L M P Z
   accepted = accepts-exactly L M P Z .0 ok
 
+  -- past the list's rules and the machine's, the length and the room decide
+  openings : (R Q out : List ℕ) → (length R ≡ 144) ↔ (length Q ≡ 80) → OpenedAlike (openFlow L R out) (ext.extendedOpen M P Q out)
+  openings R Q out f =
+      let rest : Bool → List ℕ → List Rule = λ b ws. (4, b) ∷ ((15, noRoom ws out) ∷ []) in
+      let a : verdict (openRules L R out) ≡ verdict (rest (not (eqb (length R) 144)) (openPairs L)) = verdict-then (listRules L) (rest (not (eqb (length R) 144)) (openPairs L)) refl (accepted .0) in
+      let b : verdict (ext.openRules M P Q out) ≡ verdict (rest (not (eqb (length Q) 80)) (ext.openPairs P)) = verdict-then (machineRules M P) (rest (not (eqb (length Q) 80)) (ext.openPairs P)) refl (accepted .1) in
+      let o = open-both L M P Z ok in
+      let c : verdict (openRules L R out) ≡ verdict (ext.openRules M P Q out) =
+      a ∙ ap₂ (λ (x : Bool) (ws : List ℕ). verdict (rest x ws)) (same-test (length R) 144 (length Q) 80 f) (sym o) ∙ sym b in
+      subst (λ (ws : List ℕ). OpenedAlike (openFlow L R out) (opening (ext.openRules M P Q out) ws (ext.opened P) Q out)) (sym o)
+      (opened-alike (openRules L R out) (ext.openRules M P Q out) (openPairs L) (opened L) (ext.opened P) R Q out c)
+
   pub alike : Alike L M P
   alike =
       record {
+        opens = openings;
         told = λ f g e. list-tells L f ∙ ap (pairsOf L) e ∙ sym (machine-is g);
         ahead = λ f g. front-told L (listBytes L f) (machineBytes M P g) (listWords L f) (machineWords M P g) (list-tells L f) (machine-is g);
         behind = λ f g. front-told L (machineBytes M P g) (listBytes L f) (machineWords M P g) (listWords L f) (machine-is g) (list-tells L f);

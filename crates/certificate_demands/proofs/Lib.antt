@@ -1,5 +1,6 @@
 pub mod Next
 pub mod Alike
+pub mod Covered
 pub mod Examples
 pub mod Instance
 pub mod Driving

@@ -1,8 +1,10 @@
--- The check of a certificate, and what an accepted one promises: from opening, the feeds of the list and the feed of the machine tell the same pairs, however the bytes are cut.
-use Prim.Native.Nat.{ℕ}
+-- The check of a certificate, and what an accepted one promises: both openings answer alike, and from there the feeds of the list and the feed of the
+-- machine tell the same pairs, however the bytes are cut. And which lists have one: every set that can be reached is the set of a record.
+use Prim.Native.Nat.{ℕ, _≤_, _<_}
 use mathlib.Core.List.{List, _++_}
 use mathlib.Core.Logic.{_↔_}
 use mathlib.Core.Path.{_≡_}
+use lib.ListN.{length}
 use Rattle.rules.specs.Rules.{Refuses}
 use Rattle.lists.specs.List.{listRefusal}
 use Rattle.feeds.specs.Calls.{Bytes}
@@ -15,7 +17,8 @@ use Rattle.extended.specs.Machine.{machineRefusal}
 use Rattle.extended.specs.Extended.{extendedOpen, extendedFeed}
 use Rattle.extended_demands.specs.Calls.{Call, InBytes, Each, bytesOf, wordsOf, after}
 use Rattle.extended_demands.specs.Demands.{By}
-use Rattle.certificates.specs.Certificate.{certificateRules, certificateRefusal}
+use Rattle.build.specs.Build.{Reach, Many}
+use Rattle.certificates.specs.Certificate.{notes, noteSet, certificateRules, certificateRefusal}
 use Rattle.certificates.specs.Words.{Certified}
 
 -- ==== Demand 1 of the check: each refusal has a number and is given exactly when the rules say: 1 to 3 of the list, 24 of the machine, and 22
@@ -81,7 +84,16 @@ machineWords M P g = let o = extendedOpen M P (g .flow) (g .out) in openTold o +
 abbrev pub Front : List ℕ → List ℕ → Type 0
 Front xs ys = (rest : List ℕ) × (xs ++ rest ≡ ys)
 
+-- two openings that answer the same and leave the same words
+pub record OpenedAlike (o p : Opening) : Type 0 where
+  pub refusal : o .refusal ≡ p .refusal
+  pub pairs : o .pairs ≡ p .pairs
+  pub words : o .words ≡ p .words
+
 pub record Alike (L M P : List ℕ) : Type 0 where
+  -- with the same words lent, and each a record of its right length, or neither, both openings answer alike: the same refusal, 15 too, the same
+  -- pairs of offset 0, and the same words left
+  pub opens : (R Q out : List ℕ) → (length R ≡ 144) ↔ (length Q ≡ 80) → OpenedAlike (openFlow L R out) (extendedOpen M P Q out)
   -- where both consumed the same bytes, both told the same words: the same pairs in the same order, those of offset 0 included,
   -- whatever the pieces, the rooms, the pauses and the refusals between
   pub told : (f : ListFlow L) (g : MachineFlow M P) → listBytes L f ≡ machineBytes M P g → listWords L f ≡ machineWords M P g
@@ -99,3 +111,17 @@ pub record Alike (L M P : List ℕ) : Type 0 where
 -- for every list, machine and certificate that the check accepts
 abbrev pub CertifiedAlike : Type 0
 CertifiedAlike = (L M P Z : List ℕ) → Bytes M → Bytes P → certificateRefusal L M P Z ≡ 0 → Alike L M P
+
+-- ==== Which lists have a certificate: at most 4,096 sets can be reached, since each is the set of some record.
+
+-- every set that can be reached is the set of a record; so n that differ are no more than the records, which are at most 4,096
+pub record Covered (L Z : List ℕ) : Type 0 where
+  pub reached : (S : ℕ) → Reach L S → (i : ℕ) × (i < notes Z) × (noteSet Z i ≡ S)
+  pub few : (n : ℕ) → Many L n → (n ≤ notes Z) × (notes Z ≤ 4096)
+
+abbrev pub CertifiedCovers : Type 0
+CertifiedCovers = (L M P Z : List ℕ) → certificateRefusal L M P Z ≡ 0 → Covered L Z
+
+-- where more can be reached, no machine is shown to be the list: every certificate of every one is refused with 22
+abbrev pub NoneCertified : Type 0
+NoneCertified = (L : List ℕ) → Many L 4097 → listRefusal L ≡ 0 → (M P Z : List ℕ) → machineRefusal M P ≡ 0 → certificateRefusal L M P Z ≡ 22
