@@ -1,8 +1,7 @@
 // The driver over a certificate: code for no user. It calls the entry points as a caller would, and promises that both feeds told the same.
 use feeds::Fed;
 use feeds::Opened;
-ghost use Rattle.extended_demands.specs.Drivers.{sight, openSight};
-ghost use Rattle.certificate_demands.specs.Drivers.{BothDriven};
+ghost use Rattle.certificate_demands.specs.Drivers.{begun, byList, byMachine, BothDriven};
 
 // What the calls of `drive_both` answered: the check, and the opening and the feed of the list and of the machine.
 struct DroveBoth {
@@ -29,10 +28,10 @@ fn drive_both(
     machine_pairs: &mut [u32],
 ) -> DroveBoth
     ensures { λ r. ⌜ BothDriven (now (list .entry)) (now (moves .entry)) (now (programs .entry)) (now (certificate .entry)) (r .checked)
-        (now (flow .entry)) (openSight (now (pairs0 .entry)) (r .opened) (now (pairs0 .exit)))
-        (sight start (now (piece .entry)) (now (pairs .entry)) (r .fed) (now (pairs .exit)))
-        (now («machine_flow» .entry)) (openSight (now («machine_pairs0» .entry)) (r .«machine_opened») (now («machine_pairs0» .exit)))
-        (sight start (now (piece .entry)) (now («machine_pairs» .entry)) (r .«machine_fed») (now («machine_pairs» .exit))) ⌝ }
+        (begun (now (flow .entry)) (now (pairs0 .entry)) (r .opened) (now (pairs0 .exit)))
+        (byList (now (list .entry)) start (now (piece .entry)) (now (pairs .entry)) (r .fed) (now (pairs .exit)) (now (flow .exit)))
+        (begun (now («machine_flow» .entry)) (now («machine_pairs0» .entry)) (r .«machine_opened») (now («machine_pairs0» .exit)))
+        (byMachine (now (moves .entry)) (now (programs .entry)) start (now (piece .entry)) (now («machine_pairs» .entry)) (r .«machine_fed») (now («machine_pairs» .exit)) (now («machine_flow» .exit))) ⌝ }
 {
     let checked = certificates::check_certificate(list, moves, programs, certificate);
     let opened = plain::open_flow(list, flow, pairs0);

@@ -2,4 +2,3 @@ pub mod Demand1
 pub mod Demand2
 pub mod Driving
 pub mod Examples
-pub mod Turns

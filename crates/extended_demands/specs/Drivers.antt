@@ -1,60 +1,88 @@
 -- What the driver promises: the demands said of the numbers that the code answered and the buffers that it left.
-use Prim.Native.Nat.{ℕ, _*_}
-use mathlib.Core.Bool.{false}
-use mathlib.Core.List.{List, _++_}
+use Prim.Native.Nat.{ℕ, suc, _+_, _*_, _≤_}
+use mathlib.Core.Bool.{cond}
+use mathlib.Core.List.{List, [], _∷_, _++_}
 use mathlib.Core.Path.{_≡_}
-use lib.ListN.{length, take}
-use Rattle.rules.specs.Rules.{Refuses}
-use Rattle.feeds.specs.Engine.{run}
+use lib.ListN.{length, getD, take}
+use Rattle.rules.specs.Words.{InWords}
+use Rattle.feeds.specs.Engine.{Outcome, run}
+use Rattle.feeds.specs.Calls.{recordAfter, allTold, allBytes, Along}
+use Rattle.feeds.specs.Fed.{Answers}
+use Rattle.feeds.specs.Made.{Made, made, Promised, callsOf}
+use Rattle.feeds.specs.Demands.{openTold, OneFeed}
 use Rattle.feeds.specs.declared.Fed.{Fed}
 use Rattle.feeds.specs.declared.Opened.{Opened}
-use Rattle.extended.specs.Machine.{machineRules, machine, first}
-use Rattle.extended.specs.Record.{offsetOf, configOf}
-use Rattle.extended.specs.Extended.{openRules}
-use Rattle.extended_demands.specs.Demands.{Due}
+use Rattle.extended.specs.Machine.{machine, first}
+use Rattle.extended.specs.Record.{configOf, offsetOf}
+use Rattle.extended.specs.Extended.{extendedOpen}
+use Rattle.extended.specs.Words.{machineWords, openWords, feedWords}
+use Rattle.extended_demands.specs.Calls.{Call, wayOf, outcome}
+use Rattle.extended_demands.specs.Demands.{Due, Demand2Opened}
+use Rattle.extended_demands.specs.declared.Standing.{Standing}
 
--- a feed as its caller sees it: the stated start, the piece and the words at entry, the answer, and the words at exit
-pub record Seen : Type 0 where
-  pub at : ℕ
-  pub piece : List ℕ
-  pub out : List ℕ
+-- ---- a feed that the code made
+
+abbrev pub pieceOf : Call → List ℕ
+pieceOf c = c .piece
+
+abbrev pub does : Call → List ℕ → Outcome
+does c R = outcome R c
+
+-- what it answered and left, as an outcome
+abbrev pub outcomeOf : {A : Type 0} → Made A → Outcome
+outcomeOf m = record { refusal = m .fed .refusal; bytes = m .fed .bytes; pairs = m .fed .pairs; all = m .fed .all; words = m .words; saved = m .saved }
+
+-- the numbers that the driver notes of it: refusal, bytes, pairs, and 1 where all was consumed, else 0
+abbrev pub numbersOf : Fed → List ℕ
+numbersOf f = f .refusal ∷ (f .bytes ∷ (f .pairs ∷ (cond (f .all) 1 0 ∷ [])))
+
+-- those of any number of them
+abbrev pub allNumbers : List (Made Call) → List ℕ
+allNumbers [] = []
+allNumbers (m ∷ ms) = numbersOf (m .fed) ++ allNumbers ms
+
+-- from feed k on each is by M and P, and states the start at its place
+abbrev pub AsSaid : List ℕ → List ℕ → List ℕ → ℕ → List (Made Call) → Type 0
+AsSaid M P starts k [] = Unit {0}
+AsSaid M P starts k (m ∷ ms) = ((m .call .moves ≡ M) × (m .call .programs ≡ P) × (m .call .at ≡ getD starts k 0)) × AsSaid M P starts (suc k) ms
+
+-- the code goes from where it stands, `so`, to r by the feed c on the record R, noted as number i: what is consumed and told goes behind what was, its numbers
+-- behind those noted, and Q is left
+pub record Turned (c : Call) (R stream : List ℕ) (so : Standing) (ws : List ℕ) (i : ℕ) (ns : List ℕ) (r : Standing) (vs ms Q : List ℕ) : Type 0 where
   pub fed : Fed
   pub words : List ℕ
+  pub answers : Answers (outcome R c) fed words Q
+  pub eaten : take (r .bytes) stream ≡ take (so .bytes) stream ++ take (fed .bytes) (c .piece)
+  pub told : take (r .words) vs ≡ take (so .words) ws ++ take (2 * fed .pairs) words
+  pub noted : take (4 * i + 4) ms ≡ take (4 * i) ns ++ numbersOf fed
+  pub short : r .bytes ≤ length stream
+  pub room : r .words ≤ length vs
 
-abbrev pub sight : ℕ → List ℕ → List ℕ → Fed → List ℕ → Seen
-sight at piece out fed words = record { at = at; piece = piece; out = out; fed = fed; words = words }
+-- ---- all of it
 
--- an opening so: the words at entry, the answer, and the words at exit
-pub record Sighted : Type 0 where
-  pub out : List ℕ
-  pub opened : Opened
-  pub words : List ℕ
+-- demand 1 of one feed by M and P that the code made on the record S: its refusal in words; and the longest front, all, and what stays, of the very numbers and buffers
+abbrev pub OneMade : List ℕ → List ℕ → List ℕ → Made Call → Type 0
+OneMade M P S m =
+    InWords (feedWords M P S (m .call .at) (m .call .piece)) (m .fed .refusal) × OneFeed (wayOf M P) S (m .call .at) (m .call .piece) (m .call .out) (outcomeOf m)
 
-abbrev pub openSight : List ℕ → Opened → List ℕ → Sighted
-openSight out opened words = record { out = out; opened = opened; words = words }
-
--- what two feeds consumed, and the words that the opening and they told
-abbrev pub bytesSeen : Seen → Seen → List ℕ
-bytesSeen s t = take (s .fed .bytes) (s .piece) ++ take (t .fed .bytes) (t .piece)
-
-abbrev pub wordsSeen : Sighted → Seen → Seen → List ℕ
-wordsSeen o s t = take (2 * o .opened .pairs) (o .words) ++ (take (2 * s .fed .pairs) (s .words) ++ take (2 * t .fed .pairs) (t .words))
-
--- a feed that is refused consumes nothing, tells nothing and changes no word
-pub record Untouched (s : Seen) : Type 0 where
-  pub bytes : s .fed .bytes ≡ 0
-  pub pairs : s .fed .pairs ≡ 0
-  pub all : s .fed .all ≡ false
-  pub words : s .words ≡ s .out
-
--- a check, an opening on the record R and two feeds, which leave the record Q
-pub record Driven (M P R : List ℕ) (checked : ℕ) (o : Sighted) (s t : Seen) (Q : List ℕ) : Type 0 where
-  -- demand 1: the check and the opening refuse as their rules say, and a feed that is refused changes nothing
-  pub checks : Refuses (machineRules M P) checked
-  pub opens : Refuses (openRules M P R (o .out)) (o .opened .refusal)
-  pub first-untouched : (s .fed .refusal ≡ 0 → ⊥) → Untouched s
-  pub second-untouched : (t .fed .refusal ≡ 0 → ⊥) → Untouched t
-  -- demand 2: from an opening that is not refused, all that is told is what the automaton tells of the bytes consumed, and the record stands there
-  pub due : o .opened .refusal ≡ 0 → Due M P (bytesSeen s t) (wordsSeen o s t)
-  pub config : o .opened .refusal ≡ 0 → configOf Q ≡ run (machine M P) (first P) (bytesSeen s t)
-  pub offset : o .opened .refusal ≡ 0 → offsetOf Q ≡ length (bytesSeen s t)
+-- a check, an opening on the record R with all of the words `out`, and then n feeds that state these starts: the code noted these numbers of them; they consumed bs, told ws,
+-- opening's words first, and left Q
+pub record Driven (M P starts R out : List ℕ) (n checked : ℕ) (opened : Opened) (numbers bs ws Q : List ℕ) : Type 0 where
+  -- demand 1: the check, the opening and each feed refuse as the words say
+  pub checks : InWords (machineWords M P) checked
+  pub opens : InWords (openWords M P R out) (opened .refusal)
+  pub feeds : List (Made Call)
+  pub many : length feeds ≡ n
+  pub said : AsSaid M P starts 0 feeds
+  pub noted : numbers ≡ allNumbers feeds
+  pub promised : Promised pieceOf does (extendedOpen M P R out .saved) feeds
+  pub each : Along (made pieceOf) (OneMade M P) (extendedOpen M P R out .saved) feeds
+  -- what they consumed, told and left
+  pub consumed : allBytes (made pieceOf) (extendedOpen M P R out .saved) feeds ≡ bs
+  pub told : openTold (extendedOpen M P R out) ++ allTold (made pieceOf) (extendedOpen M P R out .saved) feeds ≡ ws
+  pub left : recordAfter (made pieceOf) (extendedOpen M P R out .saved) feeds ≡ Q
+  -- demand 2: from an opening that is not refused all that is told is what the automaton tells of the bytes consumed, and the record stands there
+  pub demand : opened .refusal ≡ 0 → Demand2Opened M P (extendedOpen M P R out) (callsOf feeds)
+  pub due : opened .refusal ≡ 0 → Due M P bs ws
+  pub config : opened .refusal ≡ 0 → configOf Q ≡ run (machine M P) (first P) bs
+  pub offset : opened .refusal ≡ 0 → offsetOf Q ≡ length bs

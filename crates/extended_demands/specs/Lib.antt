@@ -2,4 +2,3 @@ pub mod Calls
 pub mod Demands
 pub mod Drivers
 pub mod Examples
-pub mod Turns

@@ -50,9 +50,8 @@ returns c =
     let checking = opening .before .before .before in
     let known5 = checking .before .before .before .before .before .before .before in
     let known3 = known5 .before .before in
-    both-driven _ _ _ _ _ _ _ _ _ (opening .open-flow .ensures) (feeding .feed .ensures) _ _ _ _ _ (machine-opening .open-flow2 .ensures) (machine-feed .feed2 .ensures)
-    (λ i. known3 .before .shared-slice-known2 .given i .fits) (λ i. known3 .shared-slice-known3 .given i .fits)
-    (λ i. known5 .shared-slice-known5 .given i .fits) (λ i. known5 .shared-slice-known5 .given i .fits) _ (checking .check-certificate .ensures)
+    both-driven _ _ _ _ _ _ (λ i. known3 .before .shared-slice-known2 .given i .fits) (λ i. known3 .shared-slice-known3 .given i .fits) (λ i. known5 .shared-slice-known5 .given i .fits)
+    _ _ _ _ _ _ (opening .open-flow .ensures) (feeding .feed .ensures) _ _ _ _ _ _ (machine-opening .open-flow2 .ensures) (machine-feed .feed2 .ensures) _ (checking .check-certificate .ensures)
 
 pub drive-both-spec : {M : Type 1} → statement M
 drive-both-spec =

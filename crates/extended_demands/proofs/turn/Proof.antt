@@ -3,12 +3,12 @@ use borrow.Author.Needs.{needs}
 use native.Mathlib.Omega.{arith}
 use Prim.Native.Nat.{_+_, _*_, _≤_}
 use lib.ListN.{length}
-use Rattle.extended_demands.proofs.Turns.{turned-fits, turned}
+use Rattle.extended_demands.proofs.Driving.{turned-fits, turned}
 use Rattle.extended_demands.proofs.turn.Statement.{statement}
 use Rattle.extended_demands.proofs.turn.Tie as tie
 
 abbrev entry : tie.After-feed → tie.Start
-entry c = c .before .before .before .before .before .before .before .before .before
+entry c = c .before .before .before .before .before .before .before .before .before .before
 
 -- what is consumed and told fits the stream and the words
 fits : (c : tie.After-feed)
@@ -42,14 +42,17 @@ part-feed-end-2 c = search needs
 feed-requires : tie.Need-feed-requires
 feed-requires c κs = search needs
 
-add-t16 : tie.Need-add-t16
-add-t16 c = let fed = c .before .before .before .before .before in omega (arith, fits fed .0, entry fed .good .1 .1 .1 .1 .0 .0)
+note-requires : tie.Need-note-requires
+note-requires c κs = search needs
+
+add-t18 : tie.Need-add-t18
+add-t18 c = let fed = c .before .before .before .before .before .before .before .before .before in omega (arith, fits fed .0, entry fed .good .1 .1 .1 .1 .0 .0)
 
 mul-t21 : tie.Need-mul-t21
-mul-t21 c = let fed = c .before .before .before .before .before .before in omega (arith, fits fed .1, entry fed .good .1 .1 .1 .1 .1 .1 .1 .0 .0)
+mul-t21 c = let fed = c .before .before .before .before .before .before .before .before .before .before in omega (arith, fits fed .1, entry fed .good .1 .1 .1 .1 .1 .1 .1 .0 .0)
 
-add-t19 : tie.Need-add-t19
-add-t19 c = let fed = c .before .before .before .before .before .before in omega (arith, fits fed .1, entry fed .good .1 .1 .1 .1 .1 .1 .1 .0 .0)
+add-t23 : tie.Need-add-t23
+add-t23 c = let fed = c .before .before .before .before .before .before .before .before .before .before in omega (arith, fits fed .1, entry fed .good .1 .1 .1 .1 .1 .1 .1 .0 .0)
 
 same-length : tie.Need-same-length
 same-length c = search needs
@@ -57,12 +60,16 @@ same-length c = search needs
 same-length-2 : tie.Need-same-length-2
 same-length-2 c = search needs
 
+same-length-3 : tie.Need-same-length-3
+same-length-3 c = search needs
+
 returns : tie.Need-returns
 returns c =
-    let fed = c .before .before .before .before .before .before in
+    let fed = c .before .before .before .before .before .before .before .before .before .before in
     let e = entry fed in
     let a = e .args in
-    turned (a .moves .now) (a .programs .now) (a .flow .now) (a .start) (a .stream .now) (a .so) (a .e) (a .pairs .now) (a .v) (e .pre .0) (e .pre .1) (e .pre .2) (e .pre .3) _ _ _ (fed .feed .ensures)
+    turned (a .moves .now) (a .programs .now) (a .flow .now) (a .start) (a .stream .now) (a .so) (a .e) (a .pairs .now) (a .v) (e .pre .0) (e .pre .1) (e .pre .2) (e .pre .3)
+    (a .i) _ _ _ _ _ (fed .feed .ensures) (c .before .before .before .before .note .ensures)
 
 pub turn-spec : {M : Type 1} → statement M
 turn-spec =
@@ -76,9 +83,11 @@ turn-spec =
     part-feed-start-2
     part-feed-end-2
     feed-requires
-    add-t16
+    note-requires
+    add-t18
     mul-t21
-    add-t19
+    add-t23
     same-length
     same-length-2
+    same-length-3
     returns)
