@@ -1,21 +1,24 @@
 -- A configuration is compared by all of its numbers, and a record is found exactly when it is there. Assumes nothing.
-use Prim.Native.Nat.{ℕ, _≤_, _<_}
+use Prim.Native.Nat.{ℕ, _+_, _*_, _≤_, _<_}
 use mathlib.Core.Path.{_≡_, refl, sym, ap, ap₂, _∙_}
 use mathlib.Core.Bool.{Bool, true, false, _&&_, _||_, not, true≢false}
 use mathlib.Core.List.{List, [], _∷_}
 use mathlib.Core.Logic.{_↔_}
 use native.Mathlib.Omega.{arith}
-use lib.ListN.{getD, drop}
+use lib.ListN.{getD, take, drop}
+use lib.Seq.{drop-drop}
 use lib.Dec.{eqb, ltb}
 use borrow.Author.Tests.{eqb-true, eq-eqb, ltb-false, not-true, not-false}
-use Rattle.sets.specs.Set.{before, compare}
+use Rattle.sets.specs.Set.{num, setAt, before, compare}
 use Rattle.sets.proofs.Order.{before-irrefl, compare-before, compare-after, compare-equal}
 use Rattle.rules.specs.Scan.{some, every}
 use Rattle.rules.proofs.Scanning.{both, neither, some-intro, some-elim, every-at, every-all, equal-words}
 use Rattle.extended.specs.declared.Config.{Config}
+use Rattle.extended.specs.Record.{configAt}
 use Rattle.extended.proofs.Programs.{config-one}
+use Rattle.extended.proofs.Records.{fours-at}
 use Rattle.certificates.specs.Certificate.{notes, noteConfig, noteSet, numbersOf, sameConfig, noted}
-use Rattle.certificates.specs.Words.{Recorded}
+use Rattle.certificates.specs.Words.{Noted, Recorded}
 
 -- ---- tests in words
 
@@ -30,6 +33,25 @@ not-words A a f = (λ e. f .0 (not-false a e), λ p. ap not (f .1 p))
 
 pub every-words : (n : ℕ) (p : ℕ → Bool) (A : ℕ → Type 0) → ((i : ℕ) → p i ≡ true ↔ A i) → every n p ≡ true ↔ ((i : ℕ) → i < n → A i)
 every-words n p A f = (λ e i l. f i .0 (every-at n p e i l), λ h. every-all n p (λ i l. f i .1 (h i l)))
+
+-- ---- the bytes of a record
+
+pub noted-so : (Z : List ℕ) → Noted Z
+unfolding noteConfig noteSet configAt setAt
+noted-so Z =
+    record {
+      many = refl;
+      state = λ i. refl;
+      reserved = λ i. ap (λ (b : List ℕ). num 8 (take 2 b)) (drop-drop 2 (204 * i) Z);
+      bits = λ i. ap (λ (b : List ℕ). num 8 (take 8 b)) (drop-drop 4 (204 * i) Z);
+      counter = λ i k l.
+          fours-at 16 (drop 12 (drop (204 * i) Z)) k l
+          ∙ ap (λ (b : List ℕ). num 8 (take 4 b)) (drop-drop (4 * k) 12 (drop (204 * i) Z) ∙ drop-drop (12 + 4 * k) (204 * i) Z ∙ ap (λ (n : ℕ). drop n Z) (apart (204 * i) (4 * k)));
+      set = λ i. refl;
+    }
+  where
+    apart : (a b : ℕ) → a + (12 + b) ≡ a + 12 + b
+    apart a b = omega arith
 
 -- ---- the same configuration
 
