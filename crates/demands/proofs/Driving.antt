@@ -6,10 +6,12 @@ use mathlib.Core.List.{List, [], _∷_, _++_, append-nil, append-assoc}
 use native.Mathlib.Omega.{arith}
 use native.Mathlib.Nat.{zero-add}
 use native.Mathlib.Decide.{ℕ-discrete}
-use lib.ListN.{length, getD, take, drop, length-append}
-use lib.Seq.{length-take-le, take-append-add, take-append-le, take-take, take-add, getD-drop}
+use lib.ListN.{length, getD, set, take, drop, length-append}
+use lib.Seq.{length-take-le, take-append-add, take-append-le, take-take, take-add, take-at, getD-drop}
 use lib.Dec.{eqb}
 use borrow.Rule.Slice.PartMut.{midOf, postOf, putMid, same-len-mid, mid-len}
+use Rattle.sets.specs.Set.{placed}
+use Rattle.sets.proofs.Placing.{placed-fits, placed-none, placed-one}
 use Rattle.rules.specs.Rules.{verdict}
 use Rattle.lists.specs.List.{listRefusal}
 use Rattle.feeds.specs.Calls.{Bytes, recordAfter, allTold, allBytes, Along, Pieces}
@@ -33,7 +35,7 @@ use Rattle.matrix.proofs.Exact.{filled-left}
 use Rattle.indexes.specs.Index.{filledIndex, FillsIndex}
 use Rattle.demands.specs.Calls.{Via, byList, byTable, byMatrix, byIndex, Checked, Call, wayOf, outcome, ruled, asked, InBytes, Each}
 use Rattle.demands.specs.Demands.{Swaps, Swapped, Due}
-use Rattle.demands.specs.Drivers.{viaBy, callOf, pieceOf, does, Turn, AsSaid, Came, Driven}
+use Rattle.demands.specs.Drivers.{viaBy, callOf, pieceOf, does, nearest, Plan, planned, Turn, Meant, AsMeant, answer, answers, Came, Driven}
 use Rattle.demands.proofs.Demand1.{demand-1}
 use Rattle.demands.proofs.Swapping.{swapped}
 
@@ -47,43 +49,76 @@ getD-past [] i h = refl
 getD-past (x ∷ xs) zero h = absurd (omega arith)
 getD-past (x ∷ xs) (suc i) h = getD-past xs i (omega arith)
 
--- by equal numbers the same
-pub via-as : (b : ℕ) (T : Table) (X Y : List ℕ) (k j : ℕ) → k ≡ j → viaBy b T X Y k ≡ viaBy b T X Y j
-via-as b T X Y k j e = ap (viaBy b T X Y) e
-
 -- ---- one feed more
 
-module _ (L : List ℕ) (via : ℕ → Via) (at : ℕ → ℕ) where
-  pub came-none : (B front : List ℕ) → Came L via at 0 B front [] front B
+-- the planned call, by equal numbers
+pub planned-so : (L : List ℕ) (b : ℕ) (T : Table) (X Y kinds starts cuts rooms stream : List ℕ) (room k n w kind start cut most e v : ℕ) (out : List ℕ)
+    → kind ≡ getD kinds k 0 → start ≡ getD starts k 0 → e ≡ nearest n cut (length stream) → cut ≡ getD cuts k 0 → v ≡ nearest w most room → most ≡ getD rooms k 0
+    → length out ≡ v - w → Meant L (planned b T X Y kinds starts cuts rooms stream room) k n w (callOf L (viaBy b T X Y kind) start (take (e - n) (drop n stream)) out)
+planned-so L b T X Y kinds starts cuts rooms stream room k n w kind start cut most e v out hk hs he hc hv hm ho =
+    record {
+      list = refl;
+      via = ap (viaBy b T X Y) hk;
+      at = hs;
+      piece = ap (λ (j : ℕ). take (j - n) (drop n stream)) (he ∙ ap (λ (j : ℕ). nearest n j (length stream)) hc);
+      room = ho ∙ ap (λ (j : ℕ). j - w) (hv ∙ ap (λ (j : ℕ). nearest w j room) hm);
+    }
+
+-- four numbers written one after the other
+pub four-placed : (ns : List ℕ) (at a b c d : ℕ) → at + 4 ≤ length ns → set (set (set (set ns at a) (at + 1) b) (at + 2) c) (at + 3) d ≡ placed ns at (a ∷ b ∷ c ∷ d ∷ [])
+four-placed ns at a b c d h =
+    let z : at + 0 ≡ at = omega arith in
+    let e₁ : set ns at a ≡ placed ns at (a ∷ []) = ap (λ (xs : List ℕ). set xs at a) (placed-none ns at (omega arith)) ∙ rw z at (placed-one ns at [] a (omega arith)) in
+    ap (λ (xs : List ℕ). set (set (set xs (at + 1) b) (at + 2) c) (at + 3) d) e₁
+    ∙ ap (λ (xs : List ℕ). set (set xs (at + 2) c) (at + 3) d) (placed-one ns at (a ∷ []) b (omega arith))
+    ∙ ap (λ (xs : List ℕ). set xs (at + 3) d) (placed-one ns at (a ∷ b ∷ []) c (omega arith))
+    ∙ placed-one ns at (a ∷ b ∷ c ∷ []) d (omega arith)
+
+-- what is noted behind the notes so far
+noted-more : (notes : List ℕ) (i : ℕ) (f : Fed) (left : List ℕ) → 4 * i + 4 ≤ length notes → left ≡ placed notes (4 * i) (answer f)
+    → take (4 * (i + 1)) left ≡ take (4 * i) notes ++ answer f
+noted-more notes i f left h e =
+    let l : length (take (4 * i) notes ++ answer f) ≡ 4 * (i + 1) = length-append (take (4 * i) notes) (answer f) ∙ omega (arith, length-take-le (4 * i) notes (omega arith)) in
+    ap (take (4 * (i + 1))) (e ∙ placed-fits notes (4 * i) (answer f) (omega arith)) ∙ take-at (take (4 * i) notes ++ answer f) (drop (4 * i + length (answer f)) notes) (4 * (i + 1)) l
+
+module _ (L : List ℕ) (P : Plan) where
+  pub came-none : (B : List ℕ) (w : ℕ) (out notes : List ℕ) → Came L P 0 B w (take w out) 0 w out notes B
   unfolding recordAfter allTold allBytes
-  came-none B front = record { feeds = []; many = refl; said = tt; in-bytes = tt; promised = tt; eaten = refl; told = append-nil front; left = refl }
+  came-none B w out notes =
+      record { feeds = []; as-many = refl; meant = (refl, refl); in-bytes = tt; promised = tt; noted = refl; eaten = refl; told = append-nil (take w out); left = refl }
 
   -- the same number of feeds
-  pub ended : (i n : ℕ) (B front bs ws Q : List ℕ) → i ≡ n → Came L via at i B front bs ws Q → Came L via at n B front bs ws Q
-  ended i n B front bs ws Q e c = rw e at c
+  pub ended : (i many : ℕ) (B : List ℕ) (w₀ : ℕ) (front : List ℕ) (n w : ℕ) (ws notes Q : List ℕ) → i ≡ many → Came L P i B w₀ front n w ws notes Q → Came L P many B w₀ front n w ws notes Q
+  ended i many B w₀ front n w ws notes Q e c = rw e at c
 
-  said-more : (k : ℕ) (ms : List (Made Call)) (m : Made Call) → AsSaid L via at k ms
-      → (m .call .list ≡ L) × (m .call .via ≡ via (k + length ms)) × (m .call .at ≡ at (k + length ms)) → AsSaid L via at k (ms ++ (m ∷ []))
-  said-more k [] m h s = let e : k + 0 ≡ k = omega arith in (rw e at s, tt)
-  said-more k (j ∷ ms) m h s = (h .0, said-more (suc k) ms m (h .1) (rw (next k (length ms)) s))
+  meant-more : (k n w : ℕ) (ms : List (Made Call)) (e v : ℕ) (m : Made Call) → AsMeant L P k n w ms e v → Meant L P (k + length ms) e v (m .call)
+      → AsMeant L P k n w (ms ++ (m ∷ [])) (e + m .fed .bytes) (v + 2 * m .fed .pairs)
+  meant-more k n w [] e v m h s = let z : k + 0 ≡ k = omega arith in (rw (h .0, h .1) (rw z at s), (rw (h .0), rw (h .1)))
+  meant-more k n w (j ∷ ms) e v m h s = (h .0, meant-more (suc k) (n + j .fed .bytes) (w + 2 * j .fed .pairs) ms e v m (h .1) (rw (next k (length ms)) s))
     where
       next : (a b : ℕ) → suc a + b ≡ a + suc b
       next a b = omega arith
 
-  pub came-more : (B front stream : List ℕ) (i n : ℕ) (out : List ℕ) (w : ℕ) (R : List ℕ) (v : Via) (a : ℕ) (f : Fed) (words Q : List ℕ)
-      → Came L via at i B front (take n stream) (take w out) R → v ≡ via i → a ≡ at i → Turn L v a R stream n out w f words Q
-      → Came L via at (i + 1) B front (take (n + f .bytes) stream) (take (w + 2 * f .pairs) words) Q
-  came-more B front stream i n out w R v a f words Q c e d t =
-      let m : Made Call = record { call = callOf L v a (t .piece) (t .lent); fed = f; words = t .left; saved = Q } in
+  answers-more : (ms : List (Made Call)) (m : Made Call) → answers (ms ++ (m ∷ [])) ≡ answers ms ++ answer (m .fed)
+  answers-more [] m = append-nil (answer (m .fed))
+  answers-more (k ∷ ms) m = ap (λ (ns : List ℕ). answer (k .fed) ++ ns) (answers-more ms m) ∙ sym (append-assoc (answer (k .fed)) (answers ms) (answer (m .fed)))
+
+  pub came-more : (B : List ℕ) (w₀ : ℕ) (front : List ℕ) (i n e : ℕ) (out : List ℕ) (w v : ℕ) (R : List ℕ) (via : Via) (at : ℕ) (f : Fed) (words Q notes left : List ℕ)
+      → Came L P i B w₀ front n w out notes R → Meant L P i n w (callOf L via at (take (e - n) (drop n (P .stream))) (take (v - w) (drop w out)))
+      → Turn L via at R (P .stream) n e out w v f words Q → 4 * i + 4 ≤ length notes → left ≡ placed notes (4 * i) (answer f)
+      → Came L P (i + 1) B w₀ front (n + f .bytes) (w + 2 * f .pairs) words left Q
+  came-more B w₀ front i n e out w v R via at f words Q notes left c d t h p =
+      let m : Made Call = record { call = callOf L via at (take (e - n) (drop n (P .stream))) (take (v - w) (drop w out)); fed = f; words = t .left; saved = Q } in
       let ms = c .feeds in
       let ask = made pieceOf in
       record {
         feeds = ms ++ (m ∷ []);
-        many = rw length-append (omega (arith, c .many));
-        said = said-more 0 ms m (c .said) (rw (zero-add (length ms), c .many) (refl, e, d));
+        as-many = rw length-append (omega (arith, c .as-many));
+        meant = meant-more 0 0 w₀ ms n w m (c .meant) (rw (zero-add (length ms), c .as-many) d);
         in-bytes = pieces-more ask m ms (c .in-bytes) (t .in-bytes);
         promised = along-more ask m _ B ms (c .promised) (rw (c .left) (t .answers));
-        eaten = eaten-more ask m B ms ∙ ap (λ (bs : List ℕ). bs ++ take (f .bytes) (t .piece)) (c .eaten) ∙ sym (t .eats);
+        noted = answers-more ms m ∙ ap (λ (ns : List ℕ). ns ++ answer f) (c .noted) ∙ sym (noted-more notes i f left h p);
+        eaten = eaten-more ask m B ms ∙ ap (λ (bs : List ℕ). bs ++ take (f .bytes) (m .call .piece)) (c .eaten) ∙ sym (t .eats);
         told =
             ap (λ (ws : List ℕ). front ++ ws) (told-more ask m B ms)
             ∙ sym (append-assoc front (allTold (made pieceOf) B ms) (take (2 * f .pairs) (t .left)))
@@ -101,7 +136,7 @@ bytes-most R c =
 pub turned : (L : List ℕ) (via : Via) (at : ℕ) (R stream : List ℕ) (n e : ℕ) (out : List ℕ) (w v : ℕ) (f : Fed) (ys Q : List ℕ)
     → e ≤ length stream → w ≤ v → v ≤ length out → n ≤ e → Bytes stream → length ys ≡ length (midOf w (v - w) out)
     → Answers (outcome R (callOf L via at (midOf n (e - n) stream) (midOf w (v - w) out))) f ys Q
-    → Turn L via at R stream n out w f (putMid w (v - w) out ys) Q
+    → Turn L via at R stream n e out w v f (putMid w (v - w) out ys) Q
 turned L via at R stream n e out w v f ys Q he hw hv hn hb hl a =
     let c = callOf L via at (midOf n (e - n) stream) (midOf w (v - w) out) in
     let few : f .bytes ≤ e - n = omega (arith, a .bytes, bytes-most R c, mid-len n e stream he) in
@@ -109,9 +144,8 @@ turned L via at R stream n e out w v f ys Q he hw hv hn hb hl a =
     let long : length ys ≡ v - w = hl ∙ mid-len w v out hv in
     let before : length (take w out) ≡ w = length-take-le w out (omega (arith, hw, hv)) in
     record {
-      piece = midOf n (e - n) stream;
-      lent = midOf w (v - w) out;
       left = ys;
+      room = mid-len w v out hv;
       answers = a;
       in-bytes = bytes-take (e - n) (drop n stream) (λ i. rw (getD-drop n stream i 0) (hb (n + i)));
       eats = take-add n (f .bytes) stream ∙ ap (λ (bs : List ℕ). take n stream ++ bs) (sym (take-take (f .bytes) (e - n) (drop n stream) few));
@@ -138,28 +172,32 @@ checked-by L b T X Y ok x y h k = go (eqb k 1) (eqb k 2) (eqb k 3)
     go false false false = tt
 
 -- so the calls change between what is checked
-said-swaps : (L : List ℕ) (via : ℕ → Via) (at : ℕ → ℕ) → ((i : ℕ) → Checked L (via i)) → (R : List ℕ) (k : ℕ) (ms : List (Made Call)) → AsSaid L via at k ms → Each (Swaps L) R (callsOf ms)
-said-swaps L via at ok R k [] h = tt
-said-swaps L via at ok R k (m ∷ ms) h = (λ v. (h .0 .0, rw (h .0 .1) (ok k)), said-swaps L via at ok (outcome R (m .call) .saved) (suc k) ms (h .1))
+meant-swaps : (L : List ℕ) (P : Plan) → ((i : ℕ) → Checked L (P .via i)) → (R : List ℕ) (k n w : ℕ) (ms : List (Made Call)) (e v : ℕ) → AsMeant L P k n w ms e v → Each (Swaps L) R (callsOf ms)
+meant-swaps L P ok R k n w [] e v h = tt
+meant-swaps L P ok R k n w (m ∷ ms) e v h =
+    (λ z. (h .0 .list, rw (h .0 .via) (ok k)), meant-swaps L P ok (outcome R (m .call) .saved) (suc k) (n + m .fed .bytes) (w + 2 * m .fed .pairs) ms e v (h .1))
 
-module _ (L : List ℕ) (b : ℕ) (T : Table) (R out X₀ X Y₀ Y kinds starts : List ℕ) (n listed checked written indexed : ℕ) (f : Opened) (vs B bs ws Q : List ℕ)
+module _ (L : List ℕ) (b : ℕ) (T : Table) (R out X₀ X Y₀ Y kinds starts cuts rooms stream : List ℕ) (many listed checked written indexed : ℕ) (f : Opened) (vs B : List ℕ) (n w : ℕ) (ws notes Q : List ℕ)
     (lists : listed ≡ listRefusal L) (tables : checked ≡ tableRefusal L b T) (matrices : Fills L X₀ written X) (indexes : FillsIndex L b T Y₀ indexed Y)
     (opens : Opens (openFlow L R out) f vs B) (bytes : Bytes (T .splits))
-    (came : Came L (λ i. viaBy b T X Y (getD kinds i 0)) (λ i. getD starts i 0) n B (take (2 * f .pairs) vs) bs ws Q) where
+    (came : Came L (planned b T X Y kinds starts cuts rooms stream (length vs)) many B (2 * f .pairs) (take (2 * f .pairs) vs) n w ws notes Q) where
+  abbrev plan : Plan
+  plan = planned b T X Y kinds starts cuts rooms stream (length out)
+
   -- on the record and behind the words that opening leaves by its definition
-  came-so : Came L (λ i. viaBy b T X Y (getD kinds i 0)) (λ i. getD starts i 0) n (openFlow L R out .saved) (openTold (openFlow L R out)) bs ws Q
-  came-so = rw (opens .saved, opens .pairs, opens .words) at came
+  came-so : Came L plan many (openFlow L R out .saved) (2 * openFlow L R out .pairs) (openTold (openFlow L R out)) n w ws notes Q
+  came-so = rw (opens .saved, opens .pairs, opens .words, demand-1 .opens L R out .words-many) at came
 
   swaps : f .refusal ≡ 0 → checked ≡ 0 → written ≡ 0 → indexed ≡ 0 → Swapped L (openFlow L R out) (callsOf (came-so .feeds))
   swaps z y x u =
       swapped L R out (sym (opens .refusal) ∙ z) (callsOf (came-so .feeds)) (pieces-calls pieceOf does (came-so .feeds) (came-so .in-bytes))
-      (said-swaps L _ _ (λ i. checked-by L b T X Y (sym tables ∙ y) (filled-left L X₀ written X matrices x) (demand-1 .indexes-passes L b T Y₀ indexed Y indexes u .1) bytes (getD kinds i 0))
-      (openFlow L R out .saved) 0 (came-so .feeds) (came-so .said))
+      (meant-swaps L plan (λ i. checked-by L b T X Y (sym tables ∙ y) (filled-left L X₀ written X matrices x) (demand-1 .indexes-passes L b T Y₀ indexed Y indexes u .1) bytes (getD kinds i 0))
+      (openFlow L R out .saved) 0 0 (2 * openFlow L R out .pairs) (came-so .feeds) n w (came-so .meant))
 
-  eaten : AsDefined pieceOf does (openFlow L R out .saved) (came-so .feeds) → allBytes asked (openFlow L R out .saved) (callsOf (came-so .feeds)) ≡ bs
+  eaten : AsDefined pieceOf does (openFlow L R out .saved) (came-so .feeds) → allBytes asked (openFlow L R out .saved) (callsOf (came-so .feeds)) ≡ take n stream
   eaten a = sym (a .bytes) ∙ came-so .eaten
 
-  pub driven : Driven L b T R out X₀ X Y₀ Y kinds starts n listed checked written indexed f bs ws Q
+  pub driven : Driven L b T R out X₀ X Y₀ Y kinds starts cuts rooms stream many listed checked written indexed f n w ws notes Q
   driven =
       let c = came-so in
       let a = as-defined pieceOf does (openFlow L R out .saved) (c .feeds) (c .promised) in

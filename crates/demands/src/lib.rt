@@ -2,13 +2,15 @@
 use build::Built;
 use feeds::Fed;
 use feeds::Opened;
-ghost use Prim.Native.Nat.{_≤_};
+ghost use Prim.Native.Nat.{_≤_, _+_, _*_, _/_};
+ghost use mathlib.Core.Bool.{cond};
 ghost use mathlib.Core.Path.{_≡_};
 ghost use lib.ListN.{length, getD, take};
+ghost use Rattle.sets.specs.Set.{placed};
 ghost use Rattle.tables.specs.Table.{table};
 ghost use Rattle.feeds.specs.Fed.{Answers};
 ghost use Rattle.demands.specs.Calls.{outcome};
-ghost use Rattle.demands.specs.Drivers.{viaBy, callOf, Turn, Came, Driven, built, BuildKept};
+ghost use Rattle.demands.specs.Drivers.{viaBy, callOf, nearest, planned, answer, Turn, Came, Driven, built, BuildKept};
 
 // The number at a place; past the end that is 0.
 fn number_at(numbers: &[usize], i: usize) -> usize
@@ -20,7 +22,8 @@ fn number_at(numbers: &[usize], i: usize) -> usize
 // The number, or the nearest to it of those from `low` to `high`.
 fn within(low: usize, x: usize, high: usize) -> usize
     requires { ⌜ low ≤ high ⌝ }
-    ensures { λ r. ⌜ (low ≤ r) × (r ≤ high) ⌝ }
+    ensures between { λ r. ⌜ (low ≤ r) × (r ≤ high) ⌝ }
+    ensures nearest { λ r. ⌜ r ≡ nearest low x high ⌝ }
 {
     if x < low {
         return low;
@@ -29,6 +32,25 @@ fn within(low: usize, x: usize, high: usize) -> usize
         return high;
     }
     x
+}
+
+// 1 for true.
+fn flag(b: bool) -> usize
+    ensures { λ r. ⌜ r ≡ cond b 1 0 ⌝ }
+{
+    if b { 1 } else { 0 }
+}
+
+// Writes what feed i answered, four numbers for each feed: the refusal, the bytes, the pairs, and 1 where all was consumed.
+fn note(notes: &mut [usize], i: usize, fed: Fed)
+    requires { ⌜ 4 * i + 4 ≤ length (now notes) ⌝ }
+    ensures { λ r. ⌜ now (notes .exit) ≡ placed (now (notes .entry)) (4 * i) (answer fed) ⌝ }
+{
+    let at = 4 * i;
+    notes[at] = fed.refusal as usize;
+    notes[at + 1] = fed.bytes;
+    notes[at + 2] = fed.pairs;
+    notes[at + 3] = flag(fed.all);
 }
 
 // Feeds a piece by what the number says: 1 the table, 2 the matrix, 3 the index, else the list.
@@ -99,7 +121,7 @@ fn feed_part(
     ensures { λ r. ⌜ Turn (now (list .entry))
         (viaBy bound (table (now (classes .entry)) (now (parts .entry)) (now (rows .entry)) (now (splits .entry)))
         (now (matrix .entry)) (now (index .entry)) kind)
-        start (now (flow .entry)) (now (stream .entry)) n (now (pairs .entry)) w r (now (pairs .exit)) (now (flow .exit)) ⌝ }
+        start (now (flow .entry)) (now (stream .entry)) n e (now (pairs .entry)) w v r (now (pairs .exit)) (now (flow .exit)) ⌝ }
 {
     feed_by(
         list,
@@ -124,8 +146,8 @@ struct FedAll {
     words: usize,
 }
 
-// Feeds a stream by as many feeds as there are cuts, behind the words told so far: each goes by what a list of numbers says, states the start that a list of
-// starts says, ends at the byte that a list of cuts says, and has words up to where a list of rooms says.
+// Feeds a stream by as many feeds as there are notes for, behind the words told so far: each goes by what a list of numbers says, states the start that a list of
+// starts says, ends at the byte that a list of cuts says, and has words up to where a list of rooms says. What each answered is noted.
 // One that is refused consumes nothing, and the next goes on from the same byte.
 fn feed_all(
     list: &[u8],
@@ -143,19 +165,21 @@ fn feed_all(
     rooms: &[usize],
     stream: &[u8],
     pairs: &mut [u32],
+    notes: &mut [usize],
     told: usize,
 ) -> FedAll
     requires { ⌜ told ≤ length (now pairs) ⌝ }
     ensures { λ r. ⌜ Came (now (list .entry))
-        (λ i. viaBy bound (table (now (classes .entry)) (now (parts .entry)) (now (rows .entry)) (now (splits .entry)))
-        (now (matrix .entry)) (now (index .entry)) (getD (now (kinds .entry)) i 0))
-        (λ i. getD (now (starts .entry)) i 0) (length (now (cuts .entry))) (now (flow .entry)) (take told (now (pairs .entry)))
-        (take (r .bytes) (now (stream .entry))) (take (r .words) (now (pairs .exit))) (now (flow .exit)) ⌝ }
+        (planned bound (table (now (classes .entry)) (now (parts .entry)) (now (rows .entry)) (now (splits .entry))) (now (matrix .entry)) (now (index .entry))
+        (now (kinds .entry)) (now (starts .entry)) (now (cuts .entry)) (now (rooms .entry)) (now (stream .entry)) (length (now (pairs .entry))))
+        (length (now (notes .entry)) / 4) (now (flow .entry)) told (take told (now (pairs .entry)))
+        (r .bytes) (r .words) (now (pairs .exit)) (now (notes .exit)) (now (flow .exit)) ⌝ }
 {
     let mut n = 0usize;
     let mut w = told;
-    for i in 0..cuts.len() {
-        let e = within(n, cuts[i], stream.len());
+    let many = notes.len() / 4;
+    for i in 0..many {
+        let e = within(n, number_at(cuts, i), stream.len());
         let v = within(w, number_at(rooms, i), pairs.len());
         let kind = number_at(kinds, i);
         let start = number_at(starts, i) as u64;
@@ -178,6 +202,7 @@ fn feed_all(
             w,
             v,
         );
+        note(notes, i, fed);
         n = n + fed.bytes;
         w = w + 2 * fed.pairs;
     }
@@ -196,7 +221,7 @@ struct Drove {
 }
 
 // The demands over any number of calls of any kind: checks a list and a table, fills a matrix and an index, opens a flow with all of the words, and feeds it a
-// stream behind the pairs that opening told, as the lent lists say.
+// stream behind the pairs that opening told, as the lent lists say; what each feed answered is noted.
 fn drive(
     list: &[u8],
     bound: u64,
@@ -213,12 +238,13 @@ fn drive(
     rooms: &[usize],
     stream: &[u8],
     pairs: &mut [u32],
+    notes: &mut [usize],
 ) -> Drove
     ensures { λ r. ⌜ Driven (now (list .entry)) bound (table (now (classes .entry)) (now (parts .entry)) (now (rows .entry)) (now (splits .entry)))
         (now (flow .entry)) (now (pairs .entry)) (now (matrix .entry)) (now (matrix .exit)) (now (index .entry)) (now (index .exit))
-        (now (kinds .entry)) (now (starts .entry)) (length (now (cuts .entry)))
+        (now (kinds .entry)) (now (starts .entry)) (now (cuts .entry)) (now (rooms .entry)) (now (stream .entry)) (length (now (notes .entry)) / 4)
         (r .listed) (r .checked) (r .filled) (r .indexed) (r .opened)
-        (take (r .bytes) (now (stream .entry))) (take (r .words) (now (pairs .exit))) (now (flow .exit)) ⌝ }
+        (r .bytes) (r .words) (now (pairs .exit)) (now (notes .exit)) (now (flow .exit)) ⌝ }
 {
     let listed = lists::check_list(list);
     let checked = tables::check_table(list, bound, classes, parts, rows, splits);
@@ -242,6 +268,7 @@ fn drive(
         rooms,
         stream,
         pairs,
+        notes,
         told,
     );
     Drove {

@@ -24,18 +24,18 @@ open-flow-requires c κs = search needs
 
 -- what opening told fits the words
 begun-fit : (c : tie.After-open-flow) → 2 * c .open-flow .result .pairs ≤ length (c .open-flow .last .1 .1 .0)
-begun-fit c = let a = c .before .before .before .before .before .before .before .before .before .before .before .before .before .before .before .before .before .before .before .before .before .before .before .before .before .before .before .args in open-fits (a .list .now) (a .flow .now) (a .pairs .now) _ _ _ (c .open-flow .ensures)
+begun-fit c = let a = c .before .before .before .before .before .before .before .before .before .before .before .before .before .before .before .before .before .before .before .before .before .before .before .before .before .before .before .before .args in open-fits (a .list .now) (a .flow .now) (a .pairs .now) _ _ _ (c .open-flow .ensures)
 
 mul-told : tie.Need-mul-told
 mul-told c =
     let opening = c .before .before .before .before .before in
-    omega (arith, begun-fit opening, opening .open-flow .kept .1 .1 .0, c .before .before .before .before .before .before .before .before .before .before .before .before .before .before .before .before .before .before .before .before .before .before .before .before .before .before .before .before .before .before .before .before .good .1 .1 .1 .1 .1 .1 .1 .1 .1 .1 .1 .1 .1 .1 .0 .0)
+    omega (arith, begun-fit opening, opening .open-flow .kept .1 .1 .0, c .before .before .before .before .before .before .before .before .before .before .before .before .before .before .before .before .before .before .before .before .before .before .before .before .before .before .before .before .before .before .before .before .before .good .1 .1 .1 .1 .1 .1 .1 .1 .1 .1 .1 .1 .1 .1 .0 .0)
 
 feed-all-requires : tie.Need-feed-all-requires
-feed-all-requires c κs = begun-fit (c .before .before .before .before .before .before .before .before .before)
+feed-all-requires c κs = begun-fit (c .before .before .before .before .before .before .before .before .before .before)
 
 same-length : tie.Need-same-length
-same-length c = c .before .before .before .before .before .before .before .before .before .before .before .before .before .before .before .before .before .before .before .before .before .before .before .fill .kept .1 .0
+same-length c = c .before .before .before .before .before .before .before .before .before .before .before .before .before .before .before .before .before .before .before .before .before .before .before .before .before .before .fill .kept .1 .0
 
 same-length-2 : tie.Need-same-length-2
 same-length-2 c = search needs
@@ -46,15 +46,19 @@ same-length-3 c = search needs
 same-length-4 : tie.Need-same-length-4
 same-length-4 c = search needs
 
+same-length-5 : tie.Need-same-length-5
+same-length-5 c = search needs
+
 returns : tie.Need-returns
 returns c =
-    let feeding = c .before .before .before .before in
-    let opening = c .before .before .before .before .before .before .before .before .before .before .before .before .before .before in
-    let indexing = c .before .before .before .before .before .before .before .before .before .before .before .before .before .before .before .before .before .before .before in
-    let filling = c .before .before .before .before .before .before .before .before .before .before .before .before .before .before .before .before .before .before .before .before .before .before .before in
-    let checking = c .before .before .before .before .before .before .before .before .before .before .before .before .before .before .before .before .before .before .before .before .before .before .before .before .before in
-    driven _ _ _ _ _ _ _ _ _ _ _ _ _ _ _ _ _ _ _ _ _ _ (checking .before .check-list .ensures) (checking .check-table .ensures) (filling .fill .ensures) (indexing .fill2 .ensures)
-    (opening .open-flow .ensures) (λ i. c .before .before .before .before .before .before .before .before .before .before .before .before .before .before .before .before .before .before .before .before .before .before .before .before .before .before .before .before .before .before .before .before .before .before .before .before .shared-slice-known5 .given i .fits) (feeding .feed-all .ensures)
+    let feeding = c .before .before .before .before .before .before in
+    let opening = c .before .before .before .before .before .before .before .before .before .before .before .before .before .before .before .before .before in
+    let indexing = c .before .before .before .before .before .before .before .before .before .before .before .before .before .before .before .before .before .before .before .before .before .before in
+    let filling = c .before .before .before .before .before .before .before .before .before .before .before .before .before .before .before .before .before .before .before .before .before .before .before .before .before .before in
+    let checking = c .before .before .before .before .before .before .before .before .before .before .before .before .before .before .before .before .before .before .before .before .before .before .before .before .before .before .before .before in
+    let a = c .before .before .before .before .before .before .before .before .before .before .before .before .before .before .before .before .before .before .before .before .before .before .before .before .before .before .before .before .before .before .before .before .before .before .before .before .before .before .before .before .before .before .before .before .before .args in
+    driven _ _ _ _ _ _ _ _ _ (a .kinds .now) (a .starts .now) (a .cuts .now) (a .rooms .now) (a .stream .now) _ _ _ _ _ _ _ _ _ _ _ _ _ (checking .before .check-list .ensures) (checking .check-table .ensures) (filling .fill .ensures)
+    (indexing .fill2 .ensures) (opening .open-flow .ensures) (λ i. c .before .before .before .before .before .before .before .before .before .before .before .before .before .before .before .before .before .before .before .before .before .before .before .before .before .before .before .before .before .before .before .before .before .before .before .before .before .before .before .before .shared-slice-known5 .given i .fits) (feeding .feed-all .ensures)
 
 pub drive-spec : {M : Type 1} → statement M
 drive-spec =
@@ -71,4 +75,5 @@ drive-spec =
     same-length-2
     same-length-3
     same-length-4
+    same-length-5
     returns)
