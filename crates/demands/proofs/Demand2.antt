@@ -74,5 +74,6 @@ one-call =
       room-whole = λ out. (omega arith, omega arith);
       elsewhere = call-elsewhere;
       never-4 = λ R c h k f. lawful-of (c .via) .fits (c .list) k R (c .at) (c .piece) (c .out) h f;
+      never-foreign = λ R c n f e. lawful-of (c .via) .not-4 (c .list) R (c .at) (c .piece) n f (each-feed (wayOf (c .via) (c .list)) R (c .at) (c .piece) (c .out) .ruled 4 (λ z. omega (arith, z)) (λ z. omega (arith, z)) .0 e);
       kept-whole = λ R c h l g. call-good (c .via) (c .list) R (c .at) (c .piece) (c .out) h l g;
     }

@@ -143,6 +143,8 @@ pub record OneCall : Type 0 where
   pub elsewhere : (R : List ℕ) (c : Call) → otherStart R (c .at) ≡ true → (outcome R c .refusal ≡ 0 → ⊥) × Unchanged R (c .out) (outcome R c)
   -- a feed leaves no record that a later feed on its list refuses with 4, if what it goes by is checked: then it names no foreign state
   pub never-4 : (R : List ℕ) (c : Call) → Bytes (c .piece) → Checked (c .list) (c .via) → Fit (c .list) R → Fit (c .list) (outcome R c .saved)
+  -- and such a record no call on the list refuses with 4, whatever table or matrix it goes by, checked or not, and by the index that the filler writes for any table
+  pub never-foreign : (R : List ℕ) (c : Call) → Names (c .list) (c .via) → Fit (c .list) R → outcome R c .refusal ≡ 4 → ⊥
   -- and whatever it goes by, the record keeps the size, the reserved bytes and the rows that 4 asks
   pub kept-whole : (R : List ℕ) (c : Call) → Bytes (c .piece) → Lent (c .via) → badFlow R ≡ false → badFlow (outcome R c .saved) ≡ false
 
