@@ -3,4 +3,5 @@ pub mod Parts
 pub mod Words
 pub mod Before
 pub mod Streams
+pub mod Carried
 pub mod Unique

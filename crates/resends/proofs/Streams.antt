@@ -180,7 +180,7 @@ module _ (s : ℕ) (W : Line) (place : ℕ) (v : Stands s W place) (c : 0 < W .l
           let t = before-not-next (numberOf s W) (W .start) (W .length) e in
           omega (arith, ltb-false (length (W .down) - place) (W .length) (rw (b .1) at t))
 
-  has-next-means : hasNext (numberOf s W) (W .start) (W .length) ≡ true
+  pub has-next-means : hasNext (numberOf s W) (W .start) (W .length) ≡ true
       → (place ≤ length (W .down)) × (distance (W .start) (numberOf s W) ≡ length (W .down) - place) × (length (W .down) - place < W .length)
   has-next-means e =
       elim (decLt (length (W .down)) place) [
@@ -209,10 +209,10 @@ up-to-cut next p n m h a = rw (lt-ltb 0 n h, a) (go (ltb (distance next p) m) re
     go false e = ltb-false (distance next p) m e
 
 -- a byte of a part of a part
-part-length : (m n d : ℕ) (xs : List ℕ) → length (take m (take n (drop d xs))) ≤ n
+pub part-length : (m n d : ℕ) (xs : List ℕ) → length (take m (take n (drop d xs))) ≤ n
 part-length m n d xs = rw (length-take m (take n (drop d xs)), length-take n (drop d xs)) (omega arith)
 
-part-byte : (m n d : ℕ) (xs : List ℕ) (j : ℕ) → j < length (take m (take n (drop d xs))) → getD (take m (take n (drop d xs))) j 0 ≡ getD xs (d + j) 0
+pub part-byte : (m n d : ℕ) (xs : List ℕ) (j : ℕ) → j < length (take m (take n (drop d xs))) → getD (take m (take n (drop d xs))) j 0 ≡ getD xs (d + j) 0
 part-byte m n d xs j h =
     let l = rw (length-take m (take n (drop d xs)), length-take n (drop d xs)) at h in
     getD-take m (take n (drop d xs)) j 0 (omega arith) ∙ getD-take n (drop d xs) j 0 (omega arith) ∙ getD-drop d xs j 0
@@ -220,17 +220,17 @@ part-byte m n d xs j h =
 -- ---- a look
 
 -- nothing is due, or what is held has not all come before
-abbrev Settled : ℕ → Line → ℕ → List ℕ → Type 0
+abbrev pub Settled : ℕ → Line → ℕ → List ℕ → Type 0
 Settled s W q seg =
     (due (numberOf s W) (W .held) (W .start) (W .length) q seg ≡ []) ⊎ (0 < W .length → allBefore (numberOf s W) (W .start) (W .length) ≡ false)
 
-abbrev Good : ℕ → Line → ℕ → List ℕ → Type 0
+abbrev pub Good : ℕ → Line → ℕ → List ℕ → Type 0
 Good s W q seg = (p : ℕ) × Stands s W p × Settled s W q seg
 
 pub number-lt : (s : ℕ) (W : Line) → numberOf s W < circle
 number-lt s W = omega arith
 
-taken-good : (s : ℕ) (W : Line) (place q : ℕ) (seg : List ℕ) → q < circle → Stands s W place → Good s (taken s W q seg) q seg
+pub taken-good : (s : ℕ) (W : Line) (place q : ℕ) (seg : List ℕ) → q < circle → Stands s W place → Good s (taken s W q seg) q seg
 unfolding taken taking early full
 taken-good s W place q seg lq v =
     go (badSizes (length (W .held)) (W .length) (length seg)) (ltb 0 (length seg) && ahead (numberOf s W) q) (allBefore (numberOf s W) (W .start) (W .length)) (ltb heldSize (length seg))
@@ -274,7 +274,7 @@ taken-good s W place q seg lq v =
     go false false true big eb en ea ez = (place, clear-step s W place v (λ c. all-before-means s W place v c ea), inr (λ c. absurd (omega arith)))
     go false false false big eb en ea ez = (place, v, inr (λ c. ea))
 
-take-none : (m : ℕ) (xs : List ℕ) → xs ≡ [] → length (take m xs) ≡ 0
+pub take-none : (m : ℕ) (xs : List ℕ) → xs ≡ [] → length (take m xs) ≡ 0
 take-none zero xs e = refl
 take-none (suc m) xs e = ap (λ (ys : List ℕ). length (take (suc m) ys)) e
 

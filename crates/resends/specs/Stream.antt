@@ -2,6 +2,8 @@
 use Prim.Native.Nat.{ℕ, suc, _+_, _-_, _%_, _<_}
 use mathlib.Core.Bool.{Bool, _&&_, not, cond}
 use mathlib.Core.List.{List, [], _∷_, _++_}
+use mathlib.Core.Logic.{_⊎_}
+use mathlib.Core.Path.{_≡_}
 use lib.ListN.{length, take, getD}
 use lib.Dec.{leb, ltb, eqb}
 use Rattle.resends.specs.Resend.{circle, distance, badSizes, early, full, taking, due}
@@ -78,3 +80,8 @@ begun held = record { down = []; start = 0; length = 0; held = held; first = λ 
 abbrev pub Numbered : List Look → Type 0
 Numbered [] = Unit {0}
 Numbered (l ∷ ls) = (l .start < circle) × Numbered ls
+
+-- some segment looked at carries the byte v under number p: its byte j has the number of its first and j more, round the circle
+abbrev pub Carried : ℕ → ℕ → List Look → Type 0
+Carried p v [] = ⊥
+Carried p v (l ∷ ls) = ((j : ℕ) × (j < length (l .seg)) × ((l .start + j) % circle ≡ p) × (getD (l .seg) j 0 ≡ v)) ⊎ Carried p v ls

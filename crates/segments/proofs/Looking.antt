@@ -8,14 +8,14 @@ use lib.ListN.{length, take, drop, length-take, length-drop, length-append}
 use lib.Seq.{length-take-le, take-append-add}
 use lib.Dec.{eqb}
 use borrow.Author.Tests.{eqb-true, eqb-false, eq-eqb, ne-eqb}
-use Rattle.feeds.specs.Engine.{Outcome, ended}
+use Rattle.feeds.specs.Engine.{ended}
 use Rattle.feeds.specs.Calls.{Way, fedBy}
 use Rattle.feeds.proofs.Moves.{feed-fits, feed-length}
 use Rattle.feeds.proofs.Runs.{length-take-most}
 use Rattle.feeds.proofs.Whole.{by-feed}
 use Rattle.resends.specs.Resend.{mostSegment, due, partDue}
 use Rattle.resends.proofs.Parts.{part-short}
-use Rattle.segments.specs.Segment.{Sent, Kept, Heard, Look, nextOf, takeOf, dueOf, fedOf, keptOf, look, behind, more, looked, mostLooks, atDoor, feedSegment}
+use Rattle.segments.specs.Segment.{Sent, Kept, Heard, Look, nextOf, takeOf, dueOf, fedOf, idle, busy, look, behind, lookOn, more, looked, mostLooks, atDoor, feedSegment}
 
 -- what is due is short
 pub due-short : (next : ℕ) (held : List ℕ) (p n q : ℕ) (seg : List ℕ) → length (due next held p n q seg) ≤ mostSegment
@@ -30,30 +30,15 @@ feed-most W R at piece out =
     by-feed (W .rules R at piece) (W .engine) (W .layout) R piece out (λ o. o .bytes ≤ length piece) (λ v n. length-take-most n piece) (λ v. omega arith)
 
 module _ (W : Way) (g : Sent) (S : Kept) (out : List ℕ) where
-  -- what a look is where nothing is due, and where something is
-  abbrev pub idle : Look
-  idle =
-      record {
-        on = false;
-        heard = record { refusal = takeOf W g S .refusal; down = []; pairs = 0; all = eqb (takeOf W g S .refusal) 0; words = out; kept = keptOf W g S (S .flow) };
-      }
-
-  abbrev pub busy : Outcome → Look
-  busy f =
-      record {
-        on = f .all;
-        heard = record { refusal = f .refusal; down = take (f .bytes) (dueOf W g S); pairs = f .pairs; all = false; words = f .words; kept = keptOf W g S (f .saved) };
-      }
-
-  pub look-idle : length (dueOf W g S) ≡ 0 → look W g S out ≡ idle
+  pub look-idle : length (dueOf W g S) ≡ 0 → look W g S out ≡ idle W g S out
   unfolding look
   look-idle e = rw (eq-eqb (length (dueOf W g S)) 0 e)
 
-  pub look-busy : (length (dueOf W g S) ≡ 0 → ⊥) → look W g S out ≡ busy (fedOf W g S out)
+  pub look-busy : (length (dueOf W g S) ≡ 0 → ⊥) → look W g S out ≡ busy W g S (fedOf W g S out)
   unfolding look
   look-busy e = rw (ne-eqb (length (dueOf W g S)) 0 e)
 
-  pub by-look : (P : Look → Type 0) → (length (dueOf W g S) ≡ 0 → P idle) → ((length (dueOf W g S) ≡ 0 → ⊥) → P (busy (fedOf W g S out))) → P (look W g S out)
+  pub by-look : (P : Look → Type 0) → (length (dueOf W g S) ≡ 0 → P (idle W g S out)) → ((length (dueOf W g S) ≡ 0 → ⊥) → P (busy W g S (fedOf W g S out))) → P (look W g S out)
   by-look P i b = go (eqb (length (dueOf W g S)) 0) refl
     where
       go : (t : Bool) → eqb (length (dueOf W g S)) 0 ≡ t → P (look W g S out)
@@ -91,10 +76,6 @@ pub behind-words : (a h : Heard) → 2 * a .pairs ≤ length (a .words)
 behind-words a h fits =
     let twice : 2 * (a .pairs + h .pairs) ≡ length (take (2 * a .pairs) (a .words)) + 2 * h .pairs = omega (arith, length-take-le (2 * a .pairs) (a .words) fits) in
     rw twice (take-append-add (take (2 * a .pairs) (a .words)) (h .words) (2 * h .pairs))
-
--- the look that follows what is heard so far
-abbrev pub lookOn : Way → Sent → Look → Look
-lookOn W g l = look W g (l .heard .kept) (drop (2 * l .heard .pairs) (l .heard .words))
 
 module _ (W : Way) (g : Sent) (l : Look) where
   pub more-on : l .on ≡ true → more W g l ≡ record { on = lookOn W g l .on; heard = behind (l .heard) (lookOn W g l .heard) }

@@ -19,10 +19,11 @@ use Rattle.resends.specs.Stream as stream
 use Rattle.resends.specs.Stream.{Line, numberOf, taken, passed, tornBy, looking, looks, begun, Numbered}
 use Rattle.resends.proofs.Parts.{refuses, take-refused, take-kept, take-other}
 use Rattle.resends.proofs.Streams.{stream}
-use Rattle.segments.specs.Segment.{Sent, Kept, Look, nextOf, takeOf, dueOf, fedOf, keptOf, look, behind, more, looked, mostLooks, atDoor, feedSegment}
+use Rattle.resends.proofs.Carried.{carried}
+use Rattle.segments.specs.Segment.{Sent, Kept, Look, nextOf, takeOf, dueOf, fedOf, keptOf, look, behind, lookOn, more, looked, mostLooks, atDoor, feedSegment}
 use Rattle.segments.specs.Calls.{Calls, fed, sentOf, hears, handed, doorOf, lookAs, looksFrom, looksAt, Fits}
-use Rattle.segments.specs.Streamed.{fresh, allSeen, Streamed, Streams, Far, whole, placed, torn, Glance, savedBy, downBy, toldBy, lookBy, glancing, glanceAt, Sees, Restarts}
-use Rattle.segments.proofs.Looking.{by-look, fed-down, behind-words, lookOn, more-on, more-off, looked-fitting, looked-off}
+use Rattle.segments.specs.Streamed.{fresh, allSeen, Streamed, Streams, Far, whole, placed, torn, Glance, glanced, lookBy, glancing, glanceAt, Sees, Restarts}
+use Rattle.segments.proofs.Looking.{by-look, fed-down, behind-words, more-on, more-off, looked-fitting, looked-off}
 
 -- ---- bytes stay bytes
 
@@ -296,6 +297,7 @@ module _ {C D : Type 0} (X : Calls C) (K : Layout D) (G : Engine D) (x : D) (fir
         let w = goes .flows (k .feeds) (k .in-bytes) (k .given) in
         record {
           came-first = λ i l. stream s H (allSeen ask seen (fresh o H) cs) (k .numbered) i (rw (k .lies .down) l) ∙ ap (λ (bs : List ℕ). suc (getD bs i 0)) (k .lies .down);
+          carried = λ i l. rw (k .lies .down) at (carried s H (allSeen ask seen (fresh o H) cs) (k .numbered) i (rw (k .lies .down) l));
           due = rw (k .eaten, k .told) at (w .due);
           config = rw (k .left, k .eaten) at (w .config);
           offset = rw (k .left, k .eaten) at (w .offset);
@@ -308,10 +310,11 @@ module _ {C D : Type 0} (X : Calls C) (K : Layout D) (G : Engine D) (x : D) (fir
 
   -- one look of a caller who is killed, however far he came
   came-glance : (S : Kept) (v : Glance C) (bs ws : List ℕ) (ls : List stream.Look) → Sees X Fit S v → Came S bs ws ls
-      → Came (savedBy X s S (v .call) (v .far)) (bs ++ downBy X s S (v .call) (v .far)) (ws ++ toldBy X s S (v .call) (v .far)) (ls ++ glanceAt X s S v)
+      → Came (glancing X s v .left S) (bs ++ glancing X s v .eaten S) (ws ++ glancing X s v .spoken S) (ls ++ glanceAt X s S v)
   came-glance S v bs ws ls f k = go (v .far)
     where
-      go : (t : Far) → Came (savedBy X s S (v .call) t) (bs ++ downBy X s S (v .call) t) (ws ++ toldBy X s S (v .call) t) (ls ++ (lookBy X s S (v .call) t ∷ []))
+      go : (t : Far)
+          → Came (glanced X s S (v .call) t .kept) (bs ++ glanced X s S (v .call) t .down) (ws ++ take (2 * glanced X s S (v .call) t .pairs) (glanced X s S (v .call) t .words)) (ls ++ (lookBy X s S (v .call) t ∷ []))
       go whole = came-look (v .call) (f .number) (f .bytes) S bs ws ls k (f .fit) (X .out (v .call))
       go placed = came-as (sym (append-nil bs)) (sym (append-nil ws)) refl (came-placed (v .call) (f .number) (f .bytes) S bs ws ls k)
       go torn = came-as (sym (append-nil bs)) (sym (append-nil ws)) refl (came-torn (v .call) (f .number) (f .bytes) S bs ws ls k)

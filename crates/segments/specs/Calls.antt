@@ -3,12 +3,12 @@ use Prim.Native.Nat.{ℕ, zero, suc, _*_, _<_}
 use mathlib.Core.Bool.{false, cond}
 use mathlib.Core.List.{List, [], _∷_, _++_}
 use mathlib.Core.Path.{_≡_}
-use lib.ListN.{length, take, drop}
+use lib.ListN.{length, take}
 use Rattle.rules.specs.Rules.{verdict}
 use Rattle.feeds.specs.Calls.{Bytes, Way, fedBy, Asked, asking}
 use Rattle.resends.specs.Resend.{circle}
 use Rattle.resends.specs.Stream as stream
-use Rattle.segments.specs.Segment.{Sent, Kept, Heard, Look, look, looked, mostLooks, doorRules, atDoor, feedSegment}
+use Rattle.segments.specs.Segment.{Sent, Kept, Heard, Look, lookOn, looked, mostLooks, doorRules, atDoor, feedSegment}
 
 -- calls that state a start, with a piece and words, each by a way of its own; and the same call from another start, with another piece and other words
 pub record Calls (C : Type 0) : Type 1 where
@@ -32,15 +32,12 @@ sentOf X s c = record { first = s; start = X .at c; bytes = X .piece c }
 abbrev pub hears : {C : Type 0} → Calls C → ℕ → Kept → C → Heard
 hears X s S c = feedSegment (X .way c) (sentOf X s c) S (X .out c)
 
--- the bytes that it passes down, the words that it tells, and what is kept then
+-- bytes of which so much is heard, as a call on what is kept: the bytes passed down, the words told, and what is kept then
+abbrev pub hearing : List ℕ → (Kept → Heard) → Asked Kept
+hearing piece hears = record { piece = piece; eaten = λ S. hears S .down; spoken = λ S. take (2 * hears S .pairs) (hears S .words); left = λ S. hears S .kept }
+
 abbrev pub handed : {C : Type 0} → Calls C → ℕ → C → Asked Kept
-handed X s c =
-    record {
-      piece = X .piece c;
-      eaten = λ S. hears X s S c .down;
-      spoken = λ S. take (2 * hears X s S c .pairs) (hears X s S c .words);
-      left = λ S. hears X s S c .kept;
-    }
+handed X s c = hearing (X .piece c) (λ S. hears X s S c)
 
 -- it is refused before it is looked at
 abbrev pub doorOf : {C : Type 0} → Calls C → ℕ → Kept → C → ℕ
@@ -56,8 +53,7 @@ abbrev pub looksFrom : {C : Type 0} → Calls C → ℕ → C → ℕ → Look �
 looksFrom X s c zero l = []
 looksFrom X s c (suc k) l =
     let m = looked k (X .way c) (sentOf X s c) l in
-    let h = look (X .way c) (sentOf X s c) (m .heard .kept) (drop (2 * m .heard .pairs) (m .heard .words)) .heard in
-    let here : List stream.Look = lookAs X c (length (h .down)) ∷ [] in
+    let here : List stream.Look = lookAs X c (length (lookOn (X .way c) (sentOf X s c) m .heard .down)) ∷ [] in
     looksFrom X s c k l ++ cond (m .on) here []
 
 abbrev pub looksAt : {C : Type 0} → Calls C → ℕ → Kept → C → List stream.Look

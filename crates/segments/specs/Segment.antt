@@ -60,15 +60,19 @@ pub record Look : Type 0 where
   pub on : Bool
   pub heard : Heard
 
--- where nothing is due, the answer is what taking the segment answered; else what the feed answered, and another look follows where all of it was consumed
-unfoldable pub look : Way → Sent → Kept → List ℕ → Look
-look W g S out =
+-- where nothing is due, the answer is what taking the segment answered
+abbrev pub idle : Way → Sent → Kept → List ℕ → Look
+idle W g S out =
     let h = takeOf W g S in
-    let d = dueOf W g S in
-    let f = fedOf W g S out in
-    cond (eqb (length d) 0)
-    (record { on = false; heard = record { refusal = h .refusal; down = []; pairs = 0; all = eqb (h .refusal) 0; words = out; kept = keptOf W g S (S .flow) } })
-    (record { on = f .all; heard = record { refusal = f .refusal; down = take (f .bytes) d; pairs = f .pairs; all = false; words = f .words; kept = keptOf W g S (f .saved) } })
+    record { on = false; heard = record { refusal = h .refusal; down = []; pairs = 0; all = eqb (h .refusal) 0; words = out; kept = keptOf W g S (S .flow) } }
+
+-- else what the feed answered, and another look follows where all of it was consumed
+abbrev pub busy : Way → Sent → Kept → Outcome → Look
+busy W g S f =
+    record { on = f .all; heard = record { refusal = f .refusal; down = take (f .bytes) (dueOf W g S); pairs = f .pairs; all = false; words = f .words; kept = keptOf W g S (f .saved) } }
+
+unfoldable pub look : Way → Sent → Kept → List ℕ → Look
+look W g S out = cond (eqb (length (dueOf W g S)) 0) (idle W g S out) (busy W g S (fedOf W g S out))
 
 -- ---- looks, one after the other
 
@@ -84,13 +88,13 @@ behind a b =
       kept = b .kept;
     }
 
--- one look more where one follows, with the words behind the pairs told
+-- the look that follows, with the words behind the pairs told
+abbrev pub lookOn : Way → Sent → Look → Look
+lookOn W g l = look W g (l .heard .kept) (drop (2 * l .heard .pairs) (l .heard .words))
+
+-- one look more where one follows
 unfoldable pub more : Way → Sent → Look → Look
-more W g l =
-    let h = l .heard in
-    let m = look W g (h .kept) (drop (2 * h .pairs) (h .words)) in
-    let both : Look = record { on = m .on; heard = behind h (m .heard) } in
-    cond (l .on) both l
+more W g l = cond (l .on) (record { on = lookOn W g l .on; heard = behind (l .heard) (lookOn W g l .heard) }) l
 
 -- k looks more at most
 unfoldable pub looked : ℕ → Way → Sent → Look → Look

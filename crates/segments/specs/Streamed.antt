@@ -1,5 +1,5 @@
 -- What holds of any calls on what is kept of a flow, from its opening on: segments, or looks of a caller who is killed now and then.
-use Prim.Native.Nat.{ℕ, suc, _*_, _<_}
+use Prim.Native.Nat.{ℕ, suc, _+_, _*_, _%_, _<_}
 use mathlib.Core.Bool.{true}
 use mathlib.Core.List.{List, [], _∷_, _++_}
 use mathlib.Core.Path.{_≡_}
@@ -10,8 +10,8 @@ use Rattle.feeds.specs.Opening.{Opening}
 use Rattle.feeds.specs.Demands.{openTold, Due}
 use Rattle.resends.specs.Resend.{circle}
 use Rattle.resends.specs.Stream as stream
-use Rattle.segments.specs.Segment.{Kept, Heard, takeOf, keptOf, look}
-use Rattle.segments.specs.Calls.{Calls, fed, sentOf, handed, looksAt, lookAs, Fits}
+use Rattle.segments.specs.Segment.{Kept, Heard, takeOf, keptOf, look, unheard}
+use Rattle.segments.specs.Calls.{Calls, fed, sentOf, hearing, handed, looksAt, lookAs, Fits}
 
 -- nothing is held yet: the record that an opening left, and a held buffer
 abbrev pub fresh : Opening → List ℕ → Kept
@@ -29,6 +29,9 @@ pub record Streamed {A C D : Type 0} (ask : A → Asked Kept) (seen : Kept → A
   -- the byte passed down at each place is the one that was first consumed or held there: no gap, no repeat, and a resend of other content changes nothing
   pub came-first : (i : ℕ) → i < length (allBytes ask (fresh o held) cs)
       → stream.looks s (stream.begun held) (allSeen ask seen (fresh o held) cs) .first i ≡ suc (getD (allBytes ask (fresh o held) cs) i 0)
+  -- and a byte that some segment looked at carried under the number of that place, which is s and the place, round the circle
+  pub carried : (i : ℕ) → i < length (allBytes ask (fresh o held) cs)
+      → stream.Carried ((s + i) % circle) (getD (allBytes ask (fresh o held) cs) i 0) (allSeen ask seen (fresh o held) cs)
   -- the pairs told, opening's and then these, are those of the automaton on the bytes passed down, each once, by offset and then signature
   pub due : Due G x first (allBytes ask (fresh o held) cs) (openTold o ++ allTold ask (fresh o held) cs)
   -- and the record goes on from there
@@ -54,40 +57,20 @@ pub record Glance (C : Type 0) : Type 0 where
   pub call : C
   pub far : Far
 
--- what one look hears
-abbrev pub glanced : {C : Type 0} → Calls C → ℕ → Kept → C → Heard
-glanced X s S c = look (X .way c) (sentOf X s c) S (X .out c) .heard
-
--- the bytes that the saved record has consumed; the words of their pairs; what is saved; and the look that this is
-abbrev pub downBy : {C : Type 0} → Calls C → ℕ → Kept → C → Far → List ℕ
-downBy X s S c whole = glanced X s S c .down
-downBy X s S c placed = []
-downBy X s S c torn = []
-
-abbrev pub toldBy : {C : Type 0} → Calls C → ℕ → Kept → C → Far → List ℕ
-toldBy X s S c whole = take (2 * glanced X s S c .pairs) (glanced X s S c .words)
-toldBy X s S c placed = []
-toldBy X s S c torn = []
-
-abbrev pub savedBy : {C : Type 0} → Calls C → ℕ → Kept → C → Far → Kept
-savedBy X s S c whole = glanced X s S c .kept
-savedBy X s S c placed = keptOf (X .way c) (sentOf X s c) S (S .flow)
-savedBy X s S c torn = record { flow = S .flow; held = takeOf (X .way c) (sentOf X s c) S .bytes; start = S .start; length = S .length }
+-- what is heard as far as it is saved: the bytes that the saved record has consumed, the words of their pairs, and what is saved; and the look that this is
+abbrev pub glanced : {C : Type 0} → Calls C → ℕ → Kept → C → Far → Heard
+glanced X s S c whole = look (X .way c) (sentOf X s c) S (X .out c) .heard
+glanced X s S c placed = unheard 0 (keptOf (X .way c) (sentOf X s c) S (S .flow)) (X .out c)
+glanced X s S c torn = unheard 0 (record { flow = S .flow; held = takeOf (X .way c) (sentOf X s c) S .bytes; start = S .start; length = S .length }) (X .out c)
 
 abbrev pub lookBy : {C : Type 0} → Calls C → ℕ → Kept → C → Far → stream.Look
-lookBy X s S c whole = lookAs X c (length (glanced X s S c .down))
+lookBy X s S c whole = lookAs X c (length (glanced X s S c whole .down))
 lookBy X s S c placed = lookAs X c 0
 lookBy X s S c torn = record { start = X .at c; seg = X .piece c; eaten = 0; torn = true }
 
 -- as a call on what is kept, and the one look that it is
 abbrev pub glancing : {C : Type 0} → Calls C → ℕ → Glance C → Asked Kept
-glancing X s g =
-    record {
-      piece = X .piece (g .call);
-      eaten = λ S. downBy X s S (g .call) (g .far);
-      spoken = λ S. toldBy X s S (g .call) (g .far);
-      left = λ S. savedBy X s S (g .call) (g .far);
-    }
+glancing X s g = hearing (X .piece (g .call)) (λ S. glanced X s S (g .call) (g .far))
 
 abbrev pub glanceAt : {C : Type 0} → Calls C → ℕ → Kept → Glance C → List stream.Look
 glanceAt X s S g = lookBy X s S (g .call) (g .far) ∷ []

@@ -1,4 +1,4 @@
 pub mod Streams
 pub mod Tied
+pub mod Refusing
 pub mod Examples
-pub mod Driving

@@ -1,18 +1,25 @@
 -- Lists and machines as kinds of segments, and what holds of any segments of each.
-use Prim.Native.Nat.{ℕ}
-use mathlib.Core.List.{List}
+use Prim.Native.Nat.{ℕ, _<_}
+use mathlib.Core.Bool.{false}
+use mathlib.Core.List.{List, [], _∷_}
+use mathlib.Core.Logic.{_⊎_}
 use mathlib.Core.Path.{_≡_}
+use lib.ListN.{length}
+use Rattle.rules.specs.Rules.{verdict}
+use Rattle.rules.specs.Words.{Row, InWords}
 use Rattle.lists.specs.Automaton.{start, accepted}
 use Rattle.feeds.specs.Calls.{Bytes}
-use Rattle.flows.specs.Flow.{flowLayout}
+use Rattle.flows.specs.Flow.{flowLayout, offsetOf}
 use Rattle.plain.specs.Plain.{plain, openFlow}
 use Rattle.extended.specs.Machine.{machine, first, firstAlerts}
 use Rattle.extended.specs.Record as x
 use Rattle.extended.specs.Extended.{extendedOpen}
-use Rattle.demands.specs.Calls.{Call, Checked, wayOf}
+use Rattle.demands.specs.Calls.{Via, Call, Checked, wayOf, wordsBy}
 use Rattle.demands.specs.Demands.{Swapped}
 use Rattle.extended_demands.specs.Calls as machines
 use Rattle.extended_demands.specs.Demands.{Demand2Opened}
+use Rattle.resends.specs.Resend.{mostSegment, heldSize}
+use Rattle.segments.specs.Segment.{Sent, Kept, takeOf, dueOf, unheard, doorRules, feedSegment}
 use Rattle.segments.specs.Calls.{Calls}
 use Rattle.segments.specs.Streamed.{Streams, Restarts}
 
@@ -41,6 +48,25 @@ abbrev pub ListRestarts : Type 0
 ListRestarts =
     (L R out : List ℕ) → openFlow L R out .refusal ≡ 0
     → Restarts listCalls flowLayout (plain L) (start L) (accepted L (start L)) (Swapped L (openFlow L R out)) (OnList L) (openFlow L R out)
+
+-- ---- demand 1 of its segments, by the list alone, through a table, by a matrix or by an index
+
+-- the refusals in words: 18 first, for a segment over 65,535 bytes, a held buffer not of 4,096 or a held length over that; then those of the feed, of no bytes from the flow's own offset
+abbrev pub segmentWords : Via → List ℕ → Sent → Kept → List Row
+segmentWords v L g S = (18, ((mostSegment < length (g .bytes)) ⊎ (length (S .held) ≡ heldSize → ⊥)) ⊎ (heldSize < S .length)) ∷ wordsBy v L (S .flow) (offsetOf (S .flow)) []
+
+pub record SegmentRefuses (v : Via) (L : List ℕ) (g : Sent) (S : Kept) (out : List ℕ) : Type 0 where
+  -- each number exactly when its words hold and those of no row before it do
+  pub said : InWords (segmentWords v L g S) (verdict (doorRules (wayOf v L) g S))
+  -- then it is the answer: no byte is passed down, no pair told, not all; and no buffer changes, nor the held place
+  pub refused : (verdict (doorRules (wayOf v L) g S) ≡ 0 → ⊥) → feedSegment (wayOf v L) g S out ≡ unheard (verdict (doorRules (wayOf v L) g S)) S out
+  -- one that none of them refuses, and of which nothing is due, answers what taking it answers: 18 where it can't be held
+  pub taken : verdict (doorRules (wayOf v L) g S) ≡ 0 → length (dueOf (wayOf v L) g S) ≡ 0 → feedSegment (wayOf v L) g S out .refusal ≡ takeOf (wayOf v L) g S .refusal
+  -- a refusal never says that nothing is due any more
+  pub not-all : (feedSegment (wayOf v L) g S out .refusal ≡ 0 → ⊥) → feedSegment (wayOf v L) g S out .all ≡ false
+
+abbrev pub SegmentsRefuse : Type 0
+SegmentsRefuse = (v : Via) (L : List ℕ) (g : Sent) (S : Kept) (out : List ℕ) → SegmentRefuses v L g S out
 
 -- ---- a flow of a machine
 

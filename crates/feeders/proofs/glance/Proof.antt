@@ -5,9 +5,9 @@ use Prim.Native.Nat.{_+_, _*_, _%_, _≤_}
 use mathlib.Core.Path.{_≡_}
 use lib.ListN.{length}
 use Rattle.resends.specs.Resend.{circle}
-use Rattle.streams.proofs.Driving.{fed-fits, glanced-torn, glanced-placed, glanced-whole}
-use Rattle.streams.proofs.glance.Statement.{statement}
-use Rattle.streams.proofs.glance.Tie as tie
+use Rattle.feeders.proofs.Driving.{fed-fits, glanced-torn, glanced-placed, glanced-whole}
+use Rattle.feeders.proofs.glance.Statement.{statement}
+use Rattle.feeders.proofs.glance.Tie as tie
 
 -- the ways back from the taking: to the number, the offset and the entry
 abbrev numbered : tie.After-take → tie.After-wrapping-add-u32

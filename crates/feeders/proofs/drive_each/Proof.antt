@@ -1,8 +1,8 @@
 -- `drive_each` meets its promise by the promises of the functions that it calls. Assumes nothing.
 use borrow.Author.Needs.{needs}
-use Rattle.streams.proofs.Driving.{segment-kept}
-use Rattle.streams.proofs.drive_each.Statement.{statement}
-use Rattle.streams.proofs.drive_each.Tie as tie
+use Rattle.feeders.proofs.Driving.{segment-kept}
+use Rattle.feeders.proofs.drive_each.Statement.{statement}
+use Rattle.feeders.proofs.drive_each.Tie as tie
 
 feed-segment-requires : tie.Need-feed-segment-requires
 feed-segment-requires c κs = search needs

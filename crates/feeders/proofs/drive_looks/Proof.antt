@@ -4,11 +4,11 @@ use native.Mathlib.Omega.{arith}
 use Prim.Native.Nat.{_*_, _-_, _≤_}
 use mathlib.Core.Path.{_≡_, refl, _∙_}
 use lib.ListN.{length, take, drop}
-use Rattle.streams.proofs.Driving.{open-fits, led-none, Looking, looking-more, looks-driven}
+use Rattle.feeders.proofs.Driving.{open-fits, led-none, Looking, looking-more, looks-driven}
 use Rattle.feeds.proofs.Runs.{bytes-take, bytes-drop}
 use Rattle.segments.specs.Post.{kept}
-use Rattle.streams.proofs.drive_looks.Statement.{statement}
-use Rattle.streams.proofs.drive_looks.Tie as tie
+use Rattle.feeders.proofs.drive_looks.Statement.{statement}
+use Rattle.feeders.proofs.drive_looks.Tie as tie
 
 abbrev Inv-loop : tie.InvT-loop
 Inv-loop list flow₀ first held₀ numbers fars from to rooms bytes pairs₀ opened so₀ i₀ i-end flow held pairs so i =

@@ -31,17 +31,17 @@ use Rattle.resends.specs.Resend.{circle, taking, due}
 use Rattle.resends.specs.Post.{Takes}
 use Rattle.resends.specs.declared.Held.{Held}
 use Rattle.segments.specs.Segment as segment
-use Rattle.segments.specs.Segment.{Sent, Kept, Look, takeOf, dueOf, fedOf, keptOf, look, feedSegment}
+use Rattle.segments.specs.Segment.{Sent, Kept, Look, takeOf, dueOf, fedOf, keptOf, idle, busy, look, feedSegment}
 use Rattle.segments.specs.Post.{Hears, sent, kept}
 use Rattle.segments.specs.declared.Heard.{Heard}
 use Rattle.segments.specs.Calls.{handed, Fits}
 use Rattle.segments.specs.Streamed.{fresh, Far, whole, placed, Glance, glancing, Sees}
 use Rattle.segments.proofs.Said.{refused-not-all, door-refused, taking-answers}
-use Rattle.segments.proofs.Looking.{idle, busy, look-idle, look-busy, segment-fits}
+use Rattle.segments.proofs.Looking.{look-idle, look-busy, segment-fits}
 use Rattle.streams.specs.Streams.{listCalls, OnList}
-use Rattle.streams.specs.Drivers.{SegmentKept, byFlag, numbersOf, Turned, farBy, SegmentsDriven, LooksDriven}
-use Rattle.streams.specs.declared.Standing.{Standing}
+use Rattle.feeders.specs.Drivers.{SegmentKept, byFlag, numbersOf, Turned, farBy, SegmentsDriven, LooksDriven}
+use Rattle.feeders.specs.declared.Standing.{Standing}
 use Rattle.streams.proofs.Streams.{list-streams, list-restarts}
 
 -- ---- one segment
 
@@ -254,7 +254,7 @@ module _ (L : List ℕ) (s start : ℕ) (piece : List ℕ) (so : Standing) (v : 
         let o = each-feed W R (offsetOf R) (dueOf W g S) out in
         let m : length out ≡ v - so .words = mid-len (so .words) v ws high in
         let l : length (putMid (so .words) (v - so .words) ws ys) ≡ length ws = same-len-mid (so .words) (v - so .words) ws ys (ap length (a .words) ∙ o .words-many) in
-        let i : look W g S out ≡ busy W g S out (fedOf W g S out) = look-busy W g S out (λ y. eqb-false (length d) 0 (q .1) (ap length due-here ∙ y)) in
+        let i : look W g S out ≡ busy W g S (fedOf W g S out) = look-busy W g S out (λ y. eqb-false (length d) 0 (q .1) (ap length due-here ∙ y)) in
         let left : kept Q J (h .start) (h .length) ≡ keptOf W g S (fedOf W g S out .saved) = rw (a .saved, t .bytes, t .start, t .length) in
         subst (λ (u : Far). Came u (record { start = h .start; length = h .length; words = so .words + 2 * f .pairs }) (putMid (so .words) (v - so .words) ws ys) Q) (sym (far-whole far (q .0) n))
         (record {

@@ -6,11 +6,11 @@ use mathlib.Core.Path.{_≡_, refl, sym, _∙_}
 use lib.ListN.{length, take, drop}
 use lib.Dec.{eqb}
 use Rattle.tables.specs.Table.{table}
-use Rattle.streams.proofs.Driving.{open-fits, led-none, Handing, handing-more, segments-driven}
+use Rattle.feeders.proofs.Driving.{open-fits, led-none, Handing, handing-more, segments-driven}
 use Rattle.feeds.proofs.Runs.{bytes-take, bytes-drop}
 use Rattle.segments.specs.Post.{kept}
-use Rattle.streams.proofs.drive_segments.Statement.{statement}
-use Rattle.streams.proofs.drive_segments.Tie as tie
+use Rattle.feeders.proofs.drive_segments.Statement.{statement}
+use Rattle.feeders.proofs.drive_segments.Tie as tie
 
 abbrev Inv-loop : tie.InvT-loop
 Inv-loop list bound classes parts rows splits flow₀ first held₀ numbers flags from to rooms bytes pairs₀ checked opened so₀ i₀ i-end flow held pairs so i =

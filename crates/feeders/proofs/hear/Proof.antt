@@ -1,7 +1,7 @@
 -- `hear` meets its promise: that of the segment's feed that it calls. Assumes nothing.
 use borrow.Author.Needs.{needs}
-use Rattle.streams.proofs.hear.Statement.{statement}
-use Rattle.streams.proofs.hear.Tie as tie
+use Rattle.feeders.proofs.hear.Statement.{statement}
+use Rattle.feeders.proofs.hear.Tie as tie
 
 split-feed-segment-requires : tie.Need-split-feed-segment-requires
 split-feed-segment-requires c κs = search needs

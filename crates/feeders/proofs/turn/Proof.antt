@@ -4,10 +4,10 @@ use native.Mathlib.Omega.{arith}
 use Prim.Native.Nat.{_+_, _*_, _≤_}
 use lib.ListN.{length}
 use Rattle.tables.specs.Table.{table}
-use Rattle.streams.specs.Drivers.{byFlag}
-use Rattle.streams.proofs.Driving.{turned-fits, turned}
-use Rattle.streams.proofs.turn.Statement.{statement}
-use Rattle.streams.proofs.turn.Tie as tie
+use Rattle.feeders.specs.Drivers.{byFlag}
+use Rattle.feeders.proofs.Driving.{turned-fits, turned}
+use Rattle.feeders.proofs.turn.Statement.{statement}
+use Rattle.feeders.proofs.turn.Tie as tie
 
 abbrev entry : tie.After-hear → tie.Start
 entry c = c .before .before .before .before .before .before .before .before .before .before .before .before .before .before

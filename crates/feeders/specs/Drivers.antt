@@ -20,8 +20,8 @@ use Rattle.segments.specs.declared.Heard.{Heard}
 use Rattle.segments.specs.Post.{kept}
 use Rattle.segments.specs.Calls.{handed, looksAt}
 use Rattle.segments.specs.Streamed.{fresh, Streamed, Far, whole, placed, torn, glancing, glanceAt}
 use Rattle.streams.specs.Streams.{listCalls}
-use Rattle.streams.specs.declared.Standing.{Standing}
+use Rattle.feeders.specs.declared.Standing.{Standing}
 
 -- ---- one segment
 
