@@ -148,6 +148,13 @@ module _ (T : List ℕ) (g : ℕ) (A : List ℕ) (r : Compiled) (B : List ℕ) (
       go x e true q = absurd (let w : r .refusal ≡ 21 = rw q at e in omega (arith, w, z))
       go x e false q = q
 
+  -- what it left: the text's list, and the lent one behind it
+  pub written-front : (x : Text) × (r .length ≡ length (listOf x g)) × (B ≡ listOf x g ++ drop (length (listOf x g)) A)
+  written-front =
+      let (x, (ok, e), small-enough) = fit in
+      let (a, n, b) = compile-0 T g A r B bytes c x (ok, e) (good-0 T bytes .0 no-verdict .1) small-enough in
+      (x, n, b)
+
   -- without a refusal the front of the lent list is the text's: it rises, passes 1 to 3 in every entry point, and any flow under it tells exactly the pairs of the language
   serves-so : (x : Text) × Reading T x × Serves x g (front r B)
   serves-so =

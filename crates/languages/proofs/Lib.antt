@@ -9,3 +9,4 @@ pub mod Rise
 pub mod Pairs
 pub mod Segments
 pub mod Flows
+pub mod Driving

@@ -1,3 +1,4 @@
 pub mod Language
 pub mod Records
 pub mod Flows
+pub mod Drivers

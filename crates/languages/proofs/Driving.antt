@@ -1,0 +1,79 @@
+-- The driver of texts promises what the callees' promises give. Assumes nothing.
+use Prim.Native.Nat.{ℕ, _*_, _≤_, _<_}
+use mathlib.Core.Path.{_≡_, refl, sym, ap, subst, _∙_}
+use mathlib.Core.List.{List, [], _∷_, _++_, append-nil}
+use native.Mathlib.Omega.{arith}
+use native.Mathlib.Decide.{ℕ-discrete}
+use lib.ListN.{length, take, drop, length-append}
+use Rattle.feeds.specs.Engine.{Outcome}
+use Rattle.feeds.specs.Calls.{Bytes, allBytes, allTold}
+use Rattle.feeds.specs.Fed.{Answers}
+use Rattle.feeds.specs.Opening.{Opening, Opens}
+use Rattle.feeds.specs.Demands.{openTold}
+use Rattle.feeds.specs.declared.Fed.{Fed}
+use Rattle.feeds.specs.declared.Opened.{Opened}
+use Rattle.plain.specs.Plain.{openFlow, plainFeed}
+use Rattle.demands.specs.Calls.{byList, Call, bytesOf, wordsOf}
+use Rattle.texts.specs.Grammar.{Text}
+use Rattle.texts.specs.Records.{listOf}
+use Rattle.compile.specs.declared.Compiled.{Compiled}
+use Rattle.compile.specs.Compile.{Compiles}
+use Rattle.compile.specs.Words.{Reading}
+use Rattle.compile.proofs.Exactly.{compile-refused}
+use Rattle.languages.specs.declared.Served.{Served}
+use Rattle.languages.specs.declared.Drove.{Drove}
+use Rattle.languages.specs.Flows.{front, Past, Tells, Serves}
+use Rattle.languages.specs.Drivers.{Tries, TextServed}
+use Rattle.languages.proofs.Flows.{compiled-serves, written-front}
+
+-- the length answered lies within the lent list
+pub compiled-fits : (T : List ℕ) (g : ℕ) (A : List ℕ) (r : Compiled) (B : List ℕ) → Bytes T → g < 256 → Compiles T g A r B → r .length ≤ length B
+compiled-fits T g A r B bytes small c =
+    elim (ℕ-discrete (r .refusal) 0) [
+      | yes z ↦ let (x, n, e) = written-front T g A r B bytes small c z in
+          let m = ap length e ∙ length-append (listOf x g) (drop (length (listOf x g)) A) in omega (arith, n, m)
+      | no v ↦ omega (arith, compile-refused T g A r B bytes c v .1)
+    ]
+
+module _ (x : Text) (g : ℕ) (L : List ℕ) (s : Serves x g L) (R out piece more : List ℕ) (bytes : Bytes piece) (r : Served) (ws vs : List ℕ) (t : Tries L R out piece more r ws vs) where
+  abbrev o : Opening
+  o = openFlow L R out
+
+  abbrev c : Call
+  c = record { list = L; via = byList; at = 0; piece = piece; out = more }
+
+  fed : Answers (plainFeed L (o .saved) 0 piece more) (r .fed) vs (t .end)
+  fed = subst (λ Q. Answers (plainFeed L Q 0 piece more) (r .fed) vs (t .end)) (t .opens .saved) (t .feeds)
+
+  pub served-passes : (r .checked ≡ 0) × Past (r .opened .refusal) × Past (r .fed .refusal)
+  served-passes = (
+    t .checked ∙ s .passes .lists,
+    subst Past (sym (t .opens .refusal)) (s .passes .opens R out),
+    subst Past (sym (fed .refusal)) (s .passes .feeds (o .saved) 0 piece more),
+  )
+
+  eaten : bytesOf (o .saved) (c ∷ []) ≡ take (r .fed .bytes) piece
+  unfolding allBytes
+  eaten = append-nil (take (plainFeed L (o .saved) 0 piece more .bytes) piece) ∙ ap (λ (n : ℕ). take n piece) (sym (fed .bytes))
+
+  told : wordsOf (o .saved) (c ∷ []) ≡ take (2 * r .fed .pairs) vs
+  unfolding allTold
+  told =
+      append-nil (take (2 * plainFeed L (o .saved) 0 piece more .pairs) (plainFeed L (o .saved) 0 piece more .words))
+      ∙ ap (λ (n : ℕ). take (2 * n) (plainFeed L (o .saved) 0 piece more .words)) (sym (fed .pairs)) ∙ ap (take (2 * r .fed .pairs)) (sym (fed .words))
+
+  opened : openTold o ≡ take (2 * r .opened .pairs) ws
+  opened = ap (λ (n : ℕ). take (2 * n) (o .words)) (sym (t .opens .pairs)) ∙ ap (take (2 * r .opened .pairs)) (sym (t .opens .words))
+
+  pub served-tells : r .opened .refusal ≡ 0 → Tells x g (take (r .fed .bytes) piece) (take (2 * r .opened .pairs) ws ++ take (2 * r .fed .pairs) vs)
+  served-tells z =
+      rw (eaten, told, opened) at (s .tells R out (sym (t .opens .refusal) ∙ z) (c ∷ []) (bytes, tt) ((λ v. (refl, tt)), tt))
+
+pub text-served : (T : List ℕ) (g : ℕ) (A : List ℕ) (B R out piece more : List ℕ) (r : Drove) (ws vs : List ℕ) → Bytes T → g < 256 → Bytes piece
+    → Compiles T g A (r .compiled) B → Tries (front (r .compiled) B) R out piece more (r .served) ws vs → TextServed T g piece r ws vs
+text-served T g A B R out piece more r ws vs bt small bp c t =
+    record {
+      passes = λ z. let (x, e, s) = compiled-serves T g A (r .compiled) B bt small c z in served-passes x g (front (r .compiled) B) s R out piece more bp (r .served) ws vs t;
+      tells = λ z y. let (x, e, s) = compiled-serves T g A (r .compiled) B bt small c z in
+          (x, e, served-tells x g (front (r .compiled) B) s R out piece more bp (r .served) ws vs t y);
+    }
