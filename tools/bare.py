@@ -1,6 +1,6 @@
 #!/usr/bin/env python3
-"""Takes the code away from a copy of a crate: every function of src/ with its comment, and every function's folder of proofs/. What is left are
-types, constants, definitions and laws, which prove by themselves, since no law cites a function.
+"""Takes the code away from a copy of a crate: every function of src/ with its comment, what it brings in of other crates' functions, and every
+function's folder of proofs/. What is left are types, constants, definitions and laws, which prove by themselves, since no law cites a function.
 
   python3 tools/bare.py CRATE-FOLDER..
 """
@@ -10,6 +10,7 @@ import sys
 from pathlib import Path
 
 FUNCTION = re.compile(r'( *)(pub )?(extern "C" )?fn ')
+BROUGHT = re.compile(r"use \w+::[a-z]\w*;")
 
 
 def without_functions(text):
@@ -23,7 +24,7 @@ def without_functions(text):
             held, end = [], None if line.endswith("}") else found[1] + "}"
         elif re.match(r" *(//|#\[)", line):
             held.append(line)
-        else:
+        elif not BROUGHT.match(line):
             kept, held = kept + held + [line], []
     return "\n".join(kept + held)
 

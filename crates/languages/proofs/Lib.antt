@@ -10,3 +10,4 @@ pub mod Pairs
 pub mod Segments
 pub mod Flows
 pub mod Driving
+pub mod Depth
