@@ -52,24 +52,17 @@ def two_counters(limit):
 def sets(data):
     """How many sets can be reached; it stops counting at the most."""
     nfa = model.automaton(data)
-    classes = [group[0] for group in by_step(nfa)]
+    classes = model.byte_classes(nfa)
+    lowest = [classes.index(group) for group in range(max(classes) + 1)]
     seen, todo = {nfa.starts}, deque([nfa.starts])
     while todo and len(seen) < MOST:
         members = todo.popleft()
-        for byte in classes:
+        for byte in lowest:
             after = nfa.step(members, byte)
             if after not in seen:
                 seen.add(after)
                 todo.append(after)
     return "%d" % len(seen) if not todo else "%d or more" % MOST
-
-
-def by_step(nfa):
-    """The bytes on which every state steps alike, together."""
-    groups = {}
-    for byte in range(256):
-        groups.setdefault(tuple(frozenset(nfa.step(frozenset([state]), byte)) for state in range(model.STATES)), []).append(byte)
-    return list(groups.values())
 
 
 def records(data, moves, programs):
