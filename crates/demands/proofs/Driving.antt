@@ -14,17 +14,17 @@ use Rattle.sets.specs.Set.{placed}
 use Rattle.sets.proofs.Placing.{placed-fits, placed-none, placed-one}
 use Rattle.rules.specs.Rules.{verdict}
 use Rattle.lists.specs.List.{listRefusal}
-use Rattle.feeds.specs.Calls.{Bytes, recordAfter, allTold, allBytes, Along, Pieces}
+use Rattle.feeds.specs.Calls.{Bytes, recordAfter, allTold, allBytes}
 use Rattle.feeds.specs.Fed.{Answers}
-use Rattle.feeds.specs.Made.{Made, made, Promised, callsOf}
+use Rattle.feeds.specs.Made.{Made, made, callsOf, AsDefined}
 use Rattle.feeds.specs.declared.Fed.{Fed}
 use Rattle.feeds.specs.declared.Opened.{Opened}
 use Rattle.feeds.specs.Opening.{Opens}
 use Rattle.feeds.specs.Demands.{openTold}
 use Rattle.feeds.proofs.Runs.{bytes-take}
 use Rattle.feeds.proofs.Feeds.{each-feed}
-use Rattle.feeds.proofs.Calls.{along-all, along-more, pieces-more, after-more, eaten-more, told-more}
-use Rattle.feeds.proofs.Made.{AsDefined, as-defined, pieces-calls}
+use Rattle.feeds.proofs.Calls.{along-more, pieces-more, after-more, eaten-more, told-more}
+use Rattle.feeds.proofs.Made.{as-defined, pieces-calls}
 use Rattle.flows.specs.Flow.{frontierOf, offsetOf}
 use Rattle.plain.specs.Plain.{plain, openFlow}
 use Rattle.lists.specs.Automaton.{start}
@@ -33,7 +33,7 @@ use Rattle.tables.specs.Table.{Table, tableRefusal}
 use Rattle.matrix.specs.Matrix.{filled, Fills}
 use Rattle.matrix.proofs.Exact.{filled-left}
 use Rattle.indexes.specs.Index.{filledIndex, FillsIndex}
-use Rattle.demands.specs.Calls.{Via, byList, byTable, byMatrix, byIndex, Checked, Call, wayOf, outcome, ruled, asked, InBytes, Each}
+use Rattle.demands.specs.Calls.{Via, byList, byTable, byMatrix, byIndex, Checked, Call, wayOf, outcome, ruled, asked, Each}
 use Rattle.demands.specs.Demands.{Swaps, Swapped, Due}
 use Rattle.demands.specs.Drivers.{viaBy, callOf, pieceOf, does, nearest, Plan, planned, Turn, Meant, AsMeant, answer, answers, Came, Driven}
 use Rattle.demands.proofs.Demand1.{demand-1}

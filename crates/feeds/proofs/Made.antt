@@ -5,18 +5,13 @@ use mathlib.Core.List.{List, [], _∷_, _++_}
 use lib.ListN.{take}
 use Rattle.feeds.specs.Engine.{Outcome}
 use Rattle.feeds.specs.Calls.{Bytes, Asked, asking, recordAfter, allTold, allBytes, Along, Pieces}
-use Rattle.feeds.specs.Made.{Made, made, Promised, callsOf}
+use Rattle.feeds.specs.Made.{Made, made, Promised, callsOf, AsDefined}
 
 module _ {A : Type 0} (piece : A → List ℕ) (does : A → List ℕ → Outcome) where
   abbrev ask : A → Asked (List ℕ)
   ask c = asking (piece c) (does c)
 
-  pub record AsDefined (R : List ℕ) (ms : List (Made A)) : Type 0 where
-    pub words : allTold (made piece) R ms ≡ allTold ask R (callsOf ms)
-    pub bytes : allBytes (made piece) R ms ≡ allBytes ask R (callsOf ms)
-    pub left : recordAfter (made piece) R ms ≡ recordAfter ask R (callsOf ms)
-
-  pub as-defined : (R : List ℕ) (ms : List (Made A)) → Promised piece does R ms → AsDefined R ms
+  pub as-defined : (R : List ℕ) (ms : List (Made A)) → Promised piece does R ms → AsDefined piece does R ms
   unfolding recordAfter allTold allBytes
   as-defined R [] h = record { words = refl; bytes = refl; left = refl }
   as-defined R (m ∷ ms) h =

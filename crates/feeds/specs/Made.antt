@@ -1,8 +1,9 @@
 -- Calls made with the code: what each answered and left, as calls whose outcome is that, whatever they meet; and that it is what its function promises.
 use Prim.Native.Nat.{ℕ}
 use mathlib.Core.List.{List, [], _∷_}
+use mathlib.Core.Path.{_≡_}
 use Rattle.feeds.specs.Engine.{Outcome}
-use Rattle.feeds.specs.Calls.{Asked, asking, Along}
+use Rattle.feeds.specs.Calls.{Asked, asking, recordAfter, allTold, allBytes, Along}
 use Rattle.feeds.specs.Fed.{Answers}
 use Rattle.feeds.specs.declared.Fed.{Fed}
 
@@ -26,3 +27,9 @@ Promised piece does = Along (made piece) (λ R m. Answers (does (m .call) R) (m 
 abbrev pub callsOf : {A : Type 0} → List (Made A) → List A
 callsOf [] = []
 callsOf (m ∷ ms) = m .call ∷ callsOf ms
+
+-- what they tell, consume and leave is what the definitions say of the calls
+pub record AsDefined {A : Type 0} (piece : A → List ℕ) (does : A → List ℕ → Outcome) (R : List ℕ) (ms : List (Made A)) : Type 0 where
+  pub words : allTold (made piece) R ms ≡ allTold (λ c. asking (piece c) (does c)) R (callsOf ms)
+  pub bytes : allBytes (made piece) R ms ≡ allBytes (λ c. asking (piece c) (does c)) R (callsOf ms)
+  pub left : recordAfter (made piece) R ms ≡ recordAfter (λ c. asking (piece c) (does c)) R (callsOf ms)

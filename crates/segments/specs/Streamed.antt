@@ -1,9 +1,9 @@
 -- What holds of any calls on what is kept of a flow, from its opening on: segments, or looks of a caller who is killed now and then.
-use Prim.Native.Nat.{ℕ, suc, _+_, _*_, _%_, _<_}
+use Prim.Native.Nat.{ℕ, suc, _+_, _%_, _<_}
 use mathlib.Core.Bool.{true}
 use mathlib.Core.List.{List, [], _∷_, _++_}
 use mathlib.Core.Path.{_≡_}
-use lib.ListN.{length, take, getD}
+use lib.ListN.{length, getD}
 use Rattle.feeds.specs.Engine.{Engine, Layout, run}
 use Rattle.feeds.specs.Calls.{Bytes, Asked, recordAfter, allTold, allBytes, Along}
 use Rattle.feeds.specs.Opening.{Opening}

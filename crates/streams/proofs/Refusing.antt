@@ -1,13 +1,13 @@
 -- Demand 1 of segments: each refusal at the door in words, what it leaves, and what is answered behind it. Assumes nothing.
 use Prim.Native.Nat.{ℕ}
-use mathlib.Core.Path.{_≡_, refl, sym, _∙_}
+use mathlib.Core.Path.{_≡_, refl, sym}
 use mathlib.Core.Bool.{Bool, true, false, cond, true≢false}
 use mathlib.Core.List.{List, [], _∷_}
 use mathlib.Core.Logic.{inl, inr, _↔_, ⊎-elim}
 use native.Mathlib.Omega.{arith}
 use lib.ListN.{length}
 use Rattle.rules.specs.Rules.{verdict}
-use Rattle.rules.specs.Words.{Row, First, InWords}
+use Rattle.rules.specs.Words.{Row, InWords}
 use Rattle.flows.specs.Flow.{offsetOf}
 use Rattle.demands.specs.Calls.{Via, wayOf, wordsBy}
 use Rattle.demands.proofs.Demand1.{demand-1}
@@ -15,7 +15,7 @@ use Rattle.resends.specs.Resend.{badSizes}
 use Rattle.resends.proofs.Words.{bad-sizes}
 use Rattle.segments.specs.Segment.{Sent, Kept, doorRules}
 use Rattle.segments.proofs.Said.{refused-not-all, door-refused, taking-answers}
-use Rattle.streams.specs.Streams.{segmentWords, SegmentRefuses, SegmentsRefuse}
+use Rattle.streams.specs.Streams.{segmentWords, SegmentsRefuse}
 
 -- a row before the others: its number where its words hold, else theirs
 first-row : (k : ℕ) (b : Bool) (P : Type 0) (ws : List Row) (n : ℕ) → (k ≡ 0 → ⊥) → (b ≡ true ↔ P) → InWords ws n → InWords ((k, P) ∷ ws) (cond b k n)

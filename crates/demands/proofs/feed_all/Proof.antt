@@ -1,7 +1,7 @@
 -- `feed_all` meets its promise by that of each feed. The loop's invariant: the feeds made so far consumed the bytes before n, told the words before w, answered what is noted, and left the record. Assumes nothing.
 use borrow.Author.Needs.{needs}
 use native.Mathlib.Omega.{arith}
-use Prim.Native.Nat.{_≤_, _+_, _*_, _-_, _/_}
+use Prim.Native.Nat.{_≤_, _+_, _*_, _-_}
 use mathlib.Core.Path.{_≡_, ap, _∙_}
 use lib.ListN.{length, take}
 use Rattle.tables.specs.Table.{table}

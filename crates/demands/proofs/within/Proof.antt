@@ -1,6 +1,5 @@
 -- `within` meets its promise. Assumes nothing.
 use native.Mathlib.Omega.{arith}
-use mathlib.Core.Path.{refl}
 use borrow.Author.Tests.{lt-ltb, le-ltb}
 use Rattle.demands.proofs.within.Statement.{statement}
 use Rattle.demands.proofs.within.Tie as tie
