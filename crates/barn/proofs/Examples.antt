@@ -9,7 +9,7 @@ use Rattle.sets.specs.Set.{num, digits, holds, join, within, insert, size, memb
 use Rattle.rules.specs.Scan.{some, every, first, gather, rising, stack}
 use Rattle.rules.specs.Rules.{verdict}
 use Rattle.lists.specs.List.{goodRecord, badLength, badRecord, noStart}
-use Rattle.lists.specs.Automaton.{start, step, accepted, namedBy}
+use Rattle.lists.specs.Automaton.{start, step, accepted, namedBy, highestBy}
 use Rattle.feeds.specs.Engine.{run, costs, due, pairsAt, told, consumed, ended, feed}
 use Rattle.feeds.specs.Opening.{opening}
 use Rattle.feeds.specs.Calls.{recordAfter, allTold}
@@ -17,7 +17,6 @@ use Rattle.flows.specs.Flow.{flowBytes, badFlow}
 use Rattle.plain.specs.Plain.{openPairs}
 use Rattle.tables.specs.Table.{largest, part, row, splitSet, slots, usedSlots, takenSlots, allBelow, joined, badClasses, badCount, badRowsLength, badLengths, goodSlots, inOrder, unordered, badSplits, badRows, badUnion, noStartSplit, notClosed, tableRefusal, splitOf}
 use Rattle.splits.specs.Split.{taken, stuck, splitStep}
-use Rattle.matrix.specs.Matrix.{highestBy}
 use Rattle.indexes.specs.Index.{knownIn, toldAt, rowsOf, leadsTo, spent, tells, moves, entry, entries}
 use Rattle.prepared.specs.Prepared.{halved, soughtOf, badIndex}
 use Rattle.classes.specs.Classes.{alike}

@@ -15,15 +15,10 @@ use Rattle.lists.specs.Automaton.{step}
 use Rattle.rules.proofs.Scanning.{some-intro, none-some, every-at, every-all, first-found}
 use Rattle.lists.proofs.Listed.{good-edge, edge-good}
 use Rattle.lists.specs.Words.{Takes}
+use Rattle.lists.proofs.Listed.{same-truth}
 use Rattle.lists.proofs.Steps.{step-checked, good-at}
 use Rattle.tables.specs.Table.{byteValues}
 use Rattle.classes.specs.Classes.{alike, count, lowestLike, leads, classOf, lowestOf}
-
--- two Bools, each true where the other is
-pub same-truth : (a b : Bool) → (a ≡ true → b ≡ true) → (b ≡ true → a ≡ true) → a ≡ b
-same-truth true b f g = sym (f refl)
-same-truth false true f g = g refl
-same-truth false false f g = refl
 
 -- ---- alike is as good as equal
 

@@ -15,13 +15,14 @@ use Rattle.rules.specs.Scan.{first}
 use Rattle.rules.proofs.Scanning.{some-elim, none-some, first-found}
 use Rattle.lists.specs.List.{records, from, target, listRefusal}
 use Rattle.lists.specs.Automaton.{step}
+use Rattle.lists.proofs.Listed.{same-truth}
 use Rattle.lists.proofs.Steps.{step-checked}
 use Rattle.tables.specs.Table.{byteValues, largest}
 use Rattle.tables.proofs.Entries.{largest-exactly}
 use Rattle.classes.specs.Classes.{alike, count, lowestLike, leads, classOf, classesOf, classTotal, lowestOf}
 use Rattle.classes.specs.Words.{Moves, Alike, Needs, LowestIn, Coarsest}
 use Rattle.classes.proofs.Pigeons.{pigeons}
-use Rattle.classes.proofs.Classes.{same-truth, at-alike, alike-step, count-one, lowest-like, lowest-upto, class-alike, alike-class, class-lead, class-low, class-hit}
+use Rattle.classes.proofs.Classes.{at-alike, alike-step, count-one, lowest-like, lowest-upto, class-alike, alike-class, class-lead, class-low, class-hit}
 use Rattle.classes.proofs.Totals.{class-length, class-at, class-lt}
 
 -- no byte below c shares its class

@@ -21,7 +21,7 @@ use Rattle.lists.specs.Words.{Edge-bytes, Start-bytes, Accept-bytes}
 use Rattle.lists.proofs.Listed.{bad-length, bad-record, record-exactly, no-start, kind-start}
 use Rattle.flows.specs.Flow.{frontierOf, badFlow, otherStart, tooLong, wrongSize, flowRules, feedRules}
 use Rattle.flows.proofs.Refused.{wrong-size, bad-flow, other-start, too-long}
-use Rattle.lists.specs.Automaton.{start, accepted, named}
+use Rattle.lists.specs.Automaton.{start, accepted, named, highest}
 use Rattle.lists.proofs.Named.{names-bytes, named-bytes, outside-exactly}
 use Rattle.feeds.specs.Engine.{room}
 use Rattle.feeds.specs.Opening.{noRoom}
@@ -32,8 +32,8 @@ use Rattle.tables.proofs.Accepted.{Slots-good}
 use Rattle.tables.proofs.Joined.{below-exactly}
 use Rattle.tables.proofs.Checked.{bad-bound, bad-classes, bad-count, bad-rows-length, bad-lengths, bad-splits, bad-rows, bad-union, no-start-split, not-closed, slots-exactly, in-order-first, in-order-exactly, unordered-exactly}
 use Rattle.splits.specs.Split.{splitRules}
-use Rattle.matrix.specs.Matrix.{highest, matrixLength, wrongMatrix, fillRules, matrixRules}
-use Rattle.matrix.proofs.Highest.{names-low, highest-is}
+use Rattle.matrix.specs.Matrix.{matrixLength, wrongMatrix, fillRules, matrixRules}
+use Rattle.lists.proofs.Highest.{names-low, highest-is}
 use Rattle.indexes.specs.Index.{entryPlace, knownIn, wrongIndex, indexRules}
 use Rattle.prepared.specs.Prepared.{badIndex, preparedRules}
 use Rattle.demands.specs.Words.{listWords, openingRows, openWords, Foreign, flowWords, feedWords, Highest, lengthWords, fillWords, matrixWords, Miscounted, Misclassed, Mislisted, SlotsGood, Rises, sizeWords, entryWords, tableWords, orderWords, splitWords, Misindexed, indexWords, Unnamed, preparedWords}

@@ -148,20 +148,26 @@ module _ (T : List ℕ) (g : ℕ) (A : List ℕ) (r : Compiled) (B : List ℕ) (
       go x e true q = absurd (let w : r .refusal ≡ 21 = rw q at e in omega (arith, w, z))
       go x e false q = q
 
-  -- what it left: the text's list, and the lent one behind it
-  pub written-front : (x : Text) × (r .length ≡ length (listOf x g)) × (B ≡ listOf x g ++ drop (length (listOf x g)) A)
-  written-front =
+  -- without a refusal the text has a reading that fits, and what is left is its list, and the lent one behind it
+  wrote : (x : Text) × Reading T x × (tooBig (length A) x g ≡ false) × (r .length ≡ length (listOf x g)) × (B ≡ listOf x g ++ drop (length (listOf x g)) A)
+  wrote =
       let (x, (ok, e), small-enough) = fit in
       let (a, n, b) = compile-0 T g A r B bytes c x (ok, e) (good-0 T bytes .0 no-verdict .1) small-enough in
-      (x, n, b)
+      (x, (ok, e), small-enough, n, b)
 
-  -- without a refusal the front of the lent list is the text's: it rises, passes 1 to 3 in every entry point, and any flow under it tells exactly the pairs of the language
+  pub written-front : (x : Text) × (r .length ≡ length (listOf x g)) × (B ≡ listOf x g ++ drop (length (listOf x g)) A)
+  written-front = let (x, ok, s, n, b) = wrote in (x, n, b)
+
+  -- so the front of the lent list is its list
+  pub text-list : (x : Text) × Reading T x × (tooBig (length A) x g ≡ false) × (front r B ≡ listOf x g)
+  text-list =
+      let (x, ok, s, n, b) = wrote in
+      (x, ok, s, ap (λ (k : ℕ). take k B) n ∙ ap (take (length (listOf x g))) b ∙ take-append-seam (listOf x g) (drop (length (listOf x g)) A))
+
+  -- so that rises, passes 1 to 3 in every entry point, and any flow under it tells exactly the pairs of the language
   serves-so : (x : Text) × Reading T x × Serves x g (front r B)
   serves-so =
-      let (x, (ok, e), small-enough) = fit in
-      let (a, n, b) = compile-0 T g A r B bytes c x (ok, e) (good-0 T bytes .0 no-verdict .1) small-enough in
-      let q : front r B ≡ listOf x g =
-      ap (λ (k : ℕ). take k B) n ∙ ap (take (length (listOf x g))) b ∙ take-append-seam (listOf x g) (drop (length (listOf x g)) A) in
+      let (x, (ok, e), small-enough, q) = text-list in
       (x, (ok, e), subst (Serves x g) (sym q) (list-serves x g (length A) ok small small-enough))
 
 pub compiled-serves : CompiledServes

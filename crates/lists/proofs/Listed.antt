@@ -1,7 +1,7 @@
 -- The list check in a reader's words: each refusal is given exactly when its row says and no earlier row does, and what each row says. Assumes nothing.
 use Prim.Native.Nat.{ℕ, zero, suc, _+_, _*_, _%_, _≤_, _<_}
-use mathlib.Core.Path.{_≡_, refl, ap, _∙_}
-use mathlib.Core.Bool.{Bool, true, false, _||_, not}
+use mathlib.Core.Path.{_≡_, refl, sym, ap, _∙_}
+use mathlib.Core.Bool.{Bool, true, false, _||_, not, true≢false, false≢true}
 use mathlib.Core.List.{List}
 use mathlib.Core.Logic.{_⊎_, inl, inr, _↔_}
 use native.Mathlib.Omega.{arith}
@@ -15,7 +15,22 @@ use Rattle.rules.specs.Rules.{Refuses}
 use Rattle.lists.specs.List.{recordSize, mostRecords, records, byteOf, isEdge, isStart, isAccept, low, high, from, target, zeros, goodEdge, goodStart, goodAccept, goodRecord, badLength, badRecord, noStart, listRules, listRefusal}
 use Rattle.lists.specs.Words.{Edge-bytes, Start-bytes, Accept-bytes}
 use Rattle.rules.proofs.Scanning.{both, choose, either-words, equal-words, every-at, every-all, length-words, some-none, none-some, refuses-exactly}
-use Rattle.rules.proofs.Rules.{refuses}
+use Rattle.rules.proofs.Rules.{refuses, passes}
+
+-- ---- two Bools
+
+-- each true where the other is
+pub same-truth : (a b : Bool) → (a ≡ true → b ≡ true) → (b ≡ true → a ≡ true) → a ≡ b
+same-truth true b f g = sym (f refl)
+same-truth false true f g = g refl
+same-truth false false f g = refl
+
+-- what cannot be true is false
+pub not-so : (b : Bool) → (b ≡ true → ⊥) → b ≡ false
+not-so true f = absurd (f refl)
+not-so false f = refl
+
+-- ---- the rows
 
 -- a row's number exactly when that row is the first that applies, 0 exactly when none applies
 pub list-refuses : (L : List ℕ) → Refuses (listRules L) (listRefusal L)
@@ -190,3 +205,28 @@ pub no-start : (L : List ℕ) → noStart L ≡ true ↔ ((i : ℕ) → i < reco
 unfolding noStart
 no-start L =
     (λ e. none-some (records L) (isStart L) (not-true _ e), λ h. ap not (some-none (records L) (isStart L) h))
+
+-- a good record is of one of the three kinds
+pub kinds : (L : List ℕ) (i : ℕ) → goodRecord L i ≡ true → (isEdge L i ≡ true) ⊎ ((isStart L i ≡ true) ⊎ (isAccept L i ≡ true))
+kinds L i e =
+    choose (record-exactly L i .0 e)
+    (λ s. choose s (λ g. inl (kind-edge L i .1 (g .kind))) (λ g. inr (inl (kind-start L i .1 (g .kind)))))
+    (λ g. inr (inr (kind-accept L i .1 (g .kind))))
+
+-- ---- of a list that the check passes
+
+module _ (L : List ℕ) (e : listRefusal L ≡ 0) where
+  -- it is at most as long as the most records
+  pub short-list : length L ≤ 65536
+  short-list = omega (arith, no)
+    where
+      no : 8 * mostRecords < length L → ⊥
+      no l = true≢false (sym (bad-length L .1 (inl (inr l))) ∙ passes 0 (badLength L) _ e .0)
+
+  -- its records are whole
+  pub whole-records : length L % 8 ≡ 0
+  whole-records = go (eqb (length L % 8) 0) refl
+    where
+      go : (b : Bool) → eqb (length L % 8) 0 ≡ b → length L % 8 ≡ 0
+      go true q = eqb-true _ _ q
+      go false q = absurd (true≢false (sym (bad-length L .1 (inr (λ z. false≢true (sym q ∙ rw z)))) ∙ passes 0 (badLength L) _ e .0))

@@ -13,12 +13,12 @@ use Rattle.sets.proofs.Sets.{holds-empty, holds-join, holds-past, set-ext}
 use Rattle.sets.proofs.Meets.{apart-exactly}
 use Rattle.rules.specs.Scan.{every, gather}
 use Rattle.lists.specs.List.{records, byteOf, isEdge, isStart, isAccept, low, high, eitherCase, from, target, goodRecord, badRecord, listRefusal}
-use Rattle.lists.specs.Automaton.{exchanged, between, edge, leaves, start, step, accepted, accepting}
+use Rattle.lists.specs.Automaton.{exchanged, between, edge, leaves, start, step, accepted, accepting, reached}
 use Rattle.rules.proofs.Scanning.{and-false, both, either-words, every-at, gather-exactly, gather-lt, gather-none, gather-join}
 use Rattle.rules.proofs.Rules.{passes}
 use Rattle.lists.proofs.Letters.{between-words}
 use Rattle.lists.specs.Words.{Takes}
-use Rattle.lists.proofs.Listed.{good-edge, good-accept, edge-good, accept-good}
+use Rattle.lists.proofs.Listed.{good-edge, good-start, good-accept, edge-good, start-good, accept-good}
 
 pub edge-exactly : (L : List ℕ) (c i : ℕ) → edge L c i ≡ true ↔ Takes L c i
 edge-exactly L c i = (there, λ t. rw (t .kind) (range .1 (t .range)))
@@ -74,6 +74,11 @@ step-exactly L F c t = leads-exactly states L F (edge L c) (Takes L c) (edge-exa
 pub accepted-exactly : (L : List ℕ) (F g : ℕ) → holds (accepted L F) g ≡ true ↔ ((g < signatures) × Leads L F (λ i. isAccept L i ≡ true) g)
 unfolding accepted
 accepted-exactly L F g = leads-exactly signatures L F (isAccept L) (λ i. isAccept L i ≡ true) (λ i. (λ e. e, λ e. e)) g
+
+-- s is reached exactly when some edge record leads to it
+pub reached-exactly : (L : List ℕ) (s : ℕ) → holds (reached L) s ≡ true ↔ ((s < states) × ((i : ℕ) × (i < records L) × (isEdge L i ≡ true) × (target L i ≡ s)))
+unfolding reached
+reached-exactly L s = gather-exactly states (isEdge L) (target L) (records L) s
 
 -- s is an accepting state exactly when some accept record names it
 pub accepting-exactly : (L : List ℕ) (s : ℕ) → holds (accepting L) s ≡ true ↔ ((s < states) × ((i : ℕ) × (i < records L) × (isAccept L i ≡ true) × (from L i ≡ s)))
@@ -146,3 +151,15 @@ accepted-checked L e F g = unlimited signatures (accepted L F) g L F (λ i. isAc
   where
     below : (i : ℕ) → i < records L → isAccept L i ≡ true → target L i < signatures
     below i h k = accept-good L i .0 (sym (good-accept L i k) ∙ good-at L e i h) .3
+
+-- ---- the numbers of a list that the check passes are states and signatures
+
+module _ (L : List ℕ) (e : listRefusal L ≡ 0) where
+  pub edge-states : (i : ℕ) → i < records L → isEdge L i ≡ true → (from L i < states) × (target L i < states)
+  edge-states i h k = let g = edge-good L i .0 (sym (good-edge L i k) ∙ good-at L e i h) in (g .3, g .4)
+
+  pub start-states : (i : ℕ) → i < records L → isStart L i ≡ true → target L i < states
+  start-states i h k = start-good L i .0 (sym (good-start L i k) ∙ good-at L e i h) .2
+
+  pub accept-states : (i : ℕ) → i < records L → isAccept L i ≡ true → (from L i < states) × (target L i < signatures)
+  accept-states i h k = let g = accept-good L i .0 (sym (good-accept L i k) ∙ good-at L e i h) in (g .2, g .3)

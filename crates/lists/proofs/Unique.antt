@@ -1,5 +1,5 @@
 -- The promise of each public function allows one outcome: any two are equal. Assumes nothing.
-use Prim.Native.Nat.{ℕ}
+use Prim.Native.Nat.{ℕ, suc}
 use mathlib.Core.Path.{_≡_, sym, ap, _∙_}
 use mathlib.Core.Bool.{Bool}
 use mathlib.Core.List.{List}
@@ -9,7 +9,7 @@ use Rattle.sets.specs.declared.SigSet.{SigSet}
 use Rattle.sets.specs.Set.{setWords, sigWords, setOf, sigsOf}
 use Rattle.sets.proofs.Sets.{Words, set-one, sigs-one}
 use Rattle.lists.specs.List.{listRefusal}
-use Rattle.lists.specs.Automaton.{start, step, accepted, accepting, named}
+use Rattle.lists.specs.Automaton.{start, step, accepted, accepting, named, highest}
 use Rattle.lists.specs.Survey.{Surveys}
 use Rattle.lists.specs.declared.Survey.{Survey}
 
@@ -23,6 +23,9 @@ pub unique-survey-list : (L : List ℕ) (F : ℕ) (s t : Survey) → Surveys L F
 unique-survey-list L F s t p q =
     ap {B = Survey} (λ (n : ℕ). record { refusal = n; known = s .known }) (p .refusal ∙ sym (q .refusal))
     ∙ ap {B = Survey} (λ (b : Bool). record { refusal = t .refusal; known = b }) (p .known ∙ sym (q .known))
+
+pub unique-state-count : (L : List ℕ) (x y : ℕ) → x ≡ suc (highest L) → y ≡ suc (highest L) → x ≡ y
+unique-state-count L x y p q = p ∙ sym q
 
 -- sets that own as many words as their kind has, each of 64 bits
 module _ (x y : StateSet) (vx : Words setWords (x .words)) (vy : Words setWords (y .words)) where

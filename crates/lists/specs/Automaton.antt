@@ -1,5 +1,6 @@
--- The automaton that a list writes down: start set, frontier step, the signatures that a frontier accepts, and the states that are named. Sets are numbers.
-use Prim.Native.Nat.{ℕ, _+_, _-_}
+-- The automaton that a list writes down: start set, frontier step, the signatures that a frontier accepts, the states that are named and the highest of them.
+-- Sets are numbers.
+use Prim.Native.Nat.{ℕ, zero, suc, _+_, _-_, max}
 use mathlib.Core.Bool.{Bool, _&&_, _||_, cond}
 use mathlib.Core.List.{List}
 use lib.Dec.{leb}
@@ -46,6 +47,10 @@ accepted L F = gather signatures (leaves L F (isAccept L)) (target L) (records L
 unfoldable pub accepting : List ℕ → ℕ
 accepting L = gather states (isAccept L) (from L) (records L)
 
+-- the states that some edge record leads to
+unfoldable pub reached : List ℕ → ℕ
+reached L = gather states (isEdge L) (target L) (records L)
+
 -- record i names the state `from`, as an edge and an accept do, or the state `target`, as an edge and a start do; an accept's signature is no state
 abbrev pub namesFrom : List ℕ → ℕ → Bool
 namesFrom L i = isEdge L i || isAccept L i
@@ -66,3 +71,16 @@ namedBy L n = join (gather states (namesFrom L) (from L) n) (gather states (name
 -- the states that some record names: an edge those that it leaves and leads to, a start and an accept theirs; a signature names nothing
 abbrev pub named : List ℕ → ℕ
 named L = namedBy L (records L)
+
+-- the higher of n and the states that record i names
+abbrev pub higher : List ℕ → ℕ → ℕ → ℕ
+higher L i n = max (max n (cond (namesFrom L i) (from L i) 0)) (cond (namesTarget L i) (target L i) 0)
+
+-- the highest state that the first n records name; 0 where they name none
+unfoldable pub highestBy : List ℕ → ℕ → ℕ
+highestBy L zero = 0
+highestBy L (suc i) = higher L i (highestBy L i)
+
+-- the highest state that a record of the list names. A list that passes 1 to 3 has a start record, so it names one
+abbrev pub highest : List ℕ → ℕ
+highest L = highestBy L (records L)

@@ -59,6 +59,11 @@ from L i = wordOf L i 4
 abbrev pub target : List ℕ → ℕ → ℕ
 target L i = wordOf L i 6
 
+-- record i with other numbers at bytes 4 and 5, and at 6 and 7
+unfoldable pub recordWith : List ℕ → ℕ → ℕ → ℕ → List ℕ
+recordWith L i f t =
+    byteOf L i 0 ∷ byteOf L i 1 ∷ byteOf L i 2 ∷ byteOf L i 3 ∷ f % 256 ∷ f / 256 % 256 ∷ t % 256 ∷ t / 256 % 256 ∷ []
+
 -- ---- good records
 
 -- bytes 1 to n of record i are zero

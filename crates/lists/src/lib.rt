@@ -3,14 +3,14 @@ use sets::SigSet;
 use sets::StateSet;
 ghost use mathlib.Core.Path.{_≡_};
 ghost use mathlib.Core.Bool.{true, _&&_, _||_, cond};
-ghost use Prim.Native.Nat.{ℕ, _+_, _-_, _*_, _%_, _<_, _≤_};
+ghost use Prim.Native.Nat.{ℕ, suc, max, _+_, _-_, _*_, _%_, _<_, _≤_};
 ghost use lib.ListN.{length, getD};
 ghost use lib.Dec.{leb};
-ghost use Rattle.sets.specs.Set.{setWords, setSize, num, setOf, sigsOf, holds, insert, setAt};
+ghost use Rattle.sets.specs.Set.{setWords, setSize, num, setOf, sigsOf, holds, insert, setAt, placed};
 ghost use Rattle.rules.specs.Scan.{some, every};
-ghost use Rattle.lists.specs.List.{recordSize, records, word, byteOf, wordOf, isEdge, isStart, isAccept, low, high, eitherCase, from};
+ghost use Rattle.lists.specs.List.{recordSize, records, word, byteOf, wordOf, isEdge, isStart, isAccept, low, high, eitherCase, from, recordWith};
 ghost use Rattle.lists.specs.List.{target, zeros, goodEdge, goodStart, goodAccept, goodRecord, badLength, badRecord, noStart, listRefusal};
-ghost use Rattle.lists.specs.Automaton.{exchanged, between, edge, leaves, start, step, accepted, accepting, withNamed, namedBy, named};
+ghost use Rattle.lists.specs.Automaton.{exchanged, between, edge, leaves, start, step, accepted, accepting, withNamed, namedBy, named, higher, highest};
 ghost use Rattle.lists.specs.Survey.{Surveys};
 
 // The states that a list names are sought in blocks of so many records.
@@ -35,7 +35,7 @@ const EITHER_CASE: u8 = 1;
 // The places of a record's two numbers: the state that it leaves or names, and the state or signature that it leads to.
 const FROM: usize = 4;
 
-const TARGET: usize = 6;
+pub const TARGET: usize = 6;
 
 // The list check's answer and, where it passes, whether the list names every state of a set.
 pub struct Survey {
@@ -58,7 +58,7 @@ pub fn records(list: &[u8]) -> usize
 }
 
 // Byte k of record i.
-fn byte_of(list: &[u8], i: usize, k: usize) -> u8
+pub fn byte_of(list: &[u8], i: usize, k: usize) -> u8
     requires { ⌜ (i < records (now list)) × (k < recordSize) ⌝ }
     ensures { λ r. ⌜ r ≡ byteOf (now (list .entry)) i k ⌝ }
 {
@@ -157,7 +157,7 @@ fn good_accept(list: &[u8], i: usize) -> bool
 }
 
 // Says whether record i is good.
-fn good_record(list: &[u8], i: usize) -> bool
+pub fn good_record(list: &[u8], i: usize) -> bool
     requires { ⌜ i < records (now list) ⌝ }
     ensures { λ r. ⌜ r ≡ goodRecord (now (list .entry)) i ⌝ }
 {
@@ -171,7 +171,7 @@ fn good_record(list: &[u8], i: usize) -> bool
 }
 
 // Says whether rule 1 refuses the list.
-fn bad_length(list: &[u8]) -> bool
+pub fn bad_length(list: &[u8]) -> bool
     ensures { λ r. ⌜ r ≡ badLength (now (list .entry)) ⌝ }
 {
     (list.len() == 0) | (RECORD_SIZE * MOST_RECORDS < list.len()) | (list.len() % RECORD_SIZE != 0)
@@ -198,7 +198,7 @@ fn bad_record(list: &[u8]) -> bool
 }
 
 // Says whether rule 3 refuses the list.
-fn no_start(list: &[u8]) -> bool
+pub fn no_start(list: &[u8]) -> bool
     ensures { λ r. ⌜ r ≡ noStart (now (list .entry)) ⌝ }
 {
     let n = records(list);
@@ -227,7 +227,7 @@ pub fn check_list(list: &[u8]) -> u32
 }
 
 // Puts the number at bytes k and k + 1 of record i into the words of a set, where the test holds.
-fn put_word(list: &[u8], i: usize, k: usize, test: bool, w: &mut [u64])
+pub fn put_word(list: &[u8], i: usize, k: usize, test: bool, w: &mut [u64])
     requires { ⌜ (i < records (now list)) × (k + 1 < recordSize) ⌝ }
     ensures { λ r. ⌜ num 64 (now (w .exit)) ≡ cond test (insert (64 * length (now (w .entry))) (num 64 (now (w .entry))) (wordOf (now (list .entry)) i k)) (num 64 (now (w .entry))) ⌝ }
 {
@@ -523,4 +523,55 @@ pub fn names(list: &[u8]) -> StateSet
         put_named(list, i, &mut w);
     }
     StateSet::of_words(w)
+}
+
+// The larger of two numbers.
+fn larger(x: usize, y: usize) -> usize
+    ensures { λ r. ⌜ r ≡ max x y ⌝ }
+{
+    if x < y { y } else { x }
+}
+
+// The higher of n and the states that record i names.
+pub fn higher(list: &[u8], i: usize, n: usize) -> usize
+    requires { ⌜ i < records (now list) ⌝ }
+    ensures { λ r. ⌜ r ≡ higher (now (list .entry)) i n ⌝ }
+{
+    let linked = is_edge(list, i);
+    let mut x = 0usize;
+    if linked | is_accept(list, i) {
+        x = from(list, i);
+    }
+    let mut y = 0usize;
+    if linked | is_start(list, i) {
+        y = target(list, i);
+    }
+    larger(larger(n, x), y)
+}
+
+// How many numbers the states of a list take: 0 to the highest that a record names.
+pub fn state_count(list: &[u8]) -> usize
+    ensures { λ r. ⌜ (r ≡ suc (highest (now (list .entry)))) × (r ≤ 65536) ⌝ }
+{
+    let n = records(list);
+    let mut top = 0usize;
+    for i in 0..n {
+        top = higher(list, i, top);
+    }
+    top + 1
+}
+
+// Writes record i of a list at a place of another, with other numbers at bytes 4 and 5, and at 6 and 7.
+pub fn copy_record(list: &mut [u8], at: usize, from: &[u8], i: usize, f: usize, t: usize)
+    requires { ⌜ (i < records (now from)) × (at + recordSize ≤ length (now list)) ⌝ }
+    ensures { λ _. ⌜ now (list .exit) ≡ placed (now (list .entry)) at (recordWith (now (from .entry)) i f t) ⌝ }
+{
+    sets::put_number(
+        list,
+        at,
+        FROM,
+        sets::whole_number(from, RECORD_SIZE * i, FROM),
+    );
+    sets::put_number(list, at + FROM, 2, f as u64);
+    sets::put_number(list, at + TARGET, 2, t as u64);
 }

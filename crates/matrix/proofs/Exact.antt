@@ -14,7 +14,8 @@ use Rattle.sets.proofs.Sets.{holds-pow, set-ext}
 use Rattle.rules.specs.Rules.{Rule, verdict}
 use Rattle.rules.proofs.Rules.{last, verdict-then, verdict-refused}
 use Rattle.lists.specs.List.{from}
-use Rattle.lists.specs.Automaton.{step}
+use Rattle.lists.specs.Automaton.{step, highest}
+use Rattle.lists.proofs.Listed.{same-truth}
 use Rattle.lists.proofs.Steps.{step-exactly, step-lt}
 use Rattle.feeds.specs.Calls.{Bytes, Follows}
 use Rattle.feeds.specs.declared.Fed.{Fed}
@@ -22,10 +23,10 @@ use Rattle.feeds.specs.Fed.{Answers}
 use Rattle.feeds.proofs.Alike.{feed-same}
 use Rattle.flows.specs.Flow.{flowBytes, flowLayout, feedRules}
 use Rattle.plain.specs.Plain.{plain, plainFeed}
-use Rattle.matrix.specs.Matrix.{byteValues, highest, matrixLength, cell, unionOver, matrixStep, matrixed, filled, wrongMatrix, Fills, fillRules, matrixRules, matrixFeed}
+use Rattle.matrix.specs.Matrix.{byteValues, matrixLength, cell, unionOver, matrixStep, matrixed, filled, wrongMatrix, Fills, fillRules, matrixRules, matrixFeed}
 use Rattle.matrix.proofs.Unions.{union-exactly, union-same}
 use Rattle.matrix.proofs.Cells.{cells-length, cells-at}
-use Rattle.matrix.proofs.Highest.{names-low}
+use Rattle.lists.proofs.Highest.{names-low}
 
 -- the filler's matrix has the list's length
 pub filled-long : (L : List ℕ) → length (filled L) ≡ matrixLength L
@@ -35,11 +36,6 @@ filled-long L = cells-length (suc (highest L)) (λ s c. step L (2 ^ s) c)
 pub filled-cell : (L : List ℕ) (s c : ℕ) → s ≤ highest L → c < byteValues → cell (filled L) s c ≡ step L (2 ^ s) c
 unfolding cell
 filled-cell L s c h l = cells-at (suc (highest L)) (λ s c. step L (2 ^ s) c) s c (omega arith) l (step-lt L (2 ^ s) c)
-
-same-truth : (a b : Bool) → (a ≡ true → b ≡ true) → (b ≡ true → a ≡ true) → a ≡ b
-same-truth true b f g = sym (f refl)
-same-truth false true f g = g refl
-same-truth false false f g = refl
 
 module _ (L : List ℕ) where
   -- the step of a frontier is the union of the steps of its states, of which none past the highest leads anywhere

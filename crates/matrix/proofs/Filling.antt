@@ -16,10 +16,10 @@ use Rattle.rules.specs.Rules.{verdict}
 use Rattle.rules.proofs.Rules.{passes, passes-front, verdict-then}
 use Rattle.rules.proofs.Scanning.{both, gather-lt}
 use Rattle.lists.specs.List.{records, isEdge, eitherCase, from, target, listRules, listRefusal}
-use Rattle.lists.specs.Automaton.{exchanged, between, edge, leaves, step}
-use Rattle.matrix.specs.Matrix.{byteValues, highest, matrixLength, cellAt, cells, filled, wrongMatrix, fillRules}
+use Rattle.lists.specs.Automaton.{exchanged, between, edge, leaves, step, highest}
+use Rattle.matrix.specs.Matrix.{byteValues, matrixLength, cellAt, cells, filled, wrongMatrix, fillRules}
 use Rattle.matrix.specs.Filling.{marked, markedBytes, markedRecords}
-use Rattle.matrix.proofs.Highest.{edge-states}
+use Rattle.lists.proofs.Highest.{edge-low}
 use Rattle.matrix.proofs.Cells.{cells-same, cells-at, cells-put, cells-empty}
 
 module _ (L : List ℕ) where
@@ -124,8 +124,8 @@ fill-passes L X v =
 
 -- an edge's state has stored sets, and they stand in the matrix
 pub edge-placed : (L : List ℕ) → listRefusal L ≡ 0 → (i n : ℕ) → n ≡ matrixLength L → i < records L → isEdge L i ≡ true → (target L i < states) × (cellAt (suc (from L i)) 0 ≤ n)
-edge-placed L e i n q h k = let g = edge-states L e i h k in (g .0, omega (arith, g .1, q))
+edge-placed L e i n q h k = let g = edge-low L e i h k in (g .0, omega (arith, g .1, q))
 
 pub all-filled : (L : List ℕ) → listRefusal L ≡ 0 → (n : ℕ) → n ≡ matrixLength L → markedRecords L (replicate n 0) (records L) ≡ filled L
 all-filled L e n q =
-    rw q (all-marked L (suc (highest L)) (λ j c h t. omega (arith, edge-states L e j h (both (isEdge L j) (between L c j || eitherCase L j && between L (exchanged c) j) t .0) .1)))
+    rw q (all-marked L (suc (highest L)) (λ j c h t. omega (arith, edge-low L e j h (both (isEdge L j) (between L c j || eitherCase L j && between L (exchanged c) j) t .0) .1)))

@@ -5,7 +5,6 @@ pub mod Cells
 pub mod Filling
 pub mod Writing
 pub mod Watching
-pub mod Highest
 pub mod Feeding
 pub mod Exact
 pub mod Joining

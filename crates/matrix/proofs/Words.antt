@@ -10,9 +10,9 @@ use Rattle.sets.specs.Set.{states, holds, setAt}
 use Rattle.sets.proofs.Sets.{holds-pow}
 use Rattle.sets.proofs.Members.{members-size}
 use Rattle.lists.specs.List.{records, from, target}
-use Rattle.lists.specs.Automaton.{edge, step}
+use Rattle.lists.specs.Automaton.{edge, step, highest}
 use Rattle.lists.proofs.Steps.{edge-exactly, step-exactly, accepted-exactly}
-use Rattle.matrix.specs.Matrix.{highest, cell, matrixStep, filled}
+use Rattle.matrix.specs.Matrix.{cell, matrixStep, filled}
 use Rattle.matrix.specs.Words.{MatrixFilled, MatrixMoves}
 use Rattle.matrix.proofs.Unions.{union-exactly}
 use Rattle.matrix.proofs.Exact.{filled-long, filled-cell}

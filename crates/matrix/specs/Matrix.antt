@@ -1,5 +1,5 @@
 -- The bit matrix: a stored set for each state up to the highest that the list names, and each byte; how it moves a frontier, what the filler writes, and the rules.
-use Prim.Native.Nat.{ℕ, zero, suc, _+_, _*_, _/_, _%_, _^_, max}
+use Prim.Native.Nat.{ℕ, zero, suc, _+_, _*_, _/_, _%_, _^_}
 use mathlib.Core.Bool.{Bool, false, not, cond}
 use mathlib.Core.List.{List, [], _∷_, _++_}
 use mathlib.Core.Path.{_≡_}
@@ -8,8 +8,8 @@ use lib.Dec.{eqb}
 use Rattle.sets.specs.Set.{states, setSize, holds, join, size, setBytes, setAt}
 use Rattle.rules.specs.Scan.{stack}
 use Rattle.rules.specs.Rules.{Rule, verdict}
-use Rattle.lists.specs.List.{listRules, records, from, target}
-use Rattle.lists.specs.Automaton.{step, accepted, namesFrom, namesTarget}
+use Rattle.lists.specs.List.{listRules}
+use Rattle.lists.specs.Automaton.{step, accepted, highest}
 use Rattle.feeds.specs.Engine.{Engine, Outcome, feed}
 use Rattle.flows.specs.Flow.{flowLayout, feedRules}
 
@@ -18,19 +18,6 @@ abbrev pub byteValues : ℕ
 byteValues = 256
 
 -- ---- its size
-
--- the higher of n and the states that record i names
-abbrev pub higher : List ℕ → ℕ → ℕ → ℕ
-higher L i n = max (max n (cond (namesFrom L i) (from L i) 0)) (cond (namesTarget L i) (target L i) 0)
-
--- the highest state that the first n records name; 0 where they name none
-unfoldable pub highestBy : List ℕ → ℕ → ℕ
-highestBy L zero = 0
-highestBy L (suc i) = higher L i (highestBy L i)
-
--- the highest state that a record of the list names. A list that passes 1 to 3 has a start record, so it names one
-abbrev pub highest : List ℕ → ℕ
-highest L = highestBy L (records L)
 
 -- a set for each state up to the highest, and each byte
 abbrev pub matrixLength : List ℕ → ℕ

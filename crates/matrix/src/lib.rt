@@ -5,17 +5,18 @@ use flows::Told;
 use sets::StateSet;
 ghost use mathlib.Core.Path.{_≡_};
 ghost use mathlib.Core.Bool.{true, false, cond};
-ghost use Prim.Native.Nat.{ℕ, suc, _+_, _*_, _/_, _^_, _≤_, _<_, max};
+ghost use Prim.Native.Nat.{ℕ, suc, _+_, _*_, _/_, _^_, _≤_, _<_};
 ghost use lib.ListN.{length, replicate};
 ghost use lib.Dec.{ltb};
 ghost use lib.Count.{ones};
 ghost use Rattle.sets.specs.Set.{states, setSize, setWords, setOf, setAt, meets, join};
 ghost use Rattle.rules.specs.Rules.{verdict};
 ghost use Rattle.lists.specs.List.{records, isEdge, from, target};
+ghost use Rattle.lists.specs.Automaton.{highest};
 ghost use Rattle.feeds.specs.Engine.{mostOffset};
 ghost use Rattle.feeds.specs.Fed.{Answers};
 ghost use Rattle.flows.proofs.Ending.{Leaves};
-ghost use Rattle.matrix.specs.Matrix.{byteValues, higher, highest, matrixLength, cellAt, cell, unionOver, matrixed, fillRules, Fills, matrixRules, matrixFeed};
+ghost use Rattle.matrix.specs.Matrix.{byteValues, matrixLength, cellAt, cell, unionOver, matrixed, fillRules, Fills, matrixRules, matrixFeed};
 ghost use Rattle.matrix.specs.Filling.{joinedAt, marked, markedBytes, markedRecords};
 ghost use Rattle.matrix.specs.Stepped.{Steps};
 
@@ -30,42 +31,6 @@ pub const ROW_SIZE: usize = sets::BYTES * BYTE_VALUES;
 struct Stepped {
     next: [u8; sets::BYTES],
     rows: u64,
-}
-
-// The larger of two numbers.
-fn larger(x: usize, y: usize) -> usize
-    ensures { λ r. ⌜ r ≡ max x y ⌝ }
-{
-    if x < y { y } else { x }
-}
-
-// The higher of n and the states that record i names.
-fn higher(list: &[u8], i: usize, n: usize) -> usize
-    requires { ⌜ i < records (now list) ⌝ }
-    ensures { λ r. ⌜ r ≡ higher (now (list .entry)) i n ⌝ }
-{
-    let linked = lists::is_edge(list, i);
-    let mut x = 0usize;
-    if linked | lists::is_accept(list, i) {
-        x = lists::from(list, i);
-    }
-    let mut y = 0usize;
-    if linked | lists::is_start(list, i) {
-        y = lists::target(list, i);
-    }
-    larger(larger(n, x), y)
-}
-
-// How many states have stored sets: 0 to the highest that a record of the list names.
-fn row_count(list: &[u8]) -> usize
-    ensures { λ r. ⌜ (r ≡ suc (highest (now (list .entry)))) × (r ≤ 65536) ⌝ }
-{
-    let n = lists::records(list);
-    let mut top = 0usize;
-    for i in 0..n {
-        top = higher(list, i, top);
-    }
-    top + 1
 }
 
 // Makes every byte 0.
@@ -129,7 +94,7 @@ fn fill_refusal(list: &[u8], n: usize, matrix: &[u8]) -> u32
 pub fn fill(list: &[u8], matrix: &mut [u8]) -> u32
     ensures { λ r. ⌜ Fills (now (list .entry)) (now (matrix .entry)) r (now (matrix .exit)) ⌝ }
 {
-    let rows = row_count(list);
+    let rows = lists::state_count(list);
     let refusal = fill_refusal(list, rows, matrix);
     if refusal != rules::PASSED {
         return refusal;
@@ -317,7 +282,7 @@ pub fn feed(
 ) -> Fed
     ensures { λ r. ⌜ Answers (matrixFeed (now (list .entry)) (now (matrix .entry)) (now (flow .entry)) start (now (piece .entry)) (now (pairs .entry))) r (now (pairs .exit)) (now (flow .exit)) ⌝ }
 {
-    let n = row_count(list);
+    let n = lists::state_count(list);
     let refusal = feed_refusal(list, n, matrix, flow, start, piece);
     if refusal != rules::PASSED {
         return feeds::refused(refusal);

@@ -9,7 +9,7 @@ use Rattle.feeds.proofs.Looping.{rows-most, answers-refused}
 use Rattle.flows.specs.Flow.{flowLayout}
 use Rattle.flows.proofs.Ending.{fits, finishes}
 use Rattle.matrix.specs.Matrix.{matrixed, matrixRules}
-use Rattle.matrix.proofs.Highest.{highest-state}
+use Rattle.lists.proofs.Highest.{highest-state}
 use Rattle.matrix.proofs.Feeding.{matrix-cheap, Passes, matrix-passes}
 use Rattle.matrix.proofs.feed.Statement.{statement}
 use Rattle.matrix.proofs.feed.Tie as tie
@@ -36,8 +36,8 @@ few c =
     let a = entry (passed c .before) .args in
     rows-most (c .feed-bytes .ensures .going) states (matrix-cheap (a .list .now) (a .matrix .now)) (λ i. s .before .shared-slice-known3 .given i .fits)
 
-row-count-requires : tie.Need-row-count-requires
-row-count-requires c κs = search needs
+state-count-requires : tie.Need-state-count-requires
+state-count-requires c κs = search needs
 
 feed-refusal-requires : tie.Need-feed-refusal-requires
 feed-refusal-requires c κs = search needs
@@ -63,7 +63,7 @@ feed-bytes-requires : tie.Need-feed-bytes-requires
 feed-bytes-requires c κs =
     let q = c .before .before .before in
     let p = passes q in
-    let n = q .before .before .before .row-count .ensures .0 in
+    let n = q .before .before .before .state-count .ensures .0 in
     let h = highest-state (entry (q .before) .args .list .now) (p .listed) in
     (omega (arith, p .begins, p .short), n, omega (arith, n, h), omega (arith, n, p .long))
 
@@ -94,7 +94,7 @@ pub feed-spec : {M : Type 1} → statement M
 feed-spec =
     tie.close
     (tie.spec
-    row-count-requires
+    state-count-requires
     feed-refusal-requires
     refused-requires
     same-length

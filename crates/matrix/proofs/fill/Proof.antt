@@ -35,8 +35,8 @@ passed c = let a = c .before .before .before .before .before .before .args in fi
 kept : {m : List ℕ} (c : tie.Else1 Inv-loop μ-loop) → let a = c .before .before .before .before .before .before .args in m ≡ replicate (length (a .matrix .now)) 0 → length m ≡ matrixLength (a .list .now)
 kept c e = ap (λ (m : List ℕ). length m) e ∙ zeros-long _ ∙ passed c .1
 
-row-count-requires : tie.Need-row-count-requires Inv-loop μ-loop
-row-count-requires c κs = search needs
+state-count-requires : tie.Need-state-count-requires Inv-loop μ-loop
+state-count-requires c κs = search needs
 
 fill-refusal-requires : tie.Need-fill-refusal-requires Inv-loop μ-loop
 fill-refusal-requires c κs = search needs
@@ -102,7 +102,7 @@ fill-spec =
     (tie.spec
     Inv-loop
     μ-loop
-    row-count-requires
+    state-count-requires
     fill-refusal-requires
     same-length
     returns

@@ -15,21 +15,23 @@ use Rattle.sets.proofs.Laws.{Small}
 use Rattle.rules.specs.Scan.{some}
 use Rattle.rules.proofs.Scanning.{below-suc, choose, or-true, or-cases, some-elim}
 use Rattle.rules.proofs.Rules.{passes}
-use Rattle.lists.specs.List.{records, isEdge, isStart, isAccept, from, target, badLength, badRecord, noStart, listRefusal}
-use Rattle.lists.specs.Automaton.{namesFrom, namesTarget, named}
-use Rattle.lists.proofs.Listed.{good-edge, good-start, good-accept, edge-good, start-good, accept-good}
-use Rattle.lists.proofs.Steps.{good-at}
+use Rattle.lists.specs.List.{records, word, isEdge, isStart, isAccept, from, target, badLength, badRecord, noStart, listRefusal}
+use Rattle.lists.specs.Automaton.{namesFrom, namesTarget, named, highestBy, highest}
+use Rattle.lists.proofs.Steps.{edge-states, start-states, accept-states}
 use Rattle.lists.proofs.Named.{Names, named-exactly}
-use Rattle.matrix.specs.Matrix.{highestBy, highest}
 
--- a number of two bytes
+-- two bytes make a number below 65536
+pub word-lt : (L : List ℕ) → Small 8 L → (at : ℕ) → word L at < 65536
+word-lt L h at = omega (arith, h at, h (at + 1))
+
+-- and so is the highest
 pub highest-lt : (L : List ℕ) → Small 8 L → (n : ℕ) → highestBy L n < 65536
 unfolding highestBy
 highest-lt L h zero = lit< tt
 highest-lt L h (suc i) = go (namesFrom L i) (namesTarget L i) (highest-lt L h i)
   where
-    two : (at : ℕ) → getD L at 0 + 256 * getD L (at + 1) 0 < 65536
-    two at = omega (arith, h at, h (at + 1))
+    two : (at : ℕ) → word L at < 65536
+    two at = word-lt L h at
 
     go : (p q : Bool) → highestBy L i < 65536 → max (max (highestBy L i) (cond p (from L i) 0)) (cond q (target L i) 0) < 65536
     go true true l = omega (arith, two (8 * i + 4), two (8 * i + 6))
@@ -99,15 +101,12 @@ module _ (L : List ℕ) (e : listRefusal L ≡ 0) where
   names-state : (i s : ℕ) → i < records L → Names L i s → s < states
   names-state i s h w =
       choose w
-      (λ k. let g = edge-good L i .0 (sym (good-edge L i (k .0)) ∙ good-at L e i h) in choose (k .1) (λ q. rw (← q) (g .3)) (λ q. rw (← q) (g .4)))
-      (λ o.
-      choose o
-      (λ k. let g = start-good L i .0 (sym (good-start L i (k .0)) ∙ good-at L e i h) in rw (← k .1) (g .2))
-      (λ k. let g = accept-good L i .0 (sym (good-accept L i (k .0)) ∙ good-at L e i h) in rw (← k .1) (g .2)))
+      (λ k. let g = edge-states L e i h (k .0) in choose (k .1) (λ q. rw (← q) (g .0)) (λ q. rw (← q) (g .1)))
+      (λ o. choose o (λ k. rw (← k .1) (start-states L e i h (k .0))) (λ k. rw (← k .1) (accept-states L e i h (k .0) .0)))
 
   -- an edge leads to a state, from one that is at most the highest
-  pub edge-states : (i : ℕ) → i < records L → isEdge L i ≡ true → (target L i < states) × (from L i ≤ highest L)
-  edge-states i h k = (names-state i (target L i) h (inl (k, inr refl)), names-low L i (from L i) h (inl (k, inl refl)))
+  pub edge-low : (i : ℕ) → i < records L → isEdge L i ≡ true → (target L i < states) × (from L i ≤ highest L)
+  edge-low i h k = (edge-states L e i h k .1, names-low L i (from L i) h (inl (k, inl refl)))
 
   -- there is a start record
   starts : (i : ℕ) × (i < records L) × (isStart L i ≡ true)

@@ -1,14 +1,14 @@
--- `row_count` goes through the records; the invariant is the definition at i. Assumes nothing.
+-- `state_count` goes through the records; the invariant is the definition at i. Assumes nothing.
 use borrow.Author.Needs.{needs}
 use native.Mathlib.Omega.{arith}
 use Prim.Native.Nat.{suc, _≤_, _<_, _-_}
 use mathlib.Core.Path.{_≡_, refl, sym, ap, _∙_}
 use native.Mathlib.Numerals.{add-one}
 use Rattle.lists.specs.List.{records}
-use Rattle.matrix.specs.Matrix.{higher, highestBy}
-use Rattle.matrix.proofs.Highest.{highest-lt}
-use Rattle.matrix.proofs.row_count.Statement.{statement}
-use Rattle.matrix.proofs.row_count.Tie as tie
+use Rattle.lists.specs.Automaton.{higher, highestBy}
+use Rattle.lists.proofs.Highest.{highest-lt}
+use Rattle.lists.proofs.state_count.Statement.{statement}
+use Rattle.lists.proofs.state_count.Tie as tie
 
 abbrev Inv-loop : tie.InvT-loop
 Inv-loop list n top₀ i₀ top i = (i ≤ n) × (top ≡ highestBy list i)
@@ -49,8 +49,8 @@ returns c =
     let e : c .before .loop .i ≡ records (c .before .before .before .before .args .list .now) = omega (arith, c .before .before .records .ensures) in
     (rw (← e) (omega (arith, c .before .loop .inv .1)), omega (arith, small c))
 
-pub row-count-spec : {M : Type 1} → statement M
-row-count-spec =
+pub state-count-spec : {M : Type 1} → statement M
+state-count-spec =
     tie.close
     (tie.spec
     Inv-loop

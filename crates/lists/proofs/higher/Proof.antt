@@ -5,10 +5,10 @@ use Prim.Native.Nat.{ℕ, _<_}
 use mathlib.Core.Path.{_≡_, refl, sym, ap, _∙_}
 use mathlib.Core.Bool.{Bool, true, false, _||_, cond}
 use Rattle.rules.proofs.Scanning.{choose}
 use Rattle.lists.specs.List.{from, target}
 use Rattle.lists.specs.Automaton.{namesFrom, namesTarget}
-use Rattle.matrix.proofs.higher.Statement.{statement}
-use Rattle.matrix.proofs.higher.Tie as tie
+use Rattle.lists.proofs.higher.Statement.{statement}
+use Rattle.lists.proofs.higher.Tie as tie
 
 is-edge-requires : tie.Need-is-edge-requires
 is-edge-requires c κs = search needs
