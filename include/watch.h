@@ -162,6 +162,9 @@
  *     24   of an automaton with bits and counters: a list has a wrong length, or the two are of other numbers of states; a target is no state; a
  *          record has another kind, a bit that is not below WATCH_X_BITS, a counter that is not below WATCH_X_COUNTERS, a signature that is
  *          not below WATCH_SIGNATURES, or a field that is not used and not 0. Every program is tested, reached or not
+ *     27   joining: the list check refuses the other list
+ *     28   joining: `used` is over the lent list's length, or the joined list is, or that has more than WATCH_MOST_RECORDS records or a state that is
+ *          not below WATCH_STATES; folding: the lent list is shorter than the folded one
  *
  * Of such an automaton's flow record 4 says: not WATCH_X_FLOW_SIZE bytes long; or, when it is fed, a state that the moves do not have, a reserved
  * byte that is not zero, or a counter over WATCH_X_OFF.
@@ -171,8 +174,8 @@
  * The list check gives 1 to 3; opening 1 to 4 and 15; the plain feed 1 to 6; the table check 1 to 3 and 7 to 13; the split feed 1 to 9,
  * and 14 per byte; the filler of a matrix 1 to 3 and 8; the matrix feed 1 to 6 and 8; the filler of an index 1 to 3 and 7 to 13; the prepared
  * feed 4 to 6 and 8, and 14 per byte; building 1 to 3, then 17, then 16; taking a segment 18; the watch_x_ functions 24, their opening then
- * 4 and 15, their feed 4, 5 and 6; the check of a certificate 1 to 3, then 24, then 22; compiling 20, 19 and 21. A refusal
- * other than 14 and 16 changes no buffer.
+ * 4 and 15, their feed 4, 5 and 6; the check of a certificate 1 to 3, then 24, then 22; compiling 20, 19 and 21; joining
+ * 1 to 3, 27 and 28; folding 1 to 3 and 28. A refusal other than 14 and 16 changes no buffer.
  *
  *
  * WHAT THE CALLER OWES
@@ -196,13 +199,14 @@
  * COST AND CONTEXT
  *
  *   - Stack: WATCH_MOST_STACK bytes below the caller's frame at most, whatever the input, return addresses and red zone counted; that is for
- *     watch_check_certificate, which keeps the places of the records there, and all others but one take 1,600 at most: watch_compile keeps a row for
- *     each state, 160 KiB, goes as deep as the brackets do, and takes WATCH_COMPILE_STACK. tools/stack reads the number off the archive for each function, and tools/test-outside holds
- *     these to it.
+ *     watch_fold, which keeps numbers of states and records there. watch_check_certificate, which keeps the places of the records, takes 9,920,
+ *     watch_join, which keeps the new numbers of states, 5,448, and all others but one 1,600 at most: watch_compile keeps a row for each state, 160
+ *     KiB, goes as deep as the brackets do, and takes WATCH_COMPILE_STACK. tools/stack reads the number off the archive for each function, and
+ *     tools/test-outside holds these to it.
  *   - No heap, no statics, no locks, no system calls: the archive has no data that can be written, and calls nothing outside itself but C's
- *     memset, which clears a matrix that is filled, the places of a certificate's records and the compiler's rows, and memcpy, in watch_compile; a
- *     compiler asks for both without an operating system too. Their stack is not in the numbers above. So every function is reentrant: threads,
- *     tasks and signal handlers may be in it at once, each with its own flow and pairs.
+ *     memset, which clears a matrix that is filled, the places of a certificate's records, the numbers of watch_fold and watch_join and the compiler's rows, and memcpy, in
+ *     watch_compile and watch_join; a compiler asks for both without an operating system too. Their stack is not in the numbers above. So every function is
+ *     reentrant: threads, tasks and signal handlers may be in it at once, each with its own flow and pairs.
  *   - The code uses the general registers, the registers of SSE2 and the 128 bytes below the stack pointer, the red zone. So it is not for a
  *     bare interrupt, nor for a kernel that leaves those to the task that it interrupts: wake a task, and call from there.
  *   - Every call ends; that is proved. Its work is bounded by the lengths that it is given, and grows as docs/PERFORMANCE.md shows.
@@ -232,10 +236,10 @@ extern "C" {
 #endif
 
 /* The version of the face that this header describes. */
-#define WATCH_VERSION 14
+#define WATCH_VERSION 15
 
 /* Bytes of stack that a call takes at most, and that one of watch_compile does. */
-#define WATCH_MOST_STACK 9920
+#define WATCH_MOST_STACK 23040
 #define WATCH_COMPILE_STACK 230592
 
 /* States are the numbers below this one. */
@@ -340,7 +344,9 @@ enum watch_refusal {
     WATCH_REFUSED_TOO_DEEP = 20,
     WATCH_REFUSED_TOO_BIG = 21,
     WATCH_REFUSED_CERTIFICATE = 22,
-    WATCH_REFUSED_MACHINE = 24
+    WATCH_REFUSED_MACHINE = 24,
+    WATCH_REFUSED_OTHER_LIST = 27,
+    WATCH_REFUSED_LIST_ROOM = 28
 };
 
 /* What an opening answers. */
@@ -399,6 +405,14 @@ struct watch_compiled {
 
 typedef struct watch_compiled watch_compiled;
 
+/* What joining and folding answer. */
+struct watch_joined {
+    uint64_t length;  /* bytes of the list, from the front of the lent one; 0 with every refusal */
+    uint32_t refusal; /* WATCH_PASSED, 0, or the number of the refusal */
+};
+
+typedef struct watch_joined watch_joined;
+
 #if defined(__cplusplus) && __cplusplus >= 201103L
 static_assert(sizeof(watch_held) == 12 && sizeof(watch_part) == 24 && offsetof(watch_part, where) == 16, "watch.h: the layout is that of x86-64");
 static_assert(sizeof(size_t) == 8 && sizeof(watch_fed) == 24, "watch.h: the layout is that of x86-64");
@@ -407,6 +421,7 @@ static_assert(sizeof(watch_built) == 40 && offsetof(watch_built, parts) == 8 && 
 static_assert(sizeof(watch_compiled) == 24 && offsetof(watch_compiled, length) == 8 && offsetof(watch_compiled, refusal) == 16,
               "watch.h: the layout is that of x86-64");
 static_assert(sizeof(watch_opened) == 16 && offsetof(watch_opened, refusal) == 8, "watch.h: the layout is that of x86-64");
+static_assert(sizeof(watch_joined) == 16 && offsetof(watch_joined, refusal) == 8, "watch.h: the layout is that of x86-64");
 static_assert(offsetof(watch_fed, pairs) == 8 && offsetof(watch_fed, refusal) == 16 && offsetof(watch_fed, all) == 20,
               "watch.h: the layout is that of x86-64");
 #elif defined(__STDC_VERSION__) && __STDC_VERSION__ >= 201112L
@@ -417,6 +432,7 @@ _Static_assert(sizeof(watch_built) == 40 && offsetof(watch_built, parts) == 8 &&
 _Static_assert(sizeof(watch_compiled) == 24 && offsetof(watch_compiled, length) == 8 && offsetof(watch_compiled, refusal) == 16,
                "watch.h: the layout is that of x86-64");
 _Static_assert(sizeof(watch_opened) == 16 && offsetof(watch_opened, refusal) == 8, "watch.h: the layout is that of x86-64");
+_Static_assert(sizeof(watch_joined) == 16 && offsetof(watch_joined, refusal) == 8, "watch.h: the layout is that of x86-64");
 _Static_assert(offsetof(watch_fed, pairs) == 8 && offsetof(watch_fed, refusal) == 16 && offsetof(watch_fed, all) == 20,
                "watch.h: the layout is that of x86-64");
 #endif
@@ -583,6 +599,23 @@ watch_compiled watch_compile(const uint8_t *text, size_t text_len,
                              uint8_t signature,
                              uint8_t *list, size_t list_len);
 
+/* Joins two lists: the list in the first `used` bytes of the lent one, and another. The first length bytes of the lent list are then the joined
+ * list; bytes behind them stay. A pair is due under it exactly when it is due under one of the two. The first list's records and states stay as they
+ * are, the other's states are numbered on behind them; where both have a start state with a loop on every byte, or else both have a start state that no
+ * edge leads to, the two become one. Any two lists that pass 1 to 3 may be joined, and what was joined may be joined again. Refusals 1 to 3 are of the
+ * first list (of the whole lent list where `used` is over its length), then 27, then 28; a refusal changes nothing. A record that was opened under the
+ * first list runs under the joined one without the other's start states: open flows anew. list and other do not overlap. */
+watch_joined watch_join(uint8_t *list, size_t list_len,
+                        uint64_t used,
+                        const uint8_t *other, size_t other_len);
+
+/* Folds a list: states with the same past, which both start or both do not, and to which the same edges lead, become one. The first length bytes of the
+ * lent list are then the folded list, whose states are numbered anew; bytes behind them stay. Every flow tells the same pairs under it. It is no
+ * longer than the list, so list_len bytes are room for it. Refusals 1 to 3, then 28, change nothing. A record that was saved under the list does
+ * not belong to the folded one: open flows anew. The two lists do not overlap. */
+watch_joined watch_fold(const uint8_t *list, size_t list_len,
+                        uint8_t *folded, size_t folded_len);
+
 /* A size as text within a sentence. */
 #define WATCH_TEXT_OF(tokens) #tokens
 #define WATCH_TEXT(size) WATCH_TEXT_OF(size)
@@ -646,6 +679,10 @@ static inline const char *watch_refusal_text(uint32_t n)
     case WATCH_REFUSED_MACHINE:
         return "the moves or the programs have a wrong length, a target is no state, or a record has another kind, a bit, counter or signature "
                "that there is not, or an unused field that is not zero";
+    case WATCH_REFUSED_OTHER_LIST:
+        return "the other list is refused by the list check";
+    case WATCH_REFUSED_LIST_ROOM:
+        return "the lent list is too short, or the joined list has more states or records than a list may have";
     default:
         return "no refusal has this number";
     }

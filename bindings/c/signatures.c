@@ -6,14 +6,14 @@
  *
  * Those are the commands on x86-64. Elsewhere the compiler is x86_64-linux-gnu-gcc with -static, and qemu-x86_64 stands before the program.
  *
- * Usage: signatures FILE [RULES]. A line of the file is a signature's number, a space, and its text up to the line feed; a line that is empty or begins
- * with # is passed over. Numbers may stand again: such a signature is told wherever one of its texts is. How many states and records the list has goes to
- * standard error, the list to RULES. Each line that is refused is said, for 19 with a caret under the place; then no list is written.
+ * Usage: signatures FILE [RULES [NAMES]]. A line of the file is a signature's number, a space, and its text up to the line feed; straight behind the number
+ * `=` and a name may stand, of letters, digits, - and _. A line that is empty or begins with # is passed over. Numbers may stand again: such a signature is told
+ * wherever one of its texts is. How many states and records the list has goes to standard error, the list to RULES, and a line of number and name for each
+ * signature that has one to NAMES. Each line that is refused is said, for 19 with a caret under the place; then nothing is written.
  *
- * The lists of the texts are joined so: positions are numbered on from text to text, and the texts that may begin anywhere have one start state, those
- * with ^ another. No edge of a compiled list leads to its start but the loop, so the pairs of the joined list are those of its parts. Its records rise, and
- * none stands twice. The exit status is 0 where there is a list, 1 where something is refused, 2 where a file could not be read or written or the archive
- * is not the header's.
+ * Each text is compiled by itself, joined to those before it and the whole folded, all by proved functions: the pair (h, k) is due under the list exactly when
+ * some text has signature h and the first k bytes end in a word of it. The exit status is 0 where there is a list, 1 where something is refused, 2 where a
+ * file could not be read or written or the archive is not the header's.
  */
 #include <inttypes.h>
 #include <stdbool.h>
@@ -23,22 +23,16 @@
 
 #include "watch.h"
 
-/* The lines of the file, and what they hold. */
-typedef struct {
-    const uint8_t *text;
-    size_t length;
-    uint8_t signature;
-    bool bound;
-} Text;
-
 static uint8_t *file;
-static size_t file_len;
-static Text *texts;
-static size_t text_count, bad_lines;
+static size_t file_len, text_count, bad_lines;
 
-/* The joined list; more records than it has room for are counted alone. */
+/* The list of the texts so far. */
 static uint8_t list[WATCH_MOST_LIST];
-static size_t records;
+static size_t list_len;
+
+/* The names of the signatures, in the file's bytes. */
+static const uint8_t *names[WATCH_SIGNATURES];
+static size_t name_lens[WATCH_SIGNATURES];
 
 static void fail(const char *what, const char *name)
 {
@@ -76,33 +70,91 @@ static void show(const uint8_t *line, size_t length, size_t place)
     fprintf(stderr, "\n    %*s^\n", (int)place, "");
 }
 
-/* Reads the number before a text, and the space; answers how many bytes these are, or 0 where they are not there. */
-static size_t read_number(const uint8_t *line, size_t length, unsigned *number)
+/* Whether a byte may stand in a name. */
+static bool in_name(uint8_t c)
+{
+    return (c >= 'a' && c <= 'z') || (c >= 'A' && c <= 'Z') || (c >= '0' && c <= '9') || c == '-' || c == '_';
+}
+
+/* Reads the number before a text, the name behind it where there is one, and the space; answers how many bytes these are, or 0 where they are not there. */
+static size_t read_number(const uint8_t *line, size_t length, unsigned *number, size_t *name, size_t *name_len)
 {
     size_t i = 0;
     *number = 0;
+    *name_len = 0;
     while (i < length && i < 3 && line[i] >= '0' && line[i] <= '9')
         *number = 10 * *number + (line[i++] - '0');
-    return i > 0 && i < length && line[i] == ' ' && *number < WATCH_SIGNATURES ? i + 1 : 0;
+    if (i == 0 || *number >= WATCH_SIGNATURES)
+        return 0;
+    if (i < length && line[i] == '=') {
+        *name = ++i;
+        while (i < length && in_name(line[i]))
+            i++;
+        *name_len = i - *name;
+        if (*name_len == 0)
+            return 0;
+    }
+    return i < length && line[i] == ' ' ? i + 1 : 0;
 }
 
-/* Takes a line: its text is compiled once, to see whether it is refused. */
+/* Says what is wrong with a line, and shows it with a caret under a place. */
+static void refuse(size_t number, const uint8_t *line, size_t length, size_t place, const char *why)
+{
+    fprintf(stderr, "signatures: line %zu: %s\n", number, why);
+    show(line, length, place);
+    bad_lines++;
+}
+
+/* Gives a signature its name; answers whether it has no other. */
+static bool give_name(unsigned signature, const uint8_t *name, size_t length)
+{
+    if (length == 0)
+        return true;
+    if (names[signature] != NULL)
+        return name_lens[signature] == length && memcmp(names[signature], name, length) == 0;
+    names[signature] = name;
+    name_lens[signature] = length;
+    return true;
+}
+
+/* Joins the list of a text to that of the texts before it, and folds the whole; answers the refusal. */
+static uint32_t add(const uint8_t *part, size_t part_len)
+{
+    static uint8_t joined[WATCH_MOST_LIST];
+    if (text_count == 0) {
+        memcpy(list, part, part_len);
+        list_len = part_len;
+        return WATCH_PASSED;
+    }
+    memcpy(joined, list, list_len);
+    watch_joined answer = watch_join(joined, sizeof joined, list_len, part, part_len);
+    if (answer.refusal == WATCH_PASSED) {
+        answer = watch_fold(joined, answer.length, list, sizeof list);
+        list_len = answer.length;
+    }
+    return answer.refusal;
+}
+
+/* Takes a line: its text is compiled, and its list added. */
 static void take_line(size_t number, const uint8_t *line, size_t length)
 {
+    static uint8_t part[WATCH_MOST_LIST];
     unsigned signature;
-    size_t begins = read_number(line, length, &signature);
+    size_t name = 0, name_len;
     if (length == 0 || line[0] == '#')
         return;
+    size_t begins = read_number(line, length, &signature, &name, &name_len);
     if (begins == 0) {
-        fprintf(stderr, "signatures: line %zu: no number below %d and space before a text\n", number, WATCH_SIGNATURES);
-        show(line, length, 0);
-        bad_lines++;
+        refuse(number, line, length, 0, "no number below 256, or = and a name behind it, and space before a text");
         return;
     }
-    Text text = { line + begins, length - begins, (uint8_t)signature, length > begins && line[begins] == '^' };
-    watch_compiled answer = watch_compile(text.text, text.length, text.signature, list, sizeof list);
+    if (!give_name(signature, line + name, name_len)) {
+        refuse(number, line, length, name, "the signature has another name already");
+        return;
+    }
+    watch_compiled answer = watch_compile(line + begins, length - begins, (uint8_t)signature, part, sizeof part);
     if (answer.refusal != WATCH_PASSED) {
-        bool bad = answer.refusal == WATCH_REFUSED_BAD_TEXT, cut = bad && answer.place == text.length;
+        bool bad = answer.refusal == WATCH_REFUSED_BAD_TEXT, cut = bad && answer.place == length - begins;
         fprintf(stderr, "signatures: line %zu: refused %" PRIu32 ": %s\n", number, answer.refusal,
                 cut ? "the text ends too soon" : bad ? "from this place on no text fits" : watch_refusal_text(answer.refusal));
         if (bad)
@@ -110,17 +162,18 @@ static void take_line(size_t number, const uint8_t *line, size_t length)
         bad_lines++;
         return;
     }
-    texts[text_count++] = text;
+    if (bad_lines == 0) {
+        uint32_t refusal = add(part, answer.length);
+        if (refusal != WATCH_PASSED) {
+            fprintf(stderr, "signatures: line %zu: refused %" PRIu32 ": together with the texts before it: %s\n", number, refusal, watch_refusal_text(refusal));
+            bad_lines++;
+        }
+    }
+    text_count++;
 }
 
-static void take_lines(const char *name)
+static void take_lines(void)
 {
-    size_t lines = 1;
-    for (size_t i = 0; i < file_len; i++)
-        lines += file[i] == '\n';
-    texts = calloc(lines, sizeof *texts);
-    if (texts == NULL)
-        fail("hold", name);
     const uint8_t *at = file, *end = file + file_len;
     for (size_t number = 1; at < end; number++) {
         const uint8_t *feed = memchr(at, '\n', (size_t)(end - at));
@@ -132,64 +185,40 @@ static void take_lines(const char *name)
 
 static unsigned get(const uint8_t *at) { return at[0] + 256u * at[1]; }
 
-/* Writes a state of a compiled list as one of the joined list: its start as the start for its kind, a position by what came before. Answers the number after it. */
-static unsigned renumber(uint8_t *at, unsigned start, unsigned before)
+/* How many numbers the states of the list take. */
+static unsigned states(void)
 {
-    unsigned state = get(at) == 0 ? start : before + get(at) - 1;
-    at[0] = (uint8_t)(state % 256);
-    at[1] = (uint8_t)(state / 256);
-    return state + 1;
-}
-
-/* Whether a record is in the joined list. */
-static bool stands(const uint8_t *record)
-{
-    for (size_t i = 0; i < records && i < WATCH_MOST_RECORDS; i++)
-        if (memcmp(list + i * WATCH_RECORD_SIZE, record, WATCH_RECORD_SIZE) == 0)
-            return true;
-    return false;
-}
-
-/* Adds the list of a text to the joined one. `before` is the first state that is free; answers the next such one. */
-static unsigned add(const Text *text, unsigned start, unsigned before)
-{
-    static uint8_t part[WATCH_MOST_LIST];
-    watch_compiled answer = watch_compile(text->text, text->length, text->signature, part, sizeof part);
-    unsigned next = before;
-    for (uint64_t at = 0; at < answer.length; at += WATCH_RECORD_SIZE) {
-        uint8_t *record = part + at;
-        unsigned source = record[0] == 2 ? 0 : renumber(record + 4, start, before);
-        unsigned target = record[0] == 3 ? 0 : renumber(record + 6, start, before);
-        next = source > next ? source : next;
-        next = target > next ? target : next;
-        /* What texts share, of their start state, is there already. */
-        if ((record[0] == 2 || get(record + 4) == start) && stands(record))
-            continue;
-        if (records < WATCH_MOST_RECORDS)
-            memcpy(list + records * WATCH_RECORD_SIZE, record, WATCH_RECORD_SIZE);
-        records++;
+    unsigned highest = 0;
+    for (const uint8_t *at = list; at < list + list_len; at += WATCH_RECORD_SIZE) {
+        unsigned source = at[0] == 2 ? 0 : get(at + 4), target = at[0] == 3 ? 0 : get(at + 6);
+        highest = source > highest ? source : highest;
+        highest = target > highest ? target : highest;
     }
-    return next;
+    return highest + 1;
 }
 
-static int order(const void *a, const void *b) { return memcmp(a, b, WATCH_RECORD_SIZE); }
-
-/* Joins the texts' lists. Answers the states that they need. */
-static unsigned join(void)
+static FILE *open_new(const char *name)
 {
-    bool loose = false, bound = false;
-    for (size_t i = 0; i < text_count; i++)
-        *(texts[i].bound ? &bound : &loose) = true;
-    unsigned next = (unsigned)loose + (unsigned)bound;
-    for (size_t i = 0; i < text_count && next <= WATCH_STATES; i++)
-        next = add(&texts[i], texts[i].bound && loose ? 1 : 0, next);
-    return next;
+    FILE *to = fopen(name, "wb");
+    if (to == NULL)
+        fail("open", name);
+    return to;
+}
+
+static void write_names(const char *name)
+{
+    FILE *to = open_new(name);
+    for (unsigned i = 0; i < WATCH_SIGNATURES; i++)
+        if (names[i] != NULL)
+            fprintf(to, "%u %.*s\n", i, (int)name_lens[i], (const char *)names[i]);
+    if (ferror(to) || fclose(to) != 0)
+        fail("write", name);
 }
 
 int main(int argc, char **argv)
 {
-    if (argc != 2 && argc != 3) {
-        fprintf(stderr, "usage: signatures FILE [RULES]\n");
+    if (argc < 2 || argc > 4) {
+        fprintf(stderr, "usage: signatures FILE [RULES [NAMES]]\n");
         return 2;
     }
     if (watch_version() != WATCH_VERSION) {
@@ -197,31 +226,18 @@ int main(int argc, char **argv)
         return 2;
     }
     read_file(argv[1]);
-    take_lines(argv[1]);
-    if (bad_lines == 0 && text_count == 0) {
+    take_lines();
+    if (bad_lines == 0 && text_count == 0)
         fprintf(stderr, "signatures: no text in %s\n", argv[1]);
+    if (bad_lines != 0 || text_count == 0)
         return 1;
-    }
-    if (bad_lines != 0)
-        return 1;
-    unsigned states = join();
-    if (states > WATCH_STATES || records > WATCH_MOST_RECORDS) {
-        fprintf(stderr, "signatures: together the texts need more than the %d states or the %d records of a list\n", WATCH_STATES, WATCH_MOST_RECORDS);
-        return 1;
-    }
-    qsort(list, records, WATCH_RECORD_SIZE, order);
-    uint32_t refusal = watch_check_list(list, records * WATCH_RECORD_SIZE);
-    if (refusal != WATCH_PASSED) {
-        fprintf(stderr, "signatures: refused %" PRIu32 ": %s\n", refusal, watch_refusal_text(refusal));
-        return 1;
-    }
-    fprintf(stderr, "signatures: %zu text%s, %u states, %zu records\n", text_count, text_count == 1 ? "" : "s", states, records);
-    if (argc == 3) {
-        FILE *to = fopen(argv[2], "wb");
-        if (to == NULL)
-            fail("open", argv[2]);
-        if (fwrite(list, WATCH_RECORD_SIZE, records, to) != records || fclose(to) != 0)
+    fprintf(stderr, "signatures: %zu text%s, %u states, %zu records\n", text_count, text_count == 1 ? "" : "s", states(), list_len / WATCH_RECORD_SIZE);
+    if (argc > 2) {
+        FILE *to = open_new(argv[2]);
+        if (fwrite(list, 1, list_len, to) != list_len || fclose(to) != 0)
             fail("write", argv[2]);
     }
+    if (argc > 3)
+        write_names(argv[3]);
     return 0;
 }

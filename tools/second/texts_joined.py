@@ -1,5 +1,5 @@
-"""Tests how a program makes one list of a file of texts: the pairs of the joined list are those of its texts, a single text's list is as it is compiled, and
-each line that is refused is said.
+"""Tests how a program makes one list of a file of texts: the list is that of its texts joined and folded by the second program, its pairs
+are those of its texts, and each line that is refused is said.
 
   python3 tools/second/texts_joined.py FOLDER COMMAND ...
 
@@ -13,6 +13,7 @@ sys.dont_write_bytecode = True
 
 from pathlib import Path
 
+import joins
 import model
 import texts
 import texts_cases
@@ -50,6 +51,21 @@ def text_of(dice):
             return text
 
 
+def compiled(number, text):
+    """The list of one text."""
+    answer = texts.compile_text(text, number, bytes(model.MOST_LIST))
+    return answer.list[:answer.length]
+
+
+def collected(signatures):
+    """The list of a file of texts: each is joined to those before it, and the whole folded."""
+    made = compiled(*signatures[0])
+    for number, text in signatures[1:]:
+        both = joins.join(made + bytes(model.MOST_LIST - len(made)), len(made), compiled(number, text))
+        made = joins.pack(joins.folded(joins.unpack(both.left[:both.length])))
+    return made
+
+
 def joined(dice):
     """Random files: the pairs of the list are the union of those of the texts."""
     told = 0
@@ -58,10 +74,7 @@ def joined(dice):
         lines = [str(number).encode() + b" " + text for number, text in signatures]
         status, said, made = run([dice.pick([b"# " + line, b""]) for line in lines] + lines)
         assert status == 0 and said.startswith("signatures: %d text" % len(lines)), said
-        records = [made[at:at + 8] for at in range(0, len(made), 8)]
-        assert all(one < other for one, other in zip(records, records[1:]))
-        if len(lines) == 1:
-            assert made == texts.compile_text(signatures[0][1], signatures[0][0], bytes(70000)).list[:len(made)]
+        assert made == collected(signatures), lines
         for _ in range(PIECES):
             piece = texts_cases.piece_of(dice, dice.below(16))
             due = sorted({(offset, number) for number, text in signatures for offset in texts.ends(text, piece)})
@@ -84,14 +97,16 @@ def refused():
 
 
 def limits():
-    """1,024 states and 8,192 records pass, one more does not. The start states are shared."""
-    half = b"^a{300,300}b{211,211}"  # 511 positions
-    status, said, made = run([b"1 " + half, b"2 " + half])
+    """1,024 states and 8,192 records pass, one more does not. The start states are shared, and a text that stands twice needs its states once."""
+    halves = [b"1 ^a{300,300}b{211,211}", b"2 ^c{300,300}d{211,211}"]  # 511 positions each
+    status, said, made = run(halves)
     assert (status, said) == (0, "signatures: 2 texts, 1023 states, 1025 records\n"), said
-    status, said, made = run([b"1 " + half, b"2 " + half, b"3 ^c"])
+    status, said, made = run(halves + [b"3 ^e"])
     assert (status, said) == (0, "signatures: 3 texts, 1024 states, 1027 records\n"), said
-    assert run([b"1 " + half, b"2 " + half, b"3 ^cd"])[0::2] == (1, None)
-    assert run([b"1 " + half, b"2 " + half, b"3 c"])[0::2] == (1, None)
+    assert run(halves + [b"3 ^ef"])[0::2] == (1, None)
+    assert run(halves + [b"3 e"])[0::2] == (1, None)
+    status, said, made = run([halves[0], halves[0].replace(b"1 ", b"2 ", 1)])
+    assert (status, said) == (0, "signatures: 2 texts, 512 states, 514 records\n"), said
     many = [b"5 ^" + texts_cases.RUNS + b"{63,63}", b"6 ^" + b"b{%d,%d}"]
     status, said, made = run([many[0], many[1] % (125, 125)])
     assert (status, len(made)) == (0, 8 * 8192), said

@@ -101,7 +101,8 @@
 //! | `x*`, `x+`, `x?`, `x{m,n}` | any number of times; once or more; once or not; m to n times, m ≤ n ≤ 300. One such mark for a byte, class or bracket |
 //! | `^x` | x from offset 0 on, where `^` is the very first byte; else a match may begin anywhere |
 //!
-//! All ends of all matches are told. `tools/signatures` in the repository makes one list of a file of texts.
+//! All ends of all matches are told. [`List::join_in`] joins two lists, [`List::fold_in`] makes states with the same past one, and with `std`
+//! `List::compile_all` makes one list of many texts; `tools/signatures` in the repository does so with a file of them.
 //!
 //! # Linking
 //!
@@ -120,7 +121,7 @@
 //! # Features
 //!
 //! `std`, which is on unless default features are turned off, makes [`Refusal`], [`SplitError`] and [`CompileError`] errors of the standard library, and
-//! has `Table::build` and `List::compile`, which alone allocate memory. Without it the crate needs nothing but `core`. It builds with Rust 1.63 and later.
+//! has `Table::build`, `List::compile`, `List::compile_all`, `List::join` and `List::fold`, which alone allocate memory. Without it the crate needs nothing but `core`. It builds with Rust 1.63 and later.
 
 #![no_std]
 #![deny(missing_docs)]
@@ -130,6 +131,7 @@
 extern crate std;
 
 pub mod extended;
+mod join;
 pub mod raw;
 mod refusal;
 mod segments;
@@ -146,6 +148,8 @@ pub use sizes::{
 };
 pub use sizes::{MOST_NOTES, NOTE_SIZE};
 
+#[cfg(feature = "std")]
+pub use join::CollectError;
 pub use text::CompileError;
 #[cfg(feature = "std")]
 pub use text::Compiled;
@@ -1200,9 +1204,8 @@ impl<'a, B: AsRef<[u8]> + AsMut<[u8]>> Matrix<'a, B> {
     pub fn fill(list: &List<'a>, mut bytes: B) -> Result<Matrix<'a, B>, Refusal> {
         let matrix = bytes.as_mut();
         // SAFETY: each pointer and length is that of a slice that is borrowed over the call, the matrix's alone for writing.
-        let number = unsafe {
-            raw::watch_fill_matrix(list.bytes.as_ptr(), list.bytes.len(), matrix.as_mut_ptr(), matrix.len())
-        };
+        let number =
+            unsafe { raw::watch_fill_matrix(list.bytes.as_ptr(), list.bytes.len(), matrix.as_mut_ptr(), matrix.len()) };
         Refusal::verdict(number)?;
         Ok(Matrix { list: *list, bytes })
     }

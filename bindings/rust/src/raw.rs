@@ -84,7 +84,23 @@ pub struct WatchCompiled {
     pub refusal: u32,
 }
 
+/// What joining and folding answer, as C lays it out.
+#[repr(C)]
+#[derive(Clone, Copy, Debug, PartialEq, Eq)]
+pub struct WatchJoined {
+    /// Bytes of the list, 0 with every refusal.
+    pub length: u64,
+    /// 0, or the number of the refusal.
+    pub refusal: u32,
+}
+
 extern "C" {
+    /// Joins the list in the first `used` bytes of a lent one with another: refusals 1 to 3, 27 and 28. `list` is written, and overlaps nothing else.
+    pub fn watch_join(list: *mut u8, list_len: usize, used: u64, other: *const u8, other_len: usize) -> WatchJoined;
+
+    /// Folds a list into the front of a lent one: refusals 1 to 3 and 28. `folded` is written, and overlaps nothing else.
+    pub fn watch_fold(list: *const u8, list_len: usize, folded: *mut u8, folded_len: usize) -> WatchJoined;
+
     /// Compiles a signature text into the front of a lent list: refusals 20, 19 with its place, and 21.
     pub fn watch_compile(
         text: *const u8,

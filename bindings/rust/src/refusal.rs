@@ -4,7 +4,7 @@ use crate::{
 };
 use core::fmt;
 
-/// Why a call was refused. Each has a [`number`](Refusal::number), 1 to 22 or 24; of several that apply, the lowest is given, but 17 before 16, 18 of a
+/// Why a call was refused. Each has a [`number`](Refusal::number), 1 to 22, 24, 27 or 28; of several that apply, the lowest is given, but 17 before 16, 18 of a
 /// segment's sizes before all others, 24 before all others that are not of a list, and of 19 and 20 the one that stands first in the text.
 ///
 /// ```
@@ -73,6 +73,11 @@ pub enum Refusal {
     /// 24: moves or programs have a wrong length, a target is no state, or a record has another kind, a bit over 63, a counter over 15, a
     /// signature over 255, or an unused field that is not zero.
     Machine = 24,
+    /// 27: joining: the other list is refused by the list check.
+    OtherList = 27,
+    /// 28: joining: the front or the joined list is longer than the lent list, or the joined list has more than
+    /// [`MOST_RECORDS`](crate::MOST_RECORDS) records or a state not below [`STATES`]; folding: the lent list is shorter than the folded one.
+    ListRoom = 28,
 }
 
 impl Refusal {
@@ -101,9 +106,11 @@ impl Refusal {
         Refusal::TooBig,
         Refusal::Certificate,
         Refusal::Machine,
+        Refusal::OtherList,
+        Refusal::ListRoom,
     ];
 
-    /// The refusal's number, 1 to 22 or 24.
+    /// The refusal's number, 1 to 22, 24, 27 or 28.
     pub const fn number(self) -> u32 {
         self as u32
     }
@@ -187,6 +194,10 @@ impl fmt::Display for Refusal {
             Refusal::Machine => f.write_str(
                 "moves or programs have a wrong length, a target is no state, or a record has another kind, a bit over 63, \
                  a counter over 15, a signature over 255, or an unused field that is not zero",
+            ),
+            Refusal::OtherList => f.write_str("joining: the other list is refused by the list check"),
+            Refusal::ListRoom => f.write_str(
+                "the lent list is too short, or the joined list has more states or records than a list may have",
             ),
         }
     }

@@ -65,7 +65,7 @@ impl<'a> List<'a> {
     }
 }
 
-/// A list that was compiled, in memory of its own.
+/// A list that was compiled, joined or folded, in memory of its own.
 #[cfg(feature = "std")]
 #[derive(Clone, PartialEq, Eq)]
 pub struct Compiled {
@@ -74,6 +74,11 @@ pub struct Compiled {
 
 #[cfg(feature = "std")]
 impl Compiled {
+    /// A list that the archive wrote.
+    pub(crate) fn of(bytes: std::vec::Vec<u8>) -> Compiled {
+        Compiled { bytes }
+    }
+
     /// The list. It needs no check: it is proved that it would pass.
     pub fn list(&self) -> List<'_> {
         List { bytes: &self.bytes }

@@ -3,6 +3,7 @@ use watch_c::WatchBuilt;
 use watch_c::WatchCompiled;
 use watch_c::WatchFed;
 use watch_c::WatchHeld;
+use watch_c::WatchJoined;
 use watch_c::WatchOpened;
 use watch_c::WatchPart;
 ghost use mathlib.Core.Path.{_≡_};
@@ -19,8 +20,10 @@ ghost use Rattle.extended.specs.Extended.{extendedOpen, extendedFeed};
 ghost use lib.ListN.{length};
 ghost use Rattle.resends.specs.Resend.{taking, due};
 ghost use Rattle.certificates.specs.Certificate.{certificateRefusal};
-ghost use Rattle.watch_c.specs.Face.{version, faceBuilt, faceCompiled};
+ghost use Rattle.watch_c.specs.Face.{version, faceBuilt, faceCompiled, faceJoined, faceFolded};
 ghost use Rattle.compile.specs.Compile.{Compiles};
+ghost use Rattle.joins.specs.Join.{Joins};
+ghost use Rattle.folds.specs.Fold.{FoldAnswers};
 ghost use Rattle.faces.specs.Faced.{held, heldOpen};
 ghost use Rattle.faces.specs.Resent.{heldPlace, partOf};
 
@@ -239,4 +242,18 @@ fn drive_compile(text: &[u8], signature: u8, list: &mut [u8]) -> WatchCompiled
     ensures { λ r. ⌜ Compiles (now (text .entry)) signature (now (list .entry)) (faceCompiled r) (now (list .exit)) ⌝ }
 {
     watch_c::watch_compile(text, signature, list)
+}
+
+// Calls the exported name that joins two lists.
+fn drive_join(list: &mut [u8], used: u64, other: &[u8]) -> WatchJoined
+    ensures { λ r. ⌜ Joins (now (list .entry)) used (now (other .entry)) (faceJoined r) (now (list .exit)) ⌝ }
+{
+    watch_c::watch_join(list, used, other)
+}
+
+// Calls the exported name that folds a list.
+fn drive_fold(list: &[u8], folded: &mut [u8]) -> WatchJoined
+    ensures { λ r. ⌜ FoldAnswers (now (list .entry)) (now (folded .entry)) (faceFolded r) (now (folded .exit)) ⌝ }
+{
+    watch_c::watch_fold(list, folded)
 }

@@ -8,14 +8,17 @@ use Rattle.feeds.specs.declared.Fed.{Fed}
 use Rattle.tables.specs.Table.{Table}
 use Rattle.build.specs.Build.{Building}
 use Rattle.compile.specs.declared.Compiled.{Compiled}
+use Rattle.joins.specs.declared.Joined.{Joined}
+use Rattle.folds.specs.declared.Folded.{Folded}
 use Rattle.watch_c.specs.declared.WatchBuilt.{WatchBuilt}
 use Rattle.watch_c.specs.declared.WatchCompiled.{WatchCompiled}
 use Rattle.watch_c.specs.declared.WatchFed.{WatchFed}
+use Rattle.watch_c.specs.declared.WatchJoined.{WatchJoined}
 use Rattle.watch_c.specs.declared.WatchOpened.{WatchOpened}
 
 -- the version of the face, which rises with each change of a name, a size, a limit or a meaning in it
 abbrev pub version : ℕ
-version = 14
+version = 15
 
 -- the same four values
 pub record Faces (f : Fed) (w : WatchFed) : Type 0 where
@@ -47,3 +50,10 @@ faceBuilt w T = record { refusal = w .refusal; classes = w .classes; parts = w .
 -- the compiler's answer, as the library gives it
 abbrev pub faceCompiled : WatchCompiled → Compiled
 faceCompiled w = record { refusal = w .refusal; place = w .place; length = w .length }
+
+-- the answer of joining, and that of folding, as the library gives them
+abbrev pub faceJoined : WatchJoined → Joined
+faceJoined w = record { refusal = w .refusal; length = w .length }
+
+abbrev pub faceFolded : WatchJoined → Folded
+faceFolded w = record { refusal = w .refusal; length = w .length }

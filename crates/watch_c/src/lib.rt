@@ -1,4 +1,4 @@
-// The C face: the library's seventeen functions under names of their own, over numbers and slices, and the face's version. Nothing else is here.
+// The C face: the library's nineteen functions under names of their own, over numbers and slices, and the face's version. Nothing else is here.
 use feeds::Fed;
 ghost use mathlib.Core.Path.{_≡_};
 ghost use Rattle.lists.specs.List.{listRefusal};
@@ -14,12 +14,14 @@ ghost use Rattle.extended.specs.Extended.{extendedOpen, extendedFeed};
 ghost use lib.ListN.{length};
 ghost use Rattle.resends.specs.Resend.{taking, partDue};
 ghost use Rattle.watch_c.specs.Resent.{FaceTakes, FaceFinds};
-ghost use Rattle.watch_c.specs.Face.{version, Faces, FaceAnswers, FaceOpens, faceBuilt, faceCompiled};
+ghost use Rattle.watch_c.specs.Face.{version, Faces, FaceAnswers, FaceOpens, faceBuilt, faceCompiled, faceJoined, faceFolded};
 ghost use Rattle.certificates.specs.Certificate.{certificateRefusal};
 ghost use Rattle.compile.specs.Compile.{Compiles};
+ghost use Rattle.joins.specs.Join.{Joins};
+ghost use Rattle.folds.specs.Fold.{FoldAnswers};
 
 // The version of the face, by which a caller compares its header with the archive.
-pub const VERSION: u32 = 14;
+pub const VERSION: u32 = 15;
 
 // What a feed answers, as C lays it out.
 #[repr(C)]
@@ -51,6 +53,13 @@ pub struct WatchBuilt {
 #[repr(C)]
 pub struct WatchCompiled {
     pub place: u64,
+    pub length: u64,
+    pub refusal: u32,
+}
+
+// What joining and folding answer, as C lays it out: the length of the list that stands in front of the lent one.
+#[repr(C)]
+pub struct WatchJoined {
     pub length: u64,
     pub refusal: u32,
 }
@@ -357,6 +366,7 @@ pub extern "C" fn watch_check_certificate(
 {
     certificates::check_certificate(list, moves, programs, certificate)
 }
+
 // Compiles a signature text to a list in the front of a lent one; a refusal leaves it as it is.
 #[no_mangle]
 pub extern "C" fn watch_compile(text: &[u8], signature: u8, list: &mut [u8]) -> WatchCompiled
@@ -367,5 +377,29 @@ pub extern "C" fn watch_compile(text: &[u8], signature: u8, list: &mut [u8]) -> 
         place: compiled.place as u64,
         length: compiled.length as u64,
         refusal: compiled.refusal,
+    }
+}
+
+// Joins the list in the first `used` bytes of a lent one with another; a refusal leaves it as it is.
+#[no_mangle]
+pub extern "C" fn watch_join(list: &mut [u8], used: u64, other: &[u8]) -> WatchJoined
+    ensures { λ r. ⌜ Joins (now (list .entry)) used (now (other .entry)) (faceJoined r) (now (list .exit)) ⌝ }
+{
+    let joined = joins::join(list, used as usize, other);
+    WatchJoined {
+        length: joined.length as u64,
+        refusal: joined.refusal,
+    }
+}
+
+// Folds a list into the front of a lent one: states with the same past become one; a refusal leaves that as it is.
+#[no_mangle]
+pub extern "C" fn watch_fold(list: &[u8], folded: &mut [u8]) -> WatchJoined
+    ensures { λ r. ⌜ FoldAnswers (now (list .entry)) (now (folded .entry)) (faceFolded r) (now (folded .exit)) ⌝ }
+{
+    let answer = folds::fold(list, folded);
+    WatchJoined {
+        length: answer.length as u64,
+        refusal: answer.refusal,
     }
 }

@@ -1,0 +1,10 @@
+pub mod Renames
+pub mod Places
+pub mod Fields
+pub mod Staying
+pub mod Union
+pub mod Fitting
+pub mod Numbering
+pub mod Outlining
+pub mod Deciding
+pub mod Example

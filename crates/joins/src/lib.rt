@@ -1,0 +1,418 @@
+// Two signature lists joined into one: the second's states are renamed, and its records come behind the first's. Where both have a state that every
+// frontier holds, or one that the start set alone holds, the two become one. One walk over each list checks it and finds all that the naming needs;
+// then what the second adds is measured, and only then is anything written, by a table of the new numbers.
+use sets::StateSet;
+ghost use mathlib.Core.Path.{_≡_};
+ghost use mathlib.Core.Bool.{true, false, _||_, not, cond};
+ghost use Prim.Native.Nat.{suc, _+_, _*_, _<_, _≤_};
+ghost use lib.ListN.{length};
+ghost use lib.Dec.{ltb};
+ghost use Rattle.sets.specs.Set.{states, setOf, num, holds, insert, placed};
+ghost use Rattle.rules.specs.Scan.{every};
+ghost use Rattle.lists.specs.List.{mostRecords, records, isEdge, isStart, target, goodRecord, listRefusal};
+ghost use Rattle.lists.specs.Automaton.{higher, highest};
+ghost use Rattle.joins.specs.Join.{stays, lowest, nameBy, renamed, newFrom, newTarget, spare, adds, added, kept, fits};
+ghost use Rattle.joins.specs.Join.{Outlines, Narrow, Numbers, Plans, Joins};
+
+// How the states of the second list are named in the joined one: `next` is the first number that is free; where a state is shared, the second list's
+// state `own` is the first list's state `same`.
+pub struct Naming {
+    pub next: usize,
+    pub shared: bool,
+    pub own: usize,
+    pub same: usize,
+}
+
+// What one walk over a list finds: a refusal's number or 0, and then the highest state that it names, the states that start, those with a loop that
+// every byte takes, and those that an edge leads to.
+pub struct Outline {
+    pub refusal: u32,
+    pub top: usize,
+    pub starts: StateSet,
+    pub staying: StateSet,
+    pub reached: StateSet,
+}
+
+// What is decided before anything is written: a refusal's number or 0, and then the naming, and the highest state of the second list.
+pub struct Plan {
+    pub refusal: u32,
+    pub naming: Naming,
+    pub top: usize,
+}
+
+// What joining answers: a refusal's number or 0, and the length of the joined list.
+pub struct Joined {
+    pub refusal: u32,
+    pub length: usize,
+}
+
+// Says whether record i is a loop that every byte takes.
+fn stays(list: &[u8], i: usize) -> bool
+    requires { ⌜ i < records (now list) ⌝ }
+    ensures { λ r. ⌜ r ≡ stays (now (list .entry)) i ⌝ }
+{
+    if lists::is_edge(list, i) {
+        (lists::byte_of(list, i, 1) == 0)
+            & (lists::byte_of(list, i, 2) == 255)
+            & (lists::from(list, i) == lists::target(list, i))
+    } else {
+        false
+    }
+}
+
+// Takes record i into the words of three sets, of states that start, that stay and that are reached; answers the higher of n and the states that it
+// names.
+fn note(
+    list: &[u8],
+    i: usize,
+    n: usize,
+    starts: &mut [u64],
+    staying: &mut [u64],
+    reached: &mut [u64],
+) -> usize
+    requires { ⌜ i < records (now list) ⌝ }
+    ensures { λ r. ⌜ (r ≡ higher (now (list .entry)) i n)
+        × (num 64 (now (starts .exit)) ≡ cond (isStart (now (list .entry)) i) (insert (64 * length (now (starts .entry))) (num 64 (now (starts .entry))) (target (now (list .entry)) i)) (num 64 (now (starts .entry))))
+        × (num 64 (now (staying .exit)) ≡ cond (stays (now (list .entry)) i) (insert (64 * length (now (staying .entry))) (num 64 (now (staying .entry))) (target (now (list .entry)) i)) (num 64 (now (staying .entry))))
+        × (num 64 (now (reached .exit)) ≡ cond (isEdge (now (list .entry)) i) (insert (64 * length (now (reached .entry))) (num 64 (now (reached .entry))) (target (now (list .entry)) i)) (num 64 (now (reached .entry)))) ⌝ }
+{
+    let top = lists::higher(list, i, n);
+    lists::put_word(list, i, lists::TARGET, lists::is_start(list, i), starts);
+    lists::put_word(list, i, lists::TARGET, lists::is_edge(list, i), reached);
+    lists::put_word(list, i, lists::TARGET, stays(list, i), staying);
+    top
+}
+
+// The outline of a list that is refused.
+fn refused(refusal: u32) -> Outline
+    ensures { λ r. ⌜ r .refusal ≡ refusal ⌝ }
+{
+    let none = StateSet::EMPTY;
+    Outline {
+        refusal: refusal,
+        top: 0,
+        starts: none,
+        staying: none,
+        reached: none,
+    }
+}
+
+// The list check, with what else there is to know of the list, in one walk.
+fn find_outline(list: &[u8]) -> Outline
+    ensures { λ r. ⌜ Outlines (now (list .entry)) r ⌝ }
+{
+    if lists::bad_length(list) {
+        return refused(1);
+    }
+    let n = lists::records(list);
+    let none = StateSet::EMPTY;
+    let mut starts = none.words;
+    let mut staying = none.words;
+    let mut reached = none.words;
+    let mut top = 0usize;
+    for i in 0..n {
+        if !lists::good_record(list, i) {
+            return refused(2);
+        }
+        top = note(list, i, top, &mut starts, &mut staying, &mut reached);
+    }
+    if lists::no_start(list) {
+        return refused(3);
+    }
+    Outline {
+        refusal: rules::PASSED,
+        top: top,
+        starts: StateSet::of_words(starts),
+        staying: StateSet::of_words(staying),
+        reached: StateSet::of_words(reached),
+    }
+}
+
+// Says whether a state is in a set, or whether it is not, as is asked.
+fn agrees(y: StateSet, s: usize, inside: bool) -> bool
+    ensures { λ r. ⌜ r ≡ cond inside (holds (setOf y) s) (not (holds (setOf y) s)) ⌝ }
+{
+    let has = y.has(s);
+    if inside { has } else { !has }
+}
+
+// The lowest state of the first set that is in the second, or that is not, as is asked; the number of states where there is none.
+fn lowest(x: StateSet, y: StateSet, inside: bool) -> usize
+    ensures { λ r. ⌜ r ≡ lowest (setOf x) (setOf y) inside ⌝ }
+{
+    let mut s = words::next_state(x, 0, sets::STATES);
+    while s < sets::STATES {
+        if agrees(y, s, inside) {
+            return s;
+        }
+        s = words::next_state(x, s + 1, sets::STATES);
+    }
+    s
+}
+
+// The naming, by the first new number, two states that are always there and two that are there once.
+fn name_by(next: usize, i: usize, j: usize, k: usize, l: usize) -> Naming
+    ensures { λ r. ⌜ r ≡ nameBy next i j k l ⌝ }
+{
+    if (i < sets::STATES) & (j < sets::STATES) {
+        return Naming {
+            next: next,
+            shared: true,
+            own: j,
+            same: i,
+        };
+    }
+    if (k < sets::STATES) & (l < sets::STATES) {
+        return Naming {
+            next: next,
+            shared: true,
+            own: l,
+            same: k,
+        };
+    }
+    Naming {
+        next: next,
+        shared: false,
+        own: 0,
+        same: 0,
+    }
+}
+
+// How the states of the second list are named, by what the walks over both found.
+fn name_states(a: Outline, b: Outline) -> Naming
+    requires { ⌜ a .top < states ⌝ }
+    ensures { λ r. ⌜ r ≡ nameBy (suc (a .top)) (lowest (setOf (a .starts)) (setOf (a .staying)) true) (lowest (setOf (b .starts)) (setOf (b .staying)) true)
+        (lowest (setOf (a .starts)) (setOf (a .reached)) false) (lowest (setOf (b .starts)) (setOf (b .reached)) false) ⌝ }
+{
+    let x = a.starts;
+    let y = b.starts;
+    let i = lowest(x, a.staying, true);
+    let j = lowest(y, b.staying, true);
+    let k = lowest(x, a.reached, false);
+    let l = lowest(y, b.reached, false);
+    name_by(a.top + 1, i, j, k, l)
+}
+
+// The new number of a state.
+fn rename(n: Naming, t: usize) -> usize
+    requires { ⌜ (n .next ≤ 65536) × (t < 65536) ⌝ }
+    ensures { λ r. ⌜ r ≡ renamed n t ⌝ }
+{
+    if n.shared {
+        if t == n.own {
+            return n.same;
+        }
+        if t < n.own {
+            return n.next + t;
+        }
+        return n.next + t - 1;
+    }
+    n.next + t
+}
+
+// The state that record i leaves or names, renamed.
+fn new_from(n: Naming, b: &[u8], i: usize) -> usize
+    requires { ⌜ (n .next ≤ 65536) × (i < records (now b)) ⌝ }
+    ensures { λ r. ⌜ r ≡ newFrom n (now (b .entry)) i ⌝ }
+{
+    let t = lists::from(b, i);
+    if lists::is_edge(b, i) | lists::is_accept(b, i) {
+        return rename(n, t);
+    }
+    t
+}
+
+// The state that record i leads to, renamed, or the signature that it gives.
+fn new_target(n: Naming, b: &[u8], i: usize) -> usize
+    requires { ⌜ (n .next ≤ 65536) × (i < records (now b)) ⌝ }
+    ensures { λ r. ⌜ r ≡ newTarget n (now (b .entry)) i ⌝ }
+{
+    let t = lists::target(b, i);
+    if lists::is_edge(b, i) | lists::is_start(b, i) {
+        return rename(n, t);
+    }
+    t
+}
+
+// Says whether the first list has all that record i says.
+fn spare(n: Naming, b: &[u8], i: usize) -> bool
+    requires { ⌜ i < records (now b) ⌝ }
+    ensures { λ r. ⌜ r ≡ spare n (now (b .entry)) i ⌝ }
+{
+    if lists::target(b, i) == n.own {
+        n.shared & (lists::is_start(b, i) | lists::is_edge(b, i) & (lists::from(b, i) == n.own))
+    } else {
+        false
+    }
+}
+
+// Says whether what record i adds names states alone.
+fn fits(n: Naming, b: &[u8], i: usize) -> bool
+    requires { ⌜ (n .next ≤ 65536) × (i < records (now b)) ⌝ }
+    ensures { λ r. ⌜ r ≡ fits n (now (b .entry)) i ⌝ }
+{
+    spare(n, b, i) | (new_from(n, b, i) < sets::STATES) & (new_target(n, b, i) < sets::STATES)
+}
+
+// How many records b adds.
+fn kept(n: Naming, b: &[u8]) -> usize
+    ensures { λ r. ⌜ r ≡ kept n (now (b .entry)) (records (now (b .entry))) ⌝ }
+{
+    let m = lists::records(b);
+    let mut count = 0usize;
+    for i in 0..m {
+        if !spare(n, b, i) {
+            count = count + 1;
+        }
+    }
+    count
+}
+
+// Says whether what b adds behind a passes the lent list, or makes more records than a list may have. Where all of b has room nothing is counted.
+fn too_long(a: &[u8], lent: usize, n: Naming, b: &[u8]) -> bool
+    requires { ⌜ (listRefusal (now a) ≡ 0) × (listRefusal (now b) ≡ 0) ⌝ }
+    ensures { λ r. ⌜ r ≡ (ltb lent (length (now (a .entry)) + 8 * kept n (now (b .entry)) (records (now (b .entry))))
+        || ltb mostRecords (records (now (a .entry)) + kept n (now (b .entry)) (records (now (b .entry))))) ⌝ }
+{
+    let most = lists::records(a) + lists::records(b);
+    if (most <= lists::MOST_RECORDS) & (a.len() + b.len() <= lent) {
+        return false;
+    }
+    let k = kept(n, b);
+    (lent < a.len() + lists::RECORD_SIZE * k) | (lists::MOST_RECORDS < lists::records(a) + k)
+}
+
+// Says whether all that b adds names states alone. Where b's highest state gets such a number nothing is read.
+fn all_fit(n: Naming, top: usize, b: &[u8]) -> bool
+    requires { ⌜ (listRefusal (now b) ≡ 0) × (top ≡ highest (now b)) × Narrow n top ⌝ }
+    ensures { λ r. ⌜ r ≡ every (records (now (b .entry))) (fits n (now (b .entry))) ⌝ }
+{
+    let mut most = n.next + top;
+    if !n.shared {
+        most = most + 1;
+    }
+    if most <= sets::STATES {
+        return true;
+    }
+    let m = lists::records(b);
+    for i in 0..m {
+        if !fits(n, b, i) {
+            return false;
+        }
+    }
+    true
+}
+
+// The new numbers of the states up to the highest.
+fn new_numbers(n: Naming, top: usize) -> [u16; 1024]
+    requires { ⌜ Narrow n top ⌝ }
+    ensures { λ r. ⌜ Numbers n top r ⌝ }
+{
+    let mut new = [0u16; 1024];
+    for t in 0..top + 1 {
+        new[t] = (rename(n, t) % 65536) as u16;
+    }
+    new
+}
+
+// A number in two bytes.
+fn wide(x: u16) -> usize
+    ensures { λ r. ⌜ r ≡ x ⌝ }
+{
+    x as usize
+}
+
+// Writes what record i adds at a place; answers the place behind it.
+fn add_record(list: &mut [u8], at: usize, n: Naming, new: &[u16], b: &[u8], i: usize) -> usize
+    requires { ⌜ Numbers n (highest (now b)) (now new) × (i < records (now b)) × (goodRecord (now b) i ≡ true) × (at + length (adds n (now b) i) ≤ length (now list)) ⌝ }
+    ensures { λ r. ⌜ (r ≡ at + length (adds n (now (b .entry)) i)) × (now (list .exit) ≡ placed (now (list .entry)) at (adds n (now (b .entry)) i)) ⌝ }
+{
+    if spare(n, b, i) {
+        return at;
+    }
+    let mut f = lists::from(b, i);
+    if !lists::is_start(b, i) {
+        f = wide(new[f]);
+    }
+    let mut t = lists::target(b, i);
+    if !lists::is_accept(b, i) {
+        t = wide(new[t]);
+    }
+    lists::copy_record(list, at, b, i, f, t);
+    at + lists::RECORD_SIZE
+}
+
+// Writes what b adds, from a place on; answers the place behind it.
+fn add(list: &mut [u8], used: usize, n: Naming, top: usize, b: &[u8]) -> usize
+    requires { ⌜ (listRefusal (now b) ≡ 0) × (top ≡ highest (now b)) × Narrow n top × (used + length (added n (now b) (records (now b))) ≤ length (now list)) ⌝ }
+    ensures { λ r. ⌜ (r ≡ used + length (added n (now (b .entry)) (records (now (b .entry)))))
+        × (now (list .exit) ≡ placed (now (list .entry)) used (added n (now (b .entry)) (records (now (b .entry))))) ⌝ }
+{
+    let m = lists::records(b);
+    let new = new_numbers(n, top);
+    let mut at = used;
+    for i in 0..m {
+        at = add_record(list, at, n, &new, b, i);
+    }
+    at
+}
+
+// The plan of a call that is refused.
+fn stopped(refusal: u32) -> Plan
+    ensures { λ r. ⌜ r .refusal ≡ refusal ⌝ }
+{
+    let none = name_by(0, 0, 0, 0, 0);
+    Plan {
+        refusal: refusal,
+        naming: none,
+        top: 0,
+    }
+}
+
+// Decides on joining the front a, of `used` bytes, of a lent list with b: 1 to 3 of a, then 27, then 28.
+fn decide(a: &[u8], used: usize, lent: usize, b: &[u8]) -> Plan
+    ensures { λ r. ⌜ Plans (now (a .entry)) used lent (now (b .entry)) r ⌝ }
+{
+    let x = find_outline(a);
+    if x.refusal != rules::PASSED {
+        return stopped(x.refusal);
+    }
+    let y = find_outline(b);
+    if y.refusal != rules::PASSED {
+        return stopped(27);
+    }
+    let n = name_states(x, y);
+    if (lent < used) | too_long(a, lent, n, b) | !all_fit(n, y.top, b) {
+        return stopped(28);
+    }
+    Plan {
+        refusal: rules::PASSED,
+        naming: n,
+        top: y.top,
+    }
+}
+
+// Joins the list that stands in front of a lent list, in its first `used` bytes, with another: the joined list stands there then. On a refusal the
+// lent list stays as it was.
+pub fn join(list: &mut [u8], used: usize, other: &[u8]) -> Joined
+    ensures { λ r. ⌜ Joins (now (list .entry)) used (now (other .entry)) r (now (list .exit)) ⌝ }
+{
+    let lent = list.len();
+    let mut end = lent;
+    if used < lent {
+        end = used;
+    }
+    let p = decide(&list[0..end], used, lent, other);
+    if p.refusal != rules::PASSED {
+        return Joined {
+            refusal: p.refusal,
+            length: 0,
+        };
+    }
+    let n = p.naming;
+    let long = add(list, used, n, p.top, other);
+    Joined {
+        refusal: rules::PASSED,
+        length: long,
+    }
+}
