@@ -6,15 +6,20 @@
  *
  * Those are the commands on x86-64. Elsewhere the compiler is x86_64-linux-gnu-gcc with -static, and qemu-x86_64 stands before the program.
  *
- * Usage: certified FOLDER FLOW. The folder has our list, rules.bin, and what came with the automaton: moves.bin, programs.bin and certificate.bin. It
+ * Usage: certified FOLDER [FLOW]. The folder has our list, rules.bin, and what came with the automaton: moves.bin, programs.bin and certificate.bin. It
  * writes a line for each pair, signature and offset, and last `end` and the offset; or `refused` and the number. Where the certificate is refused
- * nothing is fed. It is checked once; the list is not looked at after that.
+ * nothing is fed. It is checked once; the list is not looked at after that. Without FLOW it writes `passed` where the certificate passes, and ends.
  *
- * The exit status is 0 where the flow ended, 1 where something was refused, 2 where a file could not be read or the archive is not the header's.
+ * certified --alone FOLDER FLOW runs the automaton as it stands: neither list nor certificate is looked at. tools/counters calls this program.
+ *
+ * The exit status is 0 where the flow ended or the certificate passed, 1 where something was refused, 2 where a file could not be read or the archive is
+ * not the header's.
  */
 #include <inttypes.h>
+#include <stdbool.h>
 #include <stdio.h>
 #include <stdlib.h>
+#include <string.h>
 
 #include "watch.h"
 
@@ -35,6 +40,15 @@ static FILE *opened(const char *name)
     return file;
 }
 
+static void closed(FILE *file, const char *name)
+{
+    if (ferror(file)) {
+        fprintf(stderr, "certified: cannot read %s\n", name);
+        exit(2);
+    }
+    fclose(file);
+}
+
 /* Reads a file of the folder; answers its length. */
 static size_t load(const char *folder, const char *name, uint8_t *bytes, size_t size)
 {
@@ -43,7 +57,7 @@ static size_t load(const char *folder, const char *name, uint8_t *bytes, size_t 
         exit(2);
     FILE *file = opened(path);
     size_t length = fread(bytes, 1, size, file);
-    fclose(file);
+    closed(file, path);
     return length;
 }
 
@@ -84,27 +98,35 @@ static int watch_file(size_t moves_len, size_t programs_len, const char *name)
             offset += fed.bytes;
         }
     }
-    fclose(file);
+    closed(file, name);
     printf("end %" PRIu64 "\n", offset);
     return 0;
 }
 
 int main(int argc, char **argv)
 {
-    if (argc != 3) {
-        fprintf(stderr, "usage: certified FOLDER FLOW\n");
+    bool alone = argc == 4 && strcmp(argv[1], "--alone") == 0;
+    if (argc != 2 && argc != 3 && !alone) {
+        fprintf(stderr, "usage: certified FOLDER [FLOW] | --alone FOLDER FLOW\n");
         return 2;
     }
     if (watch_version() != WATCH_VERSION) {
         fprintf(stderr, "certified: watch.h has version %d of the face, libwatch_c.a has %" PRIu32 "\n", WATCH_VERSION, watch_version());
         return 2;
     }
-    size_t list_len = load(argv[1], "rules", list, sizeof list);
-    size_t moves_len = load(argv[1], "moves", moves, sizeof moves);
-    size_t programs_len = load(argv[1], "programs", programs, sizeof programs);
-    size_t certificate_len = load(argv[1], "certificate", certificate, sizeof certificate);
-    uint32_t refusal = watch_check_certificate(list, list_len, moves, moves_len, programs, programs_len, certificate, certificate_len);
-    if (refusal != WATCH_PASSED)
-        return refused(refusal);
-    return watch_file(moves_len, programs_len, argv[2]);
+    const char *folder = argv[alone ? 2 : 1], *flow = argv[alone ? 3 : 2];
+    size_t moves_len = load(folder, "moves", moves, sizeof moves);
+    size_t programs_len = load(folder, "programs", programs, sizeof programs);
+    if (!alone) {
+        size_t list_len = load(folder, "rules", list, sizeof list);
+        size_t certificate_len = load(folder, "certificate", certificate, sizeof certificate);
+        uint32_t refusal = watch_check_certificate(list, list_len, moves, moves_len, programs, programs_len, certificate, certificate_len);
+        if (refusal != WATCH_PASSED)
+            return refused(refusal);
+    }
+    if (flow == NULL) {
+        printf("passed\n");
+        return 0;
+    }
+    return watch_file(moves_len, programs_len, flow);
 }

@@ -1,17 +1,10 @@
-"""What tools/show says of an automaton with bits and counters and of a flow record of one."""
+"""What tools/show says of an automaton with bits and counters and of a flow record of one. Its words
+of an automaton are those that tools/counters reads."""
 
 import bits
+import bits_words
 
-SAID = {
-    bits.SET: "set bit %(which)d",
-    bits.CLEAR: "clear bit %(which)d",
-    bits.COUNT: "set counter %(which)d to %(number)d",
-    bits.STOP: "turn counter %(which)d off",
-    bits.LOWER: "lower counter %(which)d",
-    bits.ALERT: "alert %(number)d",
-    bits.ALERT_BIT: "alert %(number)d if bit %(which)d is set",
-    bits.ALERT_ZERO: "alert %(number)d if counter %(which)d is 0",
-}
+MOST_STATES = 64  # that are shown unless all are asked for
 
 
 def count(number, one, many):
@@ -20,18 +13,6 @@ def count(number, one, many):
 
 def byte(value):
     return "'%s'" % chr(value) if 32 < value < 127 and value != 39 else "%02X" % value
-
-
-def ranges(values):
-    """Bytes that rise, as single ones and runs."""
-    out, at = [], 0
-    while at < len(values):
-        end = at
-        while end + 1 < len(values) and values[end + 1] == values[end] + 1:
-            end += 1
-        out.append(byte(values[at]) if at == end else "%s to %s" % (byte(values[at]), byte(values[end])))
-        at = end + 1
-    return ", ".join(out)
 
 
 def why_bad(one):
@@ -67,34 +48,31 @@ def first_fault(moves, programs):
                 return "record %d of state %d: %s" % (place, state, why_bad(one))
 
 
+def reached(moves):
+    """The states that bytes lead to from state 0, and that one."""
+    found, new = {0}, [0]
+    while new:
+        state = new.pop()
+        for target in {bits.target(moves, state, value) for value in range(256)} - found:
+            found.add(target)
+            new.append(target)
+    return found
+
+
 def tell_machine(moves, programs, whole):
-    """Refusal and lines."""
+    """Refusal and lines: a file of words, but for the last line where states are left out."""
     refusal = bits.refused(moves, programs)
     if refusal:
         return refusal, ["refused, 24: " + first_fault(moves, programs)]
     states = len(moves) // bits.X_MOVES_SIZE
-    lines = ["an automaton with bits and counters, of %s: it passes" % count(states, "state", "states")]
-    reached, new = {0}, [0]
-    while new:
-        state = new.pop()
-        for target in {bits.target(moves, state, value) for value in range(256)} - reached:
-            reached.add(target)
-            new.append(target)
-    shown = range(states) if whole or states <= 64 else range(64)
-    for state in shown:
-        lines.append("state %d%s" % (state, "" if state in reached else ", which no byte leads to from state 0"))
-        done = [SAID[one.kind] % one._asdict() for one in bits.instructions(programs, state) if one.kind != 0]
-        lines.append("    runs: " + ("; ".join(done) if done else "nothing"))
-        leads = {}
-        for value in range(256):
-            leads.setdefault(bits.target(moves, state, value), []).append(value)
-        common = max(leads, key=lambda target: (len(leads[target]), -target))
-        for target in sorted(leads):
-            if target != common:
-                lines.append("    on %s: state %d" % (ranges(leads[target]), target))
-        lines.append("    on %s: state %d" % ("every byte" if len(leads) == 1 else "every other byte", common))
-    if len(shown) < states:
-        lines.append("and %d states more, which --all shows" % (states - len(shown)))
+    lines = ["# an automaton with bits and counters, of %s: it passes" % count(states, "state", "states")]
+    found = reached(moves)
+    shown = states if whole else min(states, MOST_STATES)
+    for state in range(shown):
+        lines.append("state %d%s" % (state, "" if state in found else "  # no byte leads here from state 0"))
+        lines += bits_words.state_lines(moves, programs, state)
+    if shown < states:
+        lines.append("and %s more, which --all shows" % count(states - shown, "state", "states"))
     return 0, lines
 
 

@@ -139,13 +139,16 @@ class Automaton:
         self.named = frozenset().union(
             self.starts, (e.source for e in self.edges), (e.target for e in self.edges),
             (a.state for a in self.accepts))
+        self.leaving = {}  # a state's edges
+        for edge in self.edges:
+            self.leaving.setdefault(edge.source, []).append(edge)
         self.steps = {}
 
     def step(self, frontier, byte):
         key = (frontier, byte)
         if key not in self.steps:
             self.steps[key] = frozenset(
-                e.target for e in self.edges if e.source in frontier and e.takes(byte))
+                e.target for state in frontier for e in self.leaving.get(state, ()) if e.takes(byte))
         return self.steps[key]
 
     def signatures(self, frontier):

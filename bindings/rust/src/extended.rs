@@ -21,6 +21,13 @@
 //! assert_eq!((flow.state(), flow.counter(0)), (0, None)); // off again
 //! # Ok::<(), watch::Refusal>(())
 //! ```
+//!
+//! With `std` a `Builder` makes these lists of states, moves and instructions, and `Certificate::explore` finds the certificate of a list.
+
+#[cfg(feature = "std")]
+pub use crate::explore::{Explored, NoCertificate};
+#[cfg(feature = "std")]
+pub use crate::machines::{BuildError, Builder, Instruction, MachineLists, State, MOST_INSTRUCTIONS};
 
 use crate::{archive_version, pairs_in, raw, Fed, List, Pair, Refusal};
 use crate::{ENOUGH_WORDS, NOTE_SIZE, VERSION, X_COUNTERS, X_FLOW_SIZE, X_MOVES_SIZE, X_OFF};

@@ -80,8 +80,9 @@
 //!
 //! # Bits and counters
 //!
-//! [`extended`] is another kind of automaton, for signatures whose lists would be huge, such as "a line longer than 300 after this word". A
-//! [`Certificate`](extended::Certificate) that passes says that one of them tells just the pairs of a list.
+//! [`extended`] is another kind of automaton, for signatures whose lists would be huge, such as "a line longer than 300 after this word". With `std`
+//! its `Builder` makes one of states, moves and instructions. A [`Certificate`](extended::Certificate) that passes says that one of them tells just the
+//! pairs of a list, and with `std` `Certificate::explore` finds it.
 //!
 //! # Resends
 //!
@@ -121,7 +122,8 @@
 //! # Features
 //!
 //! `std`, which is on unless default features are turned off, makes [`Refusal`], [`SplitError`] and [`CompileError`] errors of the standard library, and
-//! has `Table::build`, `List::compile`, `List::compile_all`, `List::join` and `List::fold`, which alone allocate memory. Without it the crate needs nothing but `core`. It builds with Rust 1.63 and later.
+//! has `Table::build`, `List::compile`, `List::compile_all`, `List::join`, `List::fold`, `extended::Builder` and `extended::Certificate::explore`, which
+//! alone allocate memory. Without it the crate needs nothing but `core`. It builds with Rust 1.63 and later.
 
 #![no_std]
 #![deny(missing_docs)]
@@ -130,8 +132,12 @@
 #[cfg(feature = "std")]
 extern crate std;
 
+#[cfg(feature = "std")]
+mod explore;
 pub mod extended;
 mod join;
+#[cfg(feature = "std")]
+mod machines;
 pub mod raw;
 mod refusal;
 mod segments;
