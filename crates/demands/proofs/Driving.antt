@@ -162,7 +162,7 @@ due-as : (L bs cs ws vs : List ℕ) → bs ≡ cs → ws ≡ vs → Due L bs ws 
 due-as L bs cs ws vs p q h = rw (p, q) at h
 
 -- by the list, an accepted table, and what the fillers wrote: whatever the number says, what a feed goes by is checked
-checked-by : (L : List ℕ) (b : ℕ) (T : Table) (X Y : List ℕ) → tableRefusal L b T ≡ 0 → X ≡ filled L → Y ≡ filledIndex L T → Bytes (T .splits) → (k : ℕ) → Checked L (viaBy b T X Y k)
+pub checked-by : (L : List ℕ) (b : ℕ) (T : Table) (X Y : List ℕ) → tableRefusal L b T ≡ 0 → X ≡ filled L → Y ≡ filledIndex L T → Bytes (T .splits) → (k : ℕ) → Checked L (viaBy b T X Y k)
 checked-by L b T X Y ok x y h k = go (eqb k 1) (eqb k 2) (eqb k 3)
   where
     go : (p q r : Bool) → Checked L (cond p (byTable b T) (cond q (byMatrix X) (cond r (byIndex b T Y) byList)))

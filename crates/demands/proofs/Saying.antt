@@ -99,7 +99,7 @@ module _ (L : List ℕ) where
         λ w. e .1 (w .0, w .1, λ h. w .2 (named-bytes L (w .0) .0 h)),
       )
 
-  feed-says : (R : List ℕ) (at : ℕ) (piece : List ℕ) → Says (feedRules L R at piece) (feedWords L R at piece)
+  pub feed-says : (R : List ℕ) (at : ℕ) (piece : List ℕ) → Says (feedRules L R at piece) (feedWords L R at piece)
   feed-says R at piece =
       says-append (listRules L) (flowRules (within (frontierOf R) (named L)) R at piece) (listWords L) (flowWords (Foreign L R) R at piece) list-says
       (refl, either-words _ (Foreign L R) (badFlow R) (not (within (frontierOf R) (named L))) (bad-flow R) (foreign R), (refl, other-start R at, (refl, too-long R piece, tt)))

@@ -54,7 +54,7 @@ fn note(notes: &mut [usize], i: usize, fed: Fed)
 }
 
 // Feeds a piece by what the number says: 1 the table, 2 the matrix, 3 the index, else the list.
-fn feed_by(
+pub fn feed_by(
     list: &[u8],
     bound: u64,
     classes: &[u8],
