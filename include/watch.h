@@ -166,6 +166,10 @@
  *     28   joining: `used` is over the lent list's length, or the joined list is, or that has more than WATCH_MOST_RECORDS records or a state that is
  *          not below WATCH_STATES; folding: the lent list is shorter than the folded one
  *
+ *     25   of a question why: the offset lies before start or behind start + piece length; or, with n = offset - start, run_len is under n + 1 or
+ *          work_len under WATCH_SET_SIZE x (n + 1)
+ *     26   of a question why: the pair is not due there, or the state not in the frontier; of an edge: no record is one
+ *
  * Of such an automaton's flow record 4 says: not WATCH_X_FLOW_SIZE bytes long; or, when it is fed, a state that the moves do not have, a reserved
  * byte that is not zero, or a counter over WATCH_X_OFF.
  *
@@ -175,7 +179,8 @@
  * and 14 per byte; the filler of a matrix 1 to 3 and 8; the matrix feed 1 to 6 and 8; the filler of an index 1 to 3 and 7 to 13; the prepared
  * feed 4 to 6 and 8, and 14 per byte; building 1 to 3, then 17, then 16; taking a segment 18; the watch_x_ functions 24, their opening then
  * 4 and 15, their feed 4, 5 and 6; the check of a certificate 1 to 3, then 24, then 22; compiling 20, 19 and 21; joining
- * 1 to 3, 27 and 28; folding 1 to 3 and 28. A refusal other than 14 and 16 changes no buffer.
+ * 1 to 3, 27 and 28; folding 1 to 3 and 28; watch_why and watch_why_state 1 to 6, then 25, then 26; watch_edge 1 to 3 and
+ * 26. A refusal other than 14 and 16 changes no buffer.
  *
  *
  * WHAT THE CALLER OWES
@@ -185,7 +190,7 @@
  *
  *   - Each pointer is good for its length, as C means it: x_len bytes can be read at x, and the flow_len bytes, the pairs_len words, the
  *     bytes of a matrix or an index that is filled, the lists that watch_build and watch_compile are lent and the held buffer of watch_take can
- *     also be written. pairs is aligned as a uint32_t; nothing else has to be aligned.
+ *     also be written, and so can run and work. pairs is aligned as a uint32_t, run as a uint16_t; nothing else has to be aligned.
  *   - Through a pointer with length 0 nothing is read or written, so it may point anywhere. Give one that is not NULL, as the
  *     address of any object: the code takes NULL with length 0 today, and that is tested, but it is no part of what is proved. NULL
  *     with another length is an error.
@@ -236,7 +241,7 @@ extern "C" {
 #endif
 
 /* The version of the face that this header describes. */
-#define WATCH_VERSION 15
+#define WATCH_VERSION 16
 
 /* Bytes of stack that a call takes at most, and that one of watch_compile does. */
 #define WATCH_MOST_STACK 23040
@@ -345,6 +350,8 @@ enum watch_refusal {
     WATCH_REFUSED_TOO_BIG = 21,
     WATCH_REFUSED_CERTIFICATE = 22,
     WATCH_REFUSED_MACHINE = 24,
+    WATCH_REFUSED_PLACE = 25,
+    WATCH_REFUSED_NOT_DUE = 26,
     WATCH_REFUSED_OTHER_LIST = 27,
     WATCH_REFUSED_LIST_ROOM = 28
 };
@@ -413,6 +420,14 @@ struct watch_joined {
 
 typedef struct watch_joined watch_joined;
 
+/* What watch_edge answers. */
+struct watch_found {
+    uint64_t record;  /* the record's place in the list, counted from 0; 0 with every refusal */
+    uint32_t refusal; /* WATCH_PASSED, 0, or the number of the refusal */
+};
+
+typedef struct watch_found watch_found;
+
 #if defined(__cplusplus) && __cplusplus >= 201103L
 static_assert(sizeof(watch_held) == 12 && sizeof(watch_part) == 24 && offsetof(watch_part, where) == 16, "watch.h: the layout is that of x86-64");
 static_assert(sizeof(size_t) == 8 && sizeof(watch_fed) == 24, "watch.h: the layout is that of x86-64");
@@ -420,6 +435,7 @@ static_assert(sizeof(watch_built) == 40 && offsetof(watch_built, parts) == 8 && 
               offsetof(watch_built, refusal) == 32, "watch.h: the layout is that of x86-64");
 static_assert(sizeof(watch_compiled) == 24 && offsetof(watch_compiled, length) == 8 && offsetof(watch_compiled, refusal) == 16,
               "watch.h: the layout is that of x86-64");
+static_assert(sizeof(watch_found) == 16 && offsetof(watch_found, refusal) == 8, "watch.h: the layout is that of x86-64");
 static_assert(sizeof(watch_opened) == 16 && offsetof(watch_opened, refusal) == 8, "watch.h: the layout is that of x86-64");
 static_assert(sizeof(watch_joined) == 16 && offsetof(watch_joined, refusal) == 8, "watch.h: the layout is that of x86-64");
 static_assert(offsetof(watch_fed, pairs) == 8 && offsetof(watch_fed, refusal) == 16 && offsetof(watch_fed, all) == 20,
@@ -431,6 +447,7 @@ _Static_assert(sizeof(watch_built) == 40 && offsetof(watch_built, parts) == 8 &&
                offsetof(watch_built, refusal) == 32, "watch.h: the layout is that of x86-64");
 _Static_assert(sizeof(watch_compiled) == 24 && offsetof(watch_compiled, length) == 8 && offsetof(watch_compiled, refusal) == 16,
                "watch.h: the layout is that of x86-64");
+_Static_assert(sizeof(watch_found) == 16 && offsetof(watch_found, refusal) == 8, "watch.h: the layout is that of x86-64");
 _Static_assert(sizeof(watch_opened) == 16 && offsetof(watch_opened, refusal) == 8, "watch.h: the layout is that of x86-64");
 _Static_assert(sizeof(watch_joined) == 16 && offsetof(watch_joined, refusal) == 8, "watch.h: the layout is that of x86-64");
 _Static_assert(offsetof(watch_fed, pairs) == 8 && offsetof(watch_fed, refusal) == 16 && offsetof(watch_fed, all) == 20,
@@ -616,6 +633,37 @@ watch_joined watch_join(uint8_t *list, size_t list_len,
 watch_joined watch_fold(const uint8_t *list, size_t list_len,
                         uint8_t *folded, size_t folded_len);
 
+/* Says why the pair (signature, offset) is due: a run of the automaton that gives it. The record is one saved before the piece, which begins at its
+ * offset `start`; it is not changed. To ask from the opening on, give the record that watch_open left, start 0 and the flow's bytes. With n = offset -
+ * start, the first n + 1 numbers of run are then states: the first is in the record's frontier, each byte of the piece has an edge record that leads
+ * from one state to the next, and the last accepts the signature. Of all such runs it is the one with the lowest state at the end, then the lowest
+ * before it, and so on backwards. run_len counts 16-bit numbers, and run is aligned as a uint16_t. work is room for WATCH_SET_SIZE x (n + 1) bytes;
+ * afterwards it holds the frontiers after 0 to n of the bytes, one behind the other. What is behind in run and work stays. offset = start is asked of the
+ * record itself, 0 at opening too. 0 is answered exactly where the pair is due: for every pair that a feed by any engine told there is a run, from any
+ * record of the flow saved before it. Refusals 1 to 6, then 25, then 26, change nothing. run and work overlap nothing else of the call. */
+uint32_t watch_why(const uint8_t *list, size_t list_len,
+                   const uint8_t *flow, size_t flow_len,
+                   uint64_t start,
+                   const uint8_t *piece, size_t piece_len,
+                   uint32_t signature, uint64_t offset,
+                   uint16_t *run, size_t run_len,
+                   uint8_t *work, size_t work_len);
+
+/* Says why a state is in the frontier at an offset: the same, of a run whose last state is this one. So a long flow is explained backwards: ask watch_why
+ * on the last record saved before the pair, then this of the run's first state on the record before that, with the bytes between the two, and so on. The
+ * runs joined are the one that watch_why would tell of all these bytes at once. */
+uint32_t watch_why_state(const uint8_t *list, size_t list_len,
+                         const uint8_t *flow, size_t flow_len,
+                         uint64_t start,
+                         const uint8_t *piece, size_t piece_len,
+                         uint32_t state, uint64_t offset,
+                         uint16_t *run, size_t run_len,
+                         uint8_t *work, size_t work_len);
+
+/* The edge that a step of a run takes: the first record of the list that leads from one state to another on a byte. Refusals 1 to 3; 26 where no
+ * record does, and for a byte over 255. */
+watch_found watch_edge(const uint8_t *list, size_t list_len, uint32_t from, uint32_t byte, uint32_t to);
+
 /* A size as text within a sentence. */
 #define WATCH_TEXT_OF(tokens) #tokens
 #define WATCH_TEXT(size) WATCH_TEXT_OF(size)
@@ -679,6 +727,10 @@ static inline const char *watch_refusal_text(uint32_t n)
     case WATCH_REFUSED_MACHINE:
         return "the moves or the programs have a wrong length, a target is no state, or a record has another kind, a bit, counter or signature "
                "that there is not, or an unused field that is not zero";
+    case WATCH_REFUSED_PLACE:
+        return "the offset lies before the piece or behind it, or a lent buffer is too short for the run";
+    case WATCH_REFUSED_NOT_DUE:
+        return "the pair is not due there, the state is not in the frontier, or no edge leads so";
     case WATCH_REFUSED_OTHER_LIST:
         return "the other list is refused by the list check";
     case WATCH_REFUSED_LIST_ROOM:

@@ -15,6 +15,7 @@ mod inputs;
 mod later;
 mod ordinary;
 mod proved;
+mod reasons;
 mod resends;
 mod sizes;
 mod texts;
@@ -55,6 +56,7 @@ struct Side {
     segment: fn(&resends::Work, &mut [u8]) -> Fed,
     check_certificate: fn(&certificates::Work) -> u32,
     compile: fn(&texts::Work, &mut [u8]) -> Fed,
+    why: fn(&reasons::Work, &mut Vec<u8>) -> Fed,
 }
 
 const PROVED: Side = Side {
@@ -72,6 +74,7 @@ const PROVED: Side = Side {
     segment: resends::proved,
     check_certificate: certificates::proved,
     compile: texts::proved,
+    why: reasons::proved,
 };
 
 const ORDINARY: Side = Side {
@@ -89,6 +92,7 @@ const ORDINARY: Side = Side {
     segment: resends::by_rust,
     check_certificate: certificates::by_rust,
     compile: texts::by_rust,
+    why: reasons::by_rust,
 };
 
 /// What a row calls, and on what.
@@ -132,6 +136,7 @@ enum Call {
     Segment(resends::Work),
     CheckCertificate(certificates::Work),
     Compile(texts::Work),
+    Why(reasons::Work),
 }
 
 /// A row of the table: its name, how many calls a turn of bench/count has, and what makes its list and call.
@@ -304,6 +309,7 @@ impl Work {
             }
             Call::CheckCertificate(work) => checked((side.check_certificate)(work)),
             Call::Compile(work) => (side.compile)(work, &mut buffers.list),
+            Call::Why(work) => (side.why)(work, &mut buffers.held),
         }
     }
 
@@ -339,6 +345,7 @@ impl Work {
             | Call::MatrixFeed { piece, .. }
             | Call::PreparedFeed { piece, .. } => Some(piece.len()),
             Call::Extended(work) => work.bytes(),
+            Call::Why(work) => work.bytes(),
             _ => None,
         }
     }
@@ -828,6 +835,13 @@ fn rows() -> Vec<Row> {
             name.to_string(),
             turn,
             Box::new(move || (Vec::new(), Call::Compile(make()))),
+        );
+    }
+    for (name, turn, make) in reasons::rows() {
+        row(
+            name.to_string(),
+            turn,
+            Box::new(move || (Vec::new(), Call::Why(make()))),
         );
     }
     let wanted = std::env::var("ROWS").unwrap_or_default();

@@ -163,20 +163,21 @@ def state_shapes(state, x, y, reached, signatures):
     return out
 
 
-def arrow_shapes(place, between):
+def arrow_shapes(place, between, taken=frozenset()):
     """Arrows, and their labels with a white border, which stand over all else."""
     arrows, labels = [], []
     for source, target in sorted(between):
         path, (x, y) = arrow(place, source, target, (target, source) in between)
-        arrows.append('<path d="%s" fill="none" stroke="#357" marker-end="url(#tip)"/>' % path)
+        width = ' stroke-width="3"' if (source, target) in taken else ""
+        arrows.append('<path d="%s" fill="none" stroke="#357"%s marker-end="url(#tip)"/>' % (path, width))
         labels.append('<text x="%.1f" y="%.1f">%s</text>'
                       % (x, y, escaped(label(between[source, target]))))
     return arrows, (['<g fill="#357" stroke="#fff" stroke-width="3" paint-order="stroke">']
                     + labels + ["</g>"])
 
 
-def picture(data):
-    """The automaton of a good list."""
+def picture(data, taken=frozenset()):
+    """The automaton of a good list; the edges between these states are drawn broad."""
     nfa = model.automaton(data)
     reached = reach.Reach(nfa)
     place, width, height = places(reached)
@@ -192,7 +193,7 @@ def picture(data):
            ' markerHeight="7" orient="auto"><path d="M0 0 L8 4 L0 8 z" fill="#357"/></marker>'
            "</defs>",
            '<rect width="%d" height="%d" fill="#fff"/>' % (width, height)]
-    arrows, labels = arrow_shapes(place, between)
+    arrows, labels = arrow_shapes(place, between, taken)
     out += arrows
     for state in sorted(place):
         _, x, y = place[state]

@@ -37,16 +37,12 @@ def frontiers(nfa, flow):
 
 
 def run(records, fronts, flow, last):
-    """States, one for each offset, of a run that ends in state last. It waits in a
-    state that loops as long as it can."""
+    """States, one for each offset, of the lowest run that ends in state last: before each
+    stands the lowest state of the frontier there from which the byte leads to it."""
     out = [last]
     for at in range(len(fronts) - 1, 0, -1):
-        state, byte = out[-1], flow[at - 1]
-        if state in fronts[at - 1] and records.edge(state, state, byte) is not None:
-            out.append(state)
-        else:
-            out.append(min(source for source in fronts[at - 1]
-                           if records.edge(source, state, byte) is not None))
+        out.append(min(source for source in fronts[at - 1]
+                       if records.edge(source, out[-1], flow[at - 1]) is not None))
     return out[::-1]
 
 
@@ -102,8 +98,22 @@ def run_lines(records, states, flow, whole=False):
     return out
 
 
-def why(data, flow, signature, offset, whole=False):
-    """Whether the pair is due, and lines that say why. The list is a good one."""
+def model_run(data, flow, signature, offset):
+    """The run that the search here finds of a pair that is due."""
+    nfa = model.automaton(data)
+    fronts = frontiers(nfa, flow[:offset])
+    return run(Records(data), fronts, flow, min(accepting(nfa, signature) & fronts[offset]))
+
+
+def place_words(flow, offset):
+    """Where a byte stands, for a person with the flow in an editor."""
+    line = flow.count(b"\n", 0, offset - 1) + 1
+    return "Byte %d is column %d of line %d." % (offset, offset - 1 - flow.rfind(b"\n", 0, offset - 1), line)
+
+
+def why(data, flow, signature, offset, whole=False, told=None, runs=None):
+    """Whether the pair is due, and lines that say why. The list is a good one. The run is the one told, where there is
+    one, else the one found here; it is put into runs."""
     nfa, records = model.automaton(data), Records(data)
     due = accepting(nfa, signature)
     not_due = "The pair %d %d is not due: " % (signature, offset)
@@ -120,13 +130,15 @@ def why(data, flow, signature, offset, whole=False):
                 saying.moment(offset).capitalize(), saying.members(fronts[offset]), signature,
                 saying.counted("state", due)),
             told_at(nfa, flow, signature, due)]
-    states = run(records, fronts, flow, ends[0])
+    states = told if told is not None else run(records, fronts, flow, ends[0])
+    if runs is not None:
+        runs.append(states)
     lines = ["The pair %d %d is due. A run of the automaton that leads to it:"
              % (signature, offset)]
     lines += run_lines(records, states, flow, whole)
     lines.append("state %d accepts signature %d %s, by record %d" % (
         ends[0], signature, saying.moment(offset), records.accepts[ends[0], signature]))
-    return True, lines
+    return True, lines + ([place_words(flow, offset)] if offset else [])
 
 
 def accepting(nfa, signature):

@@ -143,6 +143,7 @@ mod refusal;
 mod segments;
 mod sizes;
 mod text;
+mod why;
 
 pub use refusal::{Refusal, SplitError};
 pub use segments::{Held, Segments};
@@ -156,6 +157,7 @@ pub use sizes::{MOST_NOTES, NOTE_SIZE};
 
 #[cfg(feature = "std")]
 pub use join::CollectError;
+pub use why::Question;
 pub use text::CompileError;
 #[cfg(feature = "std")]
 pub use text::Compiled;

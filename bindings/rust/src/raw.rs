@@ -94,6 +94,33 @@ pub struct WatchJoined {
     pub refusal: u32,
 }
 
+/// What the question which edge is taken answers, as C lays it out.
+#[repr(C)]
+#[derive(Clone, Copy, Debug, PartialEq, Eq)]
+pub struct WatchFound {
+    /// The record's place in the list, counted from 0; 0 with a refusal.
+    pub record: u64,
+    /// 0, or the number of the refusal.
+    pub refusal: u32,
+}
+
+/// The two questions why: list, flow, start, piece, signature or state, offset, run and work.
+pub(crate) type WatchWhy = unsafe extern "C" fn(
+    *const u8,
+    usize,
+    *const u8,
+    usize,
+    u64,
+    *const u8,
+    usize,
+    u32,
+    u64,
+    *mut u16,
+    usize,
+    *mut u8,
+    usize,
+) -> u32;
+
 extern "C" {
     /// Joins the list in the first `used` bytes of a lent one with another: refusals 1 to 3, 27 and 28. `list` is written, and overlaps nothing else.
     pub fn watch_join(list: *mut u8, list_len: usize, used: u64, other: *const u8, other_len: usize) -> WatchJoined;
@@ -307,4 +334,41 @@ extern "C" {
         certificate: *const u8,
         certificate_len: usize,
     ) -> u32;
+
+    /// Says why a pair is due: refusals 1 to 6, then 25, then 26. `run` and `work` are written, and overlap nothing else of the call.
+    pub fn watch_why(
+        list: *const u8,
+        list_len: usize,
+        flow: *const u8,
+        flow_len: usize,
+        start: u64,
+        piece: *const u8,
+        piece_len: usize,
+        signature: u32,
+        offset: u64,
+        run: *mut u16,
+        run_len: usize,
+        work: *mut u8,
+        work_len: usize,
+    ) -> u32;
+
+    /// Says why a state is in the frontier: the same.
+    pub fn watch_why_state(
+        list: *const u8,
+        list_len: usize,
+        flow: *const u8,
+        flow_len: usize,
+        start: u64,
+        piece: *const u8,
+        piece_len: usize,
+        state: u32,
+        offset: u64,
+        run: *mut u16,
+        run_len: usize,
+        work: *mut u8,
+        work_len: usize,
+    ) -> u32;
+
+    /// The first edge record that leads from one state to another on a byte: refusals 1 to 3 and 26.
+    pub fn watch_edge(list: *const u8, list_len: usize, from: u32, byte: u32, to: u32) -> WatchFound;
 }

@@ -4,7 +4,7 @@ use crate::{
 };
 use core::fmt;
 
-/// Why a call was refused. Each has a [`number`](Refusal::number), 1 to 22, 24, 27 or 28; of several that apply, the lowest is given, but 17 before 16, 18 of a
+/// Why a call was refused. Each has a [`number`](Refusal::number), 1 to 22 or 24 to 28; of several that apply, the lowest is given, but 17 before 16, 18 of a
 /// segment's sizes before all others, 24 before all others that are not of a list, and of 19 and 20 the one that stands first in the text.
 ///
 /// ```
@@ -73,6 +73,10 @@ pub enum Refusal {
     /// 24: moves or programs have a wrong length, a target is no state, or a record has another kind, a bit over 63, a counter over 15, a
     /// signature over 255, or an unused field that is not zero.
     Machine = 24,
+    /// 25: why: the offset lies before the piece or behind it, or a lent buffer is too short for the run.
+    Place = 25,
+    /// 26: why: the pair is not due there, the state is not in the frontier, or no edge leads so.
+    NotDue = 26,
     /// 27: joining: the other list is refused by the list check.
     OtherList = 27,
     /// 28: joining: the front or the joined list is longer than the lent list, or the joined list has more than
@@ -106,11 +110,13 @@ impl Refusal {
         Refusal::TooBig,
         Refusal::Certificate,
         Refusal::Machine,
+        Refusal::Place,
+        Refusal::NotDue,
         Refusal::OtherList,
         Refusal::ListRoom,
     ];
 
-    /// The refusal's number, 1 to 22, 24, 27 or 28.
+    /// The refusal's number, 1 to 22 or 24 to 28.
     pub const fn number(self) -> u32 {
         self as u32
     }
@@ -195,6 +201,8 @@ impl fmt::Display for Refusal {
                 "moves or programs have a wrong length, a target is no state, or a record has another kind, a bit over 63, \
                  a counter over 15, a signature over 255, or an unused field that is not zero",
             ),
+            Refusal::Place => f.write_str("the offset lies before the piece or behind it, or a lent buffer is too short for the run"),
+            Refusal::NotDue => f.write_str("the pair is not due there, the state is not in the frontier, or no edge leads so"),
             Refusal::OtherList => f.write_str("joining: the other list is refused by the list check"),
             Refusal::ListRoom => f.write_str(
                 "the lent list is too short, or the joined list has more states or records than a list may have",

@@ -2,6 +2,7 @@
 use watch_c::WatchBuilt;
 use watch_c::WatchCompiled;
 use watch_c::WatchFed;
+use watch_c::WatchFound;
 use watch_c::WatchHeld;
 use watch_c::WatchJoined;
 use watch_c::WatchOpened;
@@ -24,6 +25,9 @@ ghost use Rattle.watch_c.specs.Face.{version, faceBuilt, faceCompiled, faceJoin
 ghost use Rattle.compile.specs.Compile.{Compiles};
 ghost use Rattle.joins.specs.Join.{Joins};
 ghost use Rattle.folds.specs.Fold.{FoldAnswers};
+ghost use Rattle.watch_c.specs.Why.{faceFound};
+ghost use Rattle.reasons.specs.Run.{ofSignature, ofState};
+ghost use Rattle.reasons.specs.Reason.{Explains, Finds};
 ghost use Rattle.faces.specs.Faced.{held, heldOpen};
 ghost use Rattle.faces.specs.Resent.{heldPlace, partOf};
 
@@ -256,4 +260,43 @@ fn drive_fold(list: &[u8], folded: &mut [u8]) -> WatchJoined
     ensures { λ r. ⌜ FoldAnswers (now (list .entry)) (now (folded .entry)) (faceFolded r) (now (folded .exit)) ⌝ }
 {
     watch_c::watch_fold(list, folded)
+}
+
+// Calls the exported name that says why a pair is due.
+fn drive_why(
+    list: &[u8],
+    flow: &[u8],
+    start: u64,
+    piece: &[u8],
+    signature: u32,
+    offset: u64,
+    run: &mut [u16],
+    work: &mut [u8],
+) -> u32
+    ensures { λ r. ⌜ Explains (now (list .entry)) (now (flow .entry)) start (now (piece .entry)) (ofSignature signature) offset (now (run .entry)) (now (work .entry)) r (now (run .exit)) (now (work .exit)) ⌝ }
+{
+    watch_c::watch_why(list, flow, start, piece, signature, offset, run, work)
+}
+
+// Calls the exported name that says why a state is in the frontier.
+fn drive_why_state(
+    list: &[u8],
+    flow: &[u8],
+    start: u64,
+    piece: &[u8],
+    state: u32,
+    offset: u64,
+    run: &mut [u16],
+    work: &mut [u8],
+) -> u32
+    ensures { λ r. ⌜ Explains (now (list .entry)) (now (flow .entry)) start (now (piece .entry)) (ofState state) offset (now (run .entry)) (now (work .entry)) r (now (run .exit)) (now (work .exit)) ⌝ }
+{
+    watch_c::watch_why_state(list, flow, start, piece, state, offset, run, work)
+}
+
+// Calls the exported name that finds an edge.
+fn drive_edge(list: &[u8], from: u32, byte: u32, to: u32) -> WatchFound
+    ensures { λ r. ⌜ Finds (now (list .entry)) from byte to (faceFound r) ⌝ }
+{
+    watch_c::watch_edge(list, from, byte, to)
 }

@@ -1,2 +1,3 @@
 pub mod Face
 pub mod Resent
+pub mod Why

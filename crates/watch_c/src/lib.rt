@@ -1,4 +1,4 @@
-// The C face: the library's nineteen functions under names of their own, over numbers and slices, and the face's version. Nothing else is here.
+// The C face: the library's twenty-two functions under names of their own, over numbers and slices, and the face's version. Nothing else is here.
 use feeds::Fed;
 ghost use mathlib.Core.Path.{_≡_};
 ghost use Rattle.lists.specs.List.{listRefusal};
@@ -19,9 +19,12 @@ ghost use Rattle.certificates.specs.Certificate.{certificateRefusal};
 ghost use Rattle.compile.specs.Compile.{Compiles};
 ghost use Rattle.joins.specs.Join.{Joins};
 ghost use Rattle.folds.specs.Fold.{FoldAnswers};
+ghost use Rattle.reasons.specs.Run.{ofSignature, ofState};
+ghost use Rattle.reasons.specs.Reason.{Explains, Finds};
+ghost use Rattle.watch_c.specs.Why.{faceFound};
 
 // The version of the face, by which a caller compares its header with the archive.
-pub const VERSION: u32 = 15;
+pub const VERSION: u32 = 16;
 
 // What a feed answers, as C lays it out.
 #[repr(C)]
@@ -401,5 +404,58 @@ pub extern "C" fn watch_fold(list: &[u8], folded: &mut [u8]) -> WatchJoined
     WatchJoined {
         length: answer.length as u64,
         refusal: answer.refusal,
+    }
+}
+
+// Says why a pair is due: 0 and the states of a run that gives it, or the number of the refusal, which changes nothing.
+#[no_mangle]
+pub extern "C" fn watch_why(
+    list: &[u8],
+    flow: &[u8],
+    start: u64,
+    piece: &[u8],
+    signature: u32,
+    offset: u64,
+    run: &mut [u16],
+    work: &mut [u8],
+) -> u32
+    ensures { λ r. ⌜ Explains (now (list .entry)) (now (flow .entry)) start (now (piece .entry)) (ofSignature signature) offset (now (run .entry)) (now (work .entry)) r (now (run .exit)) (now (work .exit)) ⌝ }
+{
+    reasons::why(list, flow, start, piece, signature, offset, run, work)
+}
+
+// Says why a state is in the frontier at an offset: the same, of a run that leads to it.
+#[no_mangle]
+pub extern "C" fn watch_why_state(
+    list: &[u8],
+    flow: &[u8],
+    start: u64,
+    piece: &[u8],
+    state: u32,
+    offset: u64,
+    run: &mut [u16],
+    work: &mut [u8],
+) -> u32
+    ensures { λ r. ⌜ Explains (now (list .entry)) (now (flow .entry)) start (now (piece .entry)) (ofState state) offset (now (run .entry)) (now (work .entry)) r (now (run .exit)) (now (work .exit)) ⌝ }
+{
+    reasons::why_state(list, flow, start, piece, state, offset, run, work)
+}
+
+// What the question which edge record leads from one state to another answers, as C lays it out; the place is `record` there.
+#[repr(C)]
+pub struct WatchFound {
+    pub place: u64,
+    pub refusal: u32,
+}
+
+// Says which edge record leads from one state to another on a byte: the first, counted from 0.
+#[no_mangle]
+pub extern "C" fn watch_edge(list: &[u8], from: u32, byte: u32, to: u32) -> WatchFound
+    ensures { λ r. ⌜ Finds (now (list .entry)) from byte to (faceFound r) ⌝ }
+{
+    let found = reasons::find_edge(list, from, byte, to);
+    WatchFound {
+        place: found.place as u64,
+        refusal: found.refusal,
     }
 }

@@ -1,0 +1,5 @@
+pub mod Words
+pub mod Said
+pub mod Told
+pub mod Drivers
+pub mod Examples
