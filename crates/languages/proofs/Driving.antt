@@ -13,7 +13,8 @@ use Rattle.feeds.specs.Demands.{openTold}
 use Rattle.feeds.specs.declared.Fed.{Fed}
 use Rattle.feeds.specs.declared.Opened.{Opened}
 use Rattle.plain.specs.Plain.{openFlow, plainFeed}
-use Rattle.demands.specs.Calls.{byList, Call, bytesOf, wordsOf}
+use Rattle.demands.specs.Calls.{byList, Call, bytesOf, wordsOf, InBytes, Each}
+use Rattle.demands.specs.Demands.{Swaps}
 use Rattle.texts.specs.Grammar.{Text}
 use Rattle.texts.specs.Records.{listOf}
 use Rattle.compile.specs.declared.Compiled.{Compiled}
@@ -22,7 +23,7 @@ use Rattle.compile.specs.Words.{Reading}
 use Rattle.compile.proofs.Exactly.{compile-refused}
 use Rattle.languages.specs.declared.Served.{Served}
 use Rattle.languages.specs.declared.Drove.{Drove}
-use Rattle.languages.specs.Flows.{front, Past, Tells, Serves}
+use Rattle.languages.specs.Flows.{front, Past, PassesAll, Tells}
 use Rattle.languages.specs.Drivers.{Tries, TextServed}
 use Rattle.languages.proofs.Flows.{compiled-serves, written-front}
 
@@ -35,7 +36,7 @@ compiled-fits T g A r B bytes small c =
       | no v ↦ omega (arith, compile-refused T g A r B bytes c v .1)
     ]
 
-module _ (x : Text) (g : ℕ) (L : List ℕ) (s : Serves x g L) (R out piece more : List ℕ) (bytes : Bytes piece) (r : Served) (ws vs : List ℕ) (t : Tries L R out piece more r ws vs) where
+module _ (L R out piece more : List ℕ) (r : Served) (ws vs : List ℕ) (t : Tries L R out piece more r ws vs) where
   abbrev o : Opening
   o = openFlow L R out
 
@@ -45,11 +46,12 @@ module _ (x : Text) (g : ℕ) (L : List ℕ) (s : Serves x g L) (R out piece mor
   fed : Answers (plainFeed L (o .saved) 0 piece more) (r .fed) vs (t .end)
   fed = subst (λ Q. Answers (plainFeed L Q 0 piece more) (r .fed) vs (t .end)) (t .opens .saved) (t .feeds)
 
-  pub served-passes : (r .checked ≡ 0) × Past (r .opened .refusal) × Past (r .fed .refusal)
-  served-passes = (
-    t .checked ∙ s .passes .lists,
-    subst Past (sym (t .opens .refusal)) (s .passes .opens R out),
-    subst Past (sym (fed .refusal)) (s .passes .feeds (o .saved) 0 piece more),
+  -- of a list that is refused with 1 to 3 nowhere
+  pub tried-passes : PassesAll L → (r .checked ≡ 0) × Past (r .opened .refusal) × Past (r .fed .refusal)
+  tried-passes p = (
+    t .checked ∙ p .lists,
+    subst Past (sym (t .opens .refusal)) (p .opens R out),
+    subst Past (sym (fed .refusal)) (p .feeds (o .saved) 0 piece more),
   )
 
   eaten : bytesOf (o .saved) (c ∷ []) ≡ take (r .fed .bytes) piece
@@ -65,15 +67,18 @@ module _ (x : Text) (g : ℕ) (L : List ℕ) (s : Serves x g L) (R out piece mor
   opened : openTold o ≡ take (2 * r .opened .pairs) ws
   opened = ap (λ (n : ℕ). take (2 * n) (o .words)) (sym (t .opens .pairs)) ∙ ap (take (2 * r .opened .pairs)) (sym (t .opens .words))
 
-  pub served-tells : r .opened .refusal ≡ 0 → Tells x g (take (r .fed .bytes) piece) (take (2 * r .opened .pairs) ws ++ take (2 * r .fed .pairs) vs)
-  served-tells z =
-      rw (eaten, told, opened) at (s .tells R out (sym (t .opens .refusal) ∙ z) (c ∷ []) (bytes, tt) ((λ v. (refl, tt)), tt))
+  -- what holds of the bytes and words of every flow under the list holds of those of these calls
+  pub tried-tells : (P : List ℕ → List ℕ → Type 0)
+      → ((R out : List ℕ) → openFlow L R out .refusal ≡ 0 → (cs : List Call) → InBytes cs → Each (Swaps L) (openFlow L R out .saved) cs
+      → P (bytesOf (openFlow L R out .saved) cs) (openTold (openFlow L R out) ++ wordsOf (openFlow L R out .saved) cs))
+      → Bytes piece → r .opened .refusal ≡ 0 → P (take (r .fed .bytes) piece) (take (2 * r .opened .pairs) ws ++ take (2 * r .fed .pairs) vs)
+  tried-tells P f bytes z = rw (eaten, told, opened) at (f R out (sym (t .opens .refusal) ∙ z) (c ∷ []) (bytes, tt) ((λ v. (refl, tt)), tt))
 
 pub text-served : (T : List ℕ) (g : ℕ) (A : List ℕ) (B R out piece more : List ℕ) (r : Drove) (ws vs : List ℕ) → Bytes T → g < 256 → Bytes piece
     → Compiles T g A (r .compiled) B → Tries (front (r .compiled) B) R out piece more (r .served) ws vs → TextServed T g piece r ws vs
 text-served T g A B R out piece more r ws vs bt small bp c t =
     record {
-      passes = λ z. let (x, e, s) = compiled-serves T g A (r .compiled) B bt small c z in served-passes x g (front (r .compiled) B) s R out piece more bp (r .served) ws vs t;
+      passes = λ z. let (x, e, s) = compiled-serves T g A (r .compiled) B bt small c z in tried-passes (front (r .compiled) B) R out piece more (r .served) ws vs t (s .passes);
       tells = λ z y. let (x, e, s) = compiled-serves T g A (r .compiled) B bt small c z in
-          (x, e, served-tells x g (front (r .compiled) B) s R out piece more bp (r .served) ws vs t y);
+          (x, e, tried-tells (front (r .compiled) B) R out piece more (r .served) ws vs t (Tells x g) (s .tells) bp y);
     }

@@ -7,10 +7,10 @@ ghost use lib.ListN.{take};
 ghost use Rattle.languages.specs.Drivers.{Tries, TextServed};
 
 // What the calls on a list answered: its check, the opening, and the feed.
-struct Served {
-    checked: u32,
-    opened: Opened,
-    fed: Fed,
+pub struct Served {
+    pub checked: u32,
+    pub opened: Opened,
+    pub fed: Fed,
 }
 
 // What compiling answered, and then the calls on what it wrote.
@@ -20,7 +20,13 @@ struct Drove {
 }
 
 // Checks a list, opens a flow on it, and feeds a piece from offset 0.
-fn serve(list: &[u8], flow: &mut [u8], words: &mut [u32], piece: &[u8], pairs: &mut [u32]) -> Served
+pub fn serve(
+    list: &[u8],
+    flow: &mut [u8],
+    words: &mut [u32],
+    piece: &[u8],
+    pairs: &mut [u32],
+) -> Served
     ensures { λ r. ⌜ Tries (now (list .entry)) (now (flow .entry)) (now (words .entry)) (now (piece .entry)) (now (pairs .entry)) r (now (words .exit)) (now (pairs .exit)) ⌝ }
 {
     let checked = lists::check_list(list);
