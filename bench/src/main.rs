@@ -12,6 +12,7 @@ mod certificates;
 mod clock;
 mod extended;
 mod inputs;
+mod joined;
 mod later;
 mod ordinary;
 mod proved;
@@ -724,6 +725,29 @@ fn rows() -> Vec<Row> {
                     let list = inputs::orders_list(records);
                     let states = ordinary::states_of(&list);
                     let call = matrix_fed(&list, states, 1, bytes(4096));
+                    (list, call)
+                }),
+            );
+        }
+    }
+    let lists: [(&str, fn() -> Vec<u8>); 2] = [
+        ("64 texts joined", joined::joined),
+        ("64 texts joined and folded", joined::folded),
+    ];
+    for (what, list) in lists {
+        for (kind, bytes) in [("a feeder's line", joined::FEEDER), ("many pairs", joined::DENSE)] {
+            row(
+                format!("plain feed, {what}, {kind}"),
+                1,
+                Box::new(move || (list(), fed(1, bytes[..1024].to_vec()))),
+            );
+            row(
+                format!("matrix feed, {what}, {kind}"),
+                2,
+                Box::new(move || {
+                    let list = list();
+                    let states = ordinary::states_of(&list);
+                    let call = matrix_fed(&list, states, 1, bytes.to_vec());
                     (list, call)
                 }),
             );
