@@ -55,17 +55,24 @@
  * to, or that starts or accepts), and each byte, a set. The set of state s and byte c is number s x WATCH_BYTE_VALUES + c, so that a matrix
  * has WATCH_ROW_SIZE bytes for each state: at most WATCH_MOST_MATRIX.
  *
- * The index of a table is what the prepared feed runs: WATCH_INDEX_SIZE(n) bytes where there are n splits. First the set of the states that
- * some record of the list names; then WATCH_ENTRY_SIZE bytes for each split:
+ * The index of splits is what the prepared feed runs: WATCH_INDEX_SIZE(n) bytes where there are n
+ * splits. First the set of the states that some record of the list names; then for each split an
+ * entry of WATCH_ENTRY_SIZE bytes. The entry of split i, counted from 0, stands at place
+ * WATCH_INDEX_SIZE(i), counted in bytes from the index's front:
  *
- *     0-127       64 split numbers of 2 bytes, counted from 0: where each class leads; 0 for a class that the table does not have
- *     128-159     the signatures told on reaching the split: signature g is bit g mod 8 of byte g div 8
- *     160         the rows that a byte at the split costs: the slots that it takes
- *     161         1 where there are signatures to tell, else 0
- *     162-191     zeros
+ *     0-1023      a word of 4 bytes for each byte: the place of the entry that it leads to, and
+ *                 WATCH_TELLING more where that one tells
+ *     1024-1055   the signatures told on reaching the split: signature g is bit g mod 8 of byte g
+ *                 div 8
+ *     1056        the rows that a byte at the split costs: the slots that it takes
+ *     1057        1 where a record of the list names each state of the split's set, else 0
+ *     1058-1087   zeros
  *
- * watch_fill_index writes it. It holds for the list, the bound and the table that it was filled for, byte by byte as they were; fill it again
- * where one of them changes. An index of another table with as many splits is not told from a good one: it is run as it stands.
+ * watch_fill_index writes it for a table, watch_prepare splits and index for a list: each of these
+ * splits is a set and four unused slots, and a byte at it costs one row. An index holds for the
+ * list, the bound and the table that it was filled for, byte by byte as they were; make it again
+ * where one of them changes. Any other bytes of the right length are run as they stand: see
+ * watch_prepared_feed.
  *
  * An automaton with bits and counters is two lists. It has one state, WATCH_X_BITS bits and WATCH_X_COUNTERS counters, each of which is off or a
  * number up to 65,535; a byte moves the state alone, whatever bits and counters are, and then the program of the new state runs. State 0 starts, with all bits
@@ -148,10 +155,12 @@
  *     12   the start set is no split
  *     13   for some split and some byte, the automaton's step of the split's set is no split
  *     14   at a byte of a split feed: the frontier is no split, or the slots taken name no part or are more than the bound; at a byte of a
- *          prepared feed: the frontier is not found among the splits, or the byte before led to a number that names no split
+ *          prepared feed: the frontier is not found among the splits, or the byte before led to a place without a whole entry
  *     15   at opening: the pairs of offset 0 are more than pairs_len div 2
- *     16   building: more than WATCH_MOST_PARTS sets can be reached from the start set, or more than WATCH_MOST_CLASS + 1 classes are needed
- *     17   building: a lent list is shorter than WATCH_LENT_CLASSES, WATCH_LENT_PARTS, WATCH_LENT_ROWS or WATCH_LENT_SPLITS bytes
+ *     16   building: more than WATCH_MOST_PARTS sets can be reached from the start set, or more than WATCH_MOST_CLASS + 1 classes are needed;
+ *          preparing: more than WATCH_MOST_SPLITS sets can be reached
+ *     17   building: a lent list is shorter than WATCH_LENT_CLASSES, WATCH_LENT_PARTS, WATCH_LENT_ROWS or WATCH_LENT_SPLITS bytes;
+ *          preparing: the lent splits are shorter than WATCH_PREPARE_SPLITS bytes, or the lent index than WATCH_PREPARE_INDEX
  *     18   of a segment: it has more than WATCH_MOST_SEGMENT bytes, held_len is not WATCH_HELD_SIZE, held_length is over that; or it begins
  *          ahead, and another segment is held or it has more than WATCH_HELD_SIZE bytes
  *     19   compiling: the text does not fit; place is the first byte, counted from 0, with which no continuation fits, or the text's length
@@ -177,10 +186,10 @@
  *
  * The list check gives 1 to 3; opening 1 to 4 and 15; the plain feed 1 to 6; the table check 1 to 3 and 7 to 13; the split feed 1 to 9,
  * and 14 per byte; the filler of a matrix 1 to 3 and 8; the matrix feed 1 to 6 and 8; the filler of an index 1 to 3 and 7 to 13; the prepared
- * feed 4 to 6 and 8, and 14 per byte; building 1 to 3, then 17, then 16; taking a segment 18; the watch_x_ functions 24, their opening then
+ * feed 4 to 6 and 8, and 14 per byte; building and preparing 1 to 3, then 17, then 16; taking a segment 18; the watch_x_ functions 24, their opening then
  * 4 and 15, their feed 4, 5 and 6; the check of a certificate 1 to 3, then 24, then 22; compiling 20, 19 and 21; joining
  * 1 to 3, 27 and 28; folding 1 to 3 and 28; watch_why and watch_why_state 1 to 6, then 25, then 26; watch_edge 1 to 3 and
- * 26. A refusal other than 14 and 16 changes no buffer.
+ * 26. A refusal other than 14 and 16 changes no buffer; 16, of building and of preparing alike, fills the lent lists with zeros.
  *
  *
  * WHAT THE CALLER OWES
@@ -189,12 +198,12 @@
  * caller's, and a call that breaks it has no promise at all:
  *
  *   - Each pointer is good for its length, as C means it: x_len bytes can be read at x, and the flow_len bytes, the pairs_len words, the
- *     bytes of a matrix or an index that is filled, the lists that watch_build and watch_compile are lent and the held buffer of watch_take can
+ *     bytes of a matrix or an index that is filled, the lists that watch_build, watch_prepare and watch_compile are lent and the held buffer of watch_take can
  *     also be written, and so can run and work. pairs is aligned as a uint32_t, run as a uint16_t; nothing else has to be aligned.
  *   - Through a pointer with length 0 nothing is read or written, so it may point anywhere. Give one that is not NULL, as the
  *     address of any object: the code takes NULL with length 0 today, and that is tested, but it is no part of what is proved. NULL
  *     with another length is an error.
- *   - flow and pairs are written, by a filler its matrix or index, by watch_build its four lists, by watch_compile its list, and by watch_take the held buffer, so none
+ *   - flow and pairs are written, by a filler its matrix or index, by watch_build its four lists, by watch_prepare its two, by watch_compile its list, and by watch_take the held buffer, so none
  *     overlaps another buffer of the call. The buffers that are only read may overlap one another, or be the same.
  *   - Nobody else writes any buffer of a call, or reads flow or pairs, while the call runs. Calls in several threads may share lists and
  *     tables; each has its own flow and pairs.
@@ -204,12 +213,13 @@
  * COST AND CONTEXT
  *
  *   - Stack: WATCH_MOST_STACK bytes below the caller's frame at most, whatever the input, return addresses and red zone counted; that is for
- *     watch_fold, which keeps numbers of states and records there. watch_check_certificate, which keeps the places of the records, takes 9,920,
- *     watch_join, which keeps the new numbers of states, 5,448, and all others but one 1,600 at most: watch_compile keeps a row for each state, 160
+ *     watch_prepare and watch_fill_index, which keep the sets that the bytes lead to from a split there. watch_fold, which keeps numbers of
+ *     states and records, takes 23,040, watch_check_certificate, which keeps the places of the records, 9,920, watch_join, which keeps the
+ *     new numbers of states, 5,448, and all others but one 1,600 at most: watch_compile keeps a row for each state, 160
  *     KiB, goes as deep as the brackets do, and takes WATCH_COMPILE_STACK. tools/stack reads the number off the archive for each function, and
  *     tools/test-outside holds these to it.
  *   - No heap, no statics, no locks, no system calls: the archive has no data that can be written, and calls nothing outside itself but C's
- *     memset, which clears a matrix that is filled, the places of a certificate's records, the numbers of watch_fold and watch_join and the compiler's rows, and memcpy, in
+ *     memset, which clears a matrix that is filled, the sets of watch_prepare and watch_fill_index, the places of a certificate's records, the numbers of watch_fold and watch_join and the compiler's rows, and memcpy, in
  *     watch_compile and watch_join; a compiler asks for both without an operating system too. Their stack is not in the numbers above. So every function is
  *     reentrant: threads, tasks and signal handlers may be in it at once, each with its own flow and pairs.
  *   - The code uses the general registers, the registers of SSE2 and the 128 bytes below the stack pointer, the red zone. So it is not for a
@@ -241,10 +251,10 @@ extern "C" {
 #endif
 
 /* The version of the face that this header describes. */
-#define WATCH_VERSION 16
+#define WATCH_VERSION 17
 
 /* Bytes of stack that a call takes at most, and that one of watch_compile does. */
-#define WATCH_MOST_STACK 23040
+#define WATCH_MOST_STACK 35008
 #define WATCH_COMPILE_STACK 230592
 
 /* States are the numbers below this one. */
@@ -295,16 +305,22 @@ extern "C" {
 #define WATCH_ROW_SIZE (WATCH_BYTE_VALUES * WATCH_SET_SIZE)
 #define WATCH_MOST_MATRIX (WATCH_STATES * WATCH_ROW_SIZE)
 
-/* Bytes in the entry of a split in an index; of an index of so many splits; and of the largest. */
-#define WATCH_ENTRY_SIZE 192
+/* Bytes in the entry of a split in an index; of an index of so many splits; and of the largest. What a
+ * word of an index has more where the entry that it leads to tells. */
+#define WATCH_ENTRY_SIZE 1088
 #define WATCH_INDEX_SIZE(splits) (WATCH_SET_SIZE + WATCH_ENTRY_SIZE * (splits))
 #define WATCH_MOST_INDEX (WATCH_SET_SIZE + WATCH_ENTRY_SIZE * WATCH_MOST_SPLITS)
+#define WATCH_TELLING 2147483648
 
 /* The bytes that each of the four lists has to have that a table is built in. */
 #define WATCH_LENT_CLASSES WATCH_BYTE_VALUES
 #define WATCH_LENT_PARTS (WATCH_SET_SIZE * WATCH_MOST_PARTS)
 #define WATCH_LENT_ROWS (WATCH_SET_SIZE * WATCH_MOST_PARTS * (WATCH_MOST_CLASS + 1))
 #define WATCH_LENT_SPLITS (WATCH_SPLIT_SIZE * WATCH_MOST_PARTS)
+
+/* The bytes that the splits and the index have to have that watch_prepare is lent. */
+#define WATCH_PREPARE_SPLITS (WATCH_SPLIT_SIZE * WATCH_MOST_SPLITS)
+#define WATCH_PREPARE_INDEX WATCH_MOST_INDEX
 
 /* Of an automaton with bits and counters: the most states, the bytes of a state's moves and of its program, the bits and counters, the number
  * that says off in a flow record, and the bytes of a flow record. */
@@ -374,6 +390,27 @@ struct watch_fed {
 
 typedef struct watch_fed watch_fed;
 
+/* What the prepared feed answers. */
+struct watch_stood {
+    uint64_t bytes;   /* bytes consumed, from the front of the piece */
+    uint64_t pairs;   /* pairs written: twice as many words */
+    uint32_t refusal; /* WATCH_PASSED, 0, or the number of the refusal */
+    uint32_t split;   /* where the flow then stands, counted from 0; the number of splits where it
+                       * stands at none, with 14 too; with 4, 5, 6 and 8 the hint handed in */
+    bool all;         /* whether the whole piece was consumed; false with every refusal */
+};
+
+typedef struct watch_stood watch_stood;
+
+/* What preparing answers. */
+struct watch_made {
+    uint64_t splits;  /* bytes used of each list: 0 with every refusal */
+    uint64_t index;
+    uint32_t refusal; /* WATCH_PASSED, 0, or the number of the refusal */
+};
+
+typedef struct watch_made watch_made;
+
 /* What building a table answers. */
 struct watch_built {
     uint64_t classes; /* bytes used of each list: 0 with every refusal */
@@ -435,6 +472,10 @@ static_assert(sizeof(watch_built) == 40 && offsetof(watch_built, parts) == 8 && 
               offsetof(watch_built, refusal) == 32, "watch.h: the layout is that of x86-64");
 static_assert(sizeof(watch_compiled) == 24 && offsetof(watch_compiled, length) == 8 && offsetof(watch_compiled, refusal) == 16,
               "watch.h: the layout is that of x86-64");
+static_assert(sizeof(watch_stood) == 32 && offsetof(watch_stood, pairs) == 8 && offsetof(watch_stood, refusal) == 16 &&
+              offsetof(watch_stood, split) == 20 && offsetof(watch_stood, all) == 24, "watch.h: the layout is that of x86-64");
+static_assert(sizeof(watch_made) == 24 && offsetof(watch_made, index) == 8 && offsetof(watch_made, refusal) == 16,
+              "watch.h: the layout is that of x86-64");
 static_assert(sizeof(watch_found) == 16 && offsetof(watch_found, refusal) == 8, "watch.h: the layout is that of x86-64");
 static_assert(sizeof(watch_opened) == 16 && offsetof(watch_opened, refusal) == 8, "watch.h: the layout is that of x86-64");
 static_assert(sizeof(watch_joined) == 16 && offsetof(watch_joined, refusal) == 8, "watch.h: the layout is that of x86-64");
@@ -446,6 +487,10 @@ _Static_assert(sizeof(size_t) == 8 && sizeof(watch_fed) == 24, "watch.h: the lay
 _Static_assert(sizeof(watch_built) == 40 && offsetof(watch_built, parts) == 8 && offsetof(watch_built, rows) == 16 && offsetof(watch_built, splits) == 24 &&
                offsetof(watch_built, refusal) == 32, "watch.h: the layout is that of x86-64");
 _Static_assert(sizeof(watch_compiled) == 24 && offsetof(watch_compiled, length) == 8 && offsetof(watch_compiled, refusal) == 16,
+               "watch.h: the layout is that of x86-64");
+_Static_assert(sizeof(watch_stood) == 32 && offsetof(watch_stood, pairs) == 8 && offsetof(watch_stood, refusal) == 16 &&
+               offsetof(watch_stood, split) == 20 && offsetof(watch_stood, all) == 24, "watch.h: the layout is that of x86-64");
+_Static_assert(sizeof(watch_made) == 24 && offsetof(watch_made, index) == 8 && offsetof(watch_made, refusal) == 16,
                "watch.h: the layout is that of x86-64");
 _Static_assert(sizeof(watch_found) == 16 && offsetof(watch_found, refusal) == 8, "watch.h: the layout is that of x86-64");
 _Static_assert(sizeof(watch_opened) == 16 && offsetof(watch_opened, refusal) == 8, "watch.h: the layout is that of x86-64");
@@ -523,9 +568,10 @@ watch_fed watch_matrix_feed(const uint8_t *list, size_t list_len,
                             const uint8_t *piece, size_t piece_len,
                             uint32_t *pairs, size_t pairs_len);
 
-/* Fills the index of a table: 0 exactly when the table check passes the table on this list at this bound and index_len is
- * WATCH_INDEX_SIZE(splits); or a refusal 1 to 3 or 7 to 13, which changes nothing. It runs the table check, and then looks a split up for each
- * split and class. */
+/* Fills the index of a table: 0 exactly when the table check passes the table on this list at this
+ * bound and index_len is WATCH_INDEX_SIZE(splits); or a refusal 1 to 3 or 7 to 13, which changes
+ * nothing. It runs the table check, and then steps the list for each split and one byte of each
+ * class. */
 uint32_t watch_fill_index(const uint8_t *list, size_t list_len,
                           uint64_t bound,
                           const uint8_t *classes, size_t classes_len,
@@ -534,21 +580,51 @@ uint32_t watch_fill_index(const uint8_t *list, size_t list_len,
                           const uint8_t *splits, size_t splits_len,
                           uint8_t *index, size_t index_len);
 
-/* The prepared feed: as the split feed, but each byte is one look into the index. With the classes and the splits of a table, and the index
- * that watch_fill_index wrote for it, it answers and leaves what watch_split_feed does with that list, bound and table, on every record, start,
- * piece and buffer. It needs neither the list nor the parts, the rows and the bound, and walks none of them. The split of the record's frontier is
- * sought by halving, once in a call. Any other index is run as it stands: each byte leads to the split whose number stands there, tells the
- * signatures and costs the rows that stand there, and the frontier saved is that split's set; a number that names no split stands for the empty set,
- * tells nothing, and halts the next byte with 14. Refusals 4 to 6 and 8 answer 0 bytes and 0 pairs and change nothing; 4 is given as well where the
- * record's frontier holds a state that is not in the set which the index begins with, but not where the index is shorter than that set. A refusal 14
- * is as in the split feed. */
-watch_fed watch_prepared_feed(const uint8_t *classes, size_t classes_len,
-                              const uint8_t *splits, size_t splits_len,
-                              const uint8_t *index, size_t index_len,
-                              uint8_t *flow, size_t flow_len,
-                              uint64_t start,
-                              const uint8_t *piece, size_t piece_len,
-                              uint32_t *pairs, size_t pairs_len);
+/* The prepared feed: as the split feed, but each byte is one look into the index. With the splits of
+ * a table and the index that watch_fill_index wrote for it, it answers and leaves what
+ * watch_split_feed does with that list, bound and table, on every record, start, piece and buffer;
+ * with the splits and the index of watch_prepare, on a flow opened on that list, what watch_feed does
+ * but for the rows, of which each byte reads one. It needs no list, classes, parts, rows and bound.
+ *
+ * `split` is a hint: the split where the flow stands, as the call before answered it. Any number may
+ * be handed in: where it is not the number of a split that has the record's frontier, that one is
+ * sought by halving, once in the call. With an index of watch_fill_index or watch_prepare everything
+ * but the split that refusals 4 to 6 and 8 hand back is the same for every hint. So hand in 0 for a
+ * new flow or one that other calls fed, and from then on what the call before answered. The hint is
+ * not part of the flow: nothing is lost with it.
+ *
+ * Any other index is run as it stands. Each byte's word names a place: from there WATCH_ENTRY_SIZE
+ * bytes are the next entry, wherever it begins, and its signatures are told where the word has
+ * WATCH_TELLING more, and only there; a byte costs the rows that the entry it leaves says. The split
+ * of a place is the last whose entry begins there or before, and split 0 before the first; its set is
+ * the frontier saved. A word past the last whole entry tells nothing, stands for the empty set and no
+ * split, and halts the next byte with 14. Where two splits have the frontier's set the hint decides.
+ *
+ * Refusals 4 to 6 and 8 answer 0 bytes and 0 pairs and change nothing. 4 is given as well where the
+ * frontier holds a state that is not named: where the hint is the split with that set, by byte 1057
+ * of its entry; else by the set that the index begins with, but not where the index is shorter than
+ * that. 8 is given where the splits are not 1 to WATCH_MOST_SPLITS records or index_len is not
+ * WATCH_INDEX_SIZE of their number. A refusal 14 is as in the split feed. */
+watch_stood watch_prepared_feed(const uint8_t *splits, size_t splits_len,
+                                const uint8_t *index, size_t index_len,
+                                uint32_t split,
+                                uint8_t *flow, size_t flow_len,
+                                uint64_t start,
+                                const uint8_t *piece, size_t piece_len,
+                                uint32_t *pairs, size_t pairs_len);
+
+/* Prepares splits and their index straight from a list, in two lists that the caller lends: a split
+ * for each set that can be reached from the start set, in rising order as strings of bytes, its four
+ * slots unused, and their index, by which a byte costs one row. It answers the bytes used of each
+ * list; zeros follow them to the list's end. These fronts are for watch_prepared_feed and need no
+ * check; they are no table, since no slot names a part. There is no limit on classes. Refusals 1 to 3
+ * and 17 change nothing; 17 looks at the lengths alone, before any set is looked for. 16 fills both
+ * lists with zeros, as watch_build does: these two are the refusals before any byte that change a
+ * buffer. Each set is stepped once for each class of bytes that the list itself makes;
+ * docs/PERFORMANCE.md has its cost. */
+watch_made watch_prepare(const uint8_t *list, size_t list_len,
+                         uint8_t *splits, size_t splits_len,
+                         uint8_t *index, size_t index_len);
 
 /* Builds the table of a list at bound 1, in four lists that the caller lends: a part and a split for each set that can be reached from the start
  * set, in rising order as strings of bytes, and as few classes as the list permits, numbered by their lowest bytes. It answers the bytes used
@@ -705,13 +781,15 @@ static inline const char *watch_refusal_text(uint32_t n)
     case WATCH_REFUSED_NOT_CLOSED:
         return "for some split and some byte, the automaton's step of the split's set is no split";
     case WATCH_REFUSED_NO_SPLIT:
-        return "at a byte of a split or a prepared feed, the frontier is no split, or the slots taken name no part or are more than the bound";
+        return "at a byte of a split or a prepared feed, the frontier is no split, or the slots taken name no part or are more than the bound, "
+               "or the byte before led to a place without a whole entry";
     case WATCH_REFUSED_NO_ROOM:
         return "at opening, the pairs of offset 0 are more than there is room for";
     case WATCH_REFUSED_TOO_MANY:
-        return "more than " WATCH_TEXT(WATCH_MOST_PARTS) " sets can be reached from the start set, or more classes are needed than a table may have";
+        return "more than " WATCH_TEXT(WATCH_MOST_PARTS) " sets can be reached from the start set, or more classes are needed than a table may have; "
+               "of preparing, more than " WATCH_TEXT(WATCH_MOST_SPLITS) " sets can be reached";
     case WATCH_REFUSED_LENT_LISTS:
-        return "a list lent for the table is too short";
+        return "a list lent for the table, or for splits and index, is too short";
     case WATCH_REFUSED_SEGMENT:
         return "the segment has more than " WATCH_TEXT(WATCH_MOST_SEGMENT) " bytes, the held buffer is not of " WATCH_TEXT(WATCH_HELD_SIZE)
                " bytes or more are held, or the segment begins ahead and cannot be held";

@@ -4,7 +4,7 @@ use crate::sizes::{MOST_RECORDS, RECORD_BYTES};
 /// The texts, a line each; signatures count from 0.
 const TEXTS: &str = include_str!("../traffic/plain64.txt");
 
-/// The first 4,096 bytes of a feeder's line, and of one with many pairs.
+/// A feeder's line, and one with many pairs.
 pub const FEEDER: &[u8] = include_bytes!("../traffic/plain64-feeder");
 pub const DENSE: &[u8] = include_bytes!("../traffic/plain64-dense");
 

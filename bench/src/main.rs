@@ -15,6 +15,7 @@ mod inputs;
 mod joined;
 mod later;
 mod ordinary;
+mod places;
 mod proved;
 mod reasons;
 mod resends;
@@ -24,9 +25,10 @@ mod texts;
 use inputs::{Bytes, Table};
 use later::black_box;
 use ordinary::Fed;
+use places::{Made, Stood};
 use sizes::{
-    BYTE_VALUES, CLASSES, ENTRY_BYTES, FLOW_BYTES, MOST_PARTS, MOST_RECORDS, MOST_SPLITS,
-    RECORD_BYTES, ROW_BYTES, SET_BYTES, SLOTS, SPLIT_BYTES, STATES,
+    BYTE_VALUES, CLASSES, ENTRY_BYTES, FLOW_BYTES, MOST_INDEX, MOST_PARTS, MOST_RECORDS,
+    MOST_SPLITS, RECORD_BYTES, ROW_BYTES, SET_BYTES, SLOTS, SPLIT_BYTES, STATES,
 };
 use std::io::{BufRead, BufReader, Write};
 use std::process::{Child, ChildStdin, ChildStdout, Command, Stdio};
@@ -51,7 +53,8 @@ struct Side {
     fill_matrix: fn(&[u8], &mut [u8]) -> u32,
     matrix_feed: fn(&[u8], &[u8], &mut [u8], u64, &[u8], &mut [u32]) -> Fed,
     fill_index: fn(&[u8], u64, &ordinary::Table, &mut [u8]) -> u32,
-    prepared_feed: fn(&[u8], &[u8], &[u8], &mut [u8], u64, &[u8], &mut [u32]) -> Fed,
+    prepared_feed: fn(&[u8], &[u8], u32, &mut [u8], u64, &[u8], &mut [u32]) -> Stood,
+    prepare: fn(&[u8], &mut [u8], &mut [u8]) -> Made,
     build: fn(&[u8], ordinary::Lists) -> ordinary::Built,
     extended: fn(&extended::Work, &mut [u8], &mut [u32]) -> Fed,
     segment: fn(&resends::Work, &mut [u8]) -> Fed,
@@ -70,6 +73,7 @@ const PROVED: Side = Side {
     matrix_feed: proved::matrix_feed,
     fill_index: proved::fill_index,
     prepared_feed: proved::prepared_feed,
+    prepare: proved::prepare,
     build: proved::build,
     extended: extended::proved,
     segment: resends::proved,
@@ -86,8 +90,9 @@ const ORDINARY: Side = Side {
     split_feed: ordinary::split_feed,
     fill_matrix: ordinary::fill_matrix,
     matrix_feed: ordinary::matrix_feed,
-    fill_index: ordinary::fill_index,
-    prepared_feed: ordinary::prepared_feed,
+    fill_index: places::fill_index,
+    prepared_feed: places::feed,
+    prepare: places::prepare,
     build: ordinary::build,
     extended: extended::by_rust,
     segment: resends::by_rust,
@@ -127,11 +132,14 @@ enum Call {
         table: Table,
     },
     PreparedFeed {
-        table: Table,
+        splits: Vec<u8>,
         index: Vec<u8>,
+        split: u32,
         flow: [u8; FLOW_BYTES],
         piece: Vec<u8>,
     },
+    Traffic(places::Work),
+    Prepare,
     Build,
     Extended(extended::Work),
     Segment(resends::Work),
@@ -177,6 +185,9 @@ struct Buffers {
     list: Vec<u8>,
 }
 
+/// The lengths of the lists that splits and their index are prepared in.
+const PREPARED_IN: [usize; 4] = [SPLIT_BYTES * MOST_SPLITS, MOST_INDEX, 0, 0];
+
 /// The lengths of the lists that a table is built in.
 const LENT: [usize; 4] = [
     BYTE_VALUES,
@@ -189,6 +200,7 @@ impl Buffers {
     fn new(call: &Call) -> Buffers {
         let lent = match call {
             Call::Build => LENT,
+            Call::Prepare => PREPARED_IN,
             _ => [0; 4],
         };
         Buffers {
@@ -243,15 +255,28 @@ impl Work {
                 ))
             }
             Call::PreparedFeed {
-                table,
+                splits,
                 index,
+                split,
                 flow,
                 piece,
             } => {
                 buffers.flow = *flow;
-                let (classes, splits) = (&table.classes, &table.splits);
                 let (record, pairs) = (&mut buffers.flow, &mut buffers.pairs);
-                (side.prepared_feed)(classes, splits, index, record, 0, piece, pairs)
+                (side.prepared_feed)(splits, index, *split, record, 0, piece, pairs).fed
+            }
+            Call::Traffic(work) => {
+                work.run(side.prepared_feed, &mut buffers.flow, &mut buffers.pairs)
+            }
+            Call::Prepare => {
+                let [splits, index, ..] = &mut buffers.lists;
+                let made = (side.prepare)(&self.list, splits, index);
+                Fed {
+                    refusal: made.refusal,
+                    bytes: made.splits,
+                    pairs: made.index,
+                    all: false,
+                }
             }
             Call::SplitFeed {
                 bound,
@@ -345,6 +370,7 @@ impl Work {
             | Call::SplitFeed { piece, .. }
             | Call::MatrixFeed { piece, .. }
             | Call::PreparedFeed { piece, .. } => Some(piece.len()),
+            Call::Traffic(work) => Some(work.bytes.len()),
             Call::Extended(work) => work.bytes(),
             Call::Why(work) => work.bytes(),
             _ => None,
@@ -436,15 +462,19 @@ fn index_bytes(table: &Table) -> usize {
     SET_BYTES + ENTRY_BYTES * (table.splits.len() / SPLIT_BYTES)
 }
 
-/// A prepared feed from a frontier, with the index of a table for a list, which ordinary Rust fills.
+/// A prepared feed from a frontier, with the split that has it and the index of a table for a list, which ordinary Rust fills.
 fn prepared_fed(list: &[u8], bound: u64, table: Table, first: Bytes, piece: Vec<u8>) -> Call {
     let mut index = vec![0; index_bytes(&table)];
-    let refusal = ordinary::fill_index(list, bound, &lent(&table), &mut index);
+    let refusal = places::fill_index(list, bound, &lent(&table), &mut index);
     assert_eq!(refusal, 0, "the index is filled");
+    let flow = inputs::flow_at(first);
+    let mut splits = table.splits.chunks(SPLIT_BYTES);
+    let split = splits.position(|split| split[..SET_BYTES] == flow[..SET_BYTES]);
     Call::PreparedFeed {
-        table,
+        split: split.expect("the frontier is a split's") as u32,
+        splits: table.splits,
         index,
-        flow: inputs::flow_at(first),
+        flow,
         piece,
     }
 }
@@ -658,6 +688,33 @@ fn rows() -> Vec<Row> {
             }),
         );
     }
+    for set in places::TRAFFIC {
+        for (kind, bytes) in set.kinds {
+            for piece in places::PIECES {
+                row(
+                    format!("prepared feed, {}, {kind}, pieces of {}", set.name, number(piece)),
+                    1,
+                    Box::new(move || {
+                        let work = places::Work::new(set.list, bytes, piece);
+                        (set.list.to_vec(), Call::Traffic(work))
+                    }),
+                );
+            }
+        }
+    }
+    let prepared: [(&str, fn() -> Vec<u8>); 4] = [
+        ("64 texts joined", joined::joined),
+        ("64 texts joined and folded", joined::folded),
+        ("1,024 sets, 300 records", || inputs::reaching_list(300, 10)),
+        ("4,096 sets, 300 records", || inputs::reaching_list(300, 12)),
+    ];
+    for (what, list) in prepared {
+        row(
+            format!("preparing, {what}"),
+            1,
+            Box::new(move || (list(), Call::Prepare)),
+        );
+    }
     for splits in [16, MOST_SPLITS] {
         row(
             format!("filling an index, {} splits, 34 records", number(splits)),
@@ -747,7 +804,7 @@ fn rows() -> Vec<Row> {
                 Box::new(move || {
                     let list = list();
                     let states = ordinary::states_of(&list);
-                    let call = matrix_fed(&list, states, 1, bytes.to_vec());
+                    let call = matrix_fed(&list, states, 1, bytes[..4096].to_vec());
                     (list, call)
                 }),
             );

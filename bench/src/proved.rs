@@ -1,5 +1,6 @@
 //! The proved library behind its C face, under the types of the ordinary versions.
 use crate::ordinary::{Built, Fed, Lists, Table};
+use crate::places::{Made, Stood};
 
 #[repr(C)]
 struct WatchFed {
@@ -12,6 +13,22 @@ struct WatchFed {
 #[repr(C)]
 struct WatchOpened {
     pairs: u64,
+    refusal: u32,
+}
+
+#[repr(C)]
+struct WatchStood {
+    bytes: u64,
+    pairs: u64,
+    refusal: u32,
+    split: u32,
+    all: bool,
+}
+
+#[repr(C)]
+struct WatchMade {
+    splits: u64,
+    index: u64,
     refusal: u32,
 }
 
@@ -120,12 +137,11 @@ extern "C" {
         index_len: usize,
     ) -> u32;
     fn watch_prepared_feed(
-        classes: *const u8,
-        classes_len: usize,
         splits: *const u8,
         splits_len: usize,
         index: *const u8,
         index_len: usize,
+        split: u32,
         flow: *mut u8,
         flow_len: usize,
         start: u64,
@@ -133,7 +149,15 @@ extern "C" {
         piece_len: usize,
         pairs: *mut u32,
         pairs_len: usize,
-    ) -> WatchFed;
+    ) -> WatchStood;
+    fn watch_prepare(
+        list: *const u8,
+        list_len: usize,
+        splits: *mut u8,
+        splits_len: usize,
+        index: *mut u8,
+        index_len: usize,
+    ) -> WatchMade;
 }
 
 fn fed(answer: WatchFed) -> Fed {
@@ -295,22 +319,21 @@ pub fn fill_index(list: &[u8], bound: u64, table: &Table, index: &mut [u8]) -> u
 }
 
 pub fn prepared_feed(
-    classes: &[u8],
     splits: &[u8],
     index: &[u8],
+    split: u32,
     flow: &mut [u8],
     start: u64,
     piece: &[u8],
     pairs: &mut [u32],
-) -> Fed {
-    fed(unsafe {
+) -> Stood {
+    let stood = unsafe {
         watch_prepared_feed(
-            classes.as_ptr(),
-            classes.len(),
             splits.as_ptr(),
             splits.len(),
             index.as_ptr(),
             index.len(),
+            split,
             flow.as_mut_ptr(),
             flow.len(),
             start,
@@ -319,7 +342,35 @@ pub fn prepared_feed(
             pairs.as_mut_ptr(),
             pairs.len(),
         )
-    })
+    };
+    let fed = Fed {
+        refusal: stood.refusal,
+        bytes: stood.bytes as usize,
+        pairs: stood.pairs as usize,
+        all: stood.all,
+    };
+    Stood {
+        fed,
+        split: stood.split,
+    }
+}
+
+pub fn prepare(list: &[u8], splits: &mut [u8], index: &mut [u8]) -> Made {
+    let made = unsafe {
+        watch_prepare(
+            list.as_ptr(),
+            list.len(),
+            splits.as_mut_ptr(),
+            splits.len(),
+            index.as_mut_ptr(),
+            index.len(),
+        )
+    };
+    Made {
+        refusal: made.refusal,
+        splits: made.splits as usize,
+        index: made.index as usize,
+    }
 }
 
 pub fn build(list: &[u8], lists: Lists) -> Built {

@@ -33,8 +33,12 @@ pub const CLASSES: usize = 64;
 /// A matrix has a set for each byte and each of its states: so many bytes for a state.
 pub const ROW_BYTES: usize = BYTE_VALUES * SET_BYTES;
 
-/// The entry of a split in an index: a split number of 2 bytes for each class, a set of signatures, and as many bytes for a note, whose first
-/// byte is a byte's rows and whose second is 0 where nothing is told.
-pub const TOLD_AT: usize = 2 * CLASSES;
+/// The entry of a split in an index: a word of 4 bytes for each byte, a set of signatures, and as many bytes for a note, whose first byte is a
+/// byte's rows and whose second is 0 where a state of the split is not named.
+pub const TOLD_AT: usize = 4 * BYTE_VALUES;
 pub const NOTE_AT: usize = TOLD_AT + SIGNATURES / 8;
 pub const ENTRY_BYTES: usize = NOTE_AT + SIGNATURES / 8;
+/// What a word has more where the entry that it leads to tells.
+pub const TELLING: usize = 1 << 31;
+/// The index of the most splits.
+pub const MOST_INDEX: usize = SET_BYTES + ENTRY_BYTES * MOST_SPLITS;

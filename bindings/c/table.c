@@ -10,8 +10,8 @@
  * standard error. With a flow it writes a line for each pair, signature and offset, and last `end` and the offset, as the program does; or `refused` and
  * the number. With a folder it writes the four lists there, as classes.bin, parts.bin, rows.bin and splits.bin; an empty FLOW is passed over.
  *
- * The table that was built needs no check: the filler of the index makes it all the same, and passes. List, parts and rows are not looked at once the
- * index is there. The exit status is 0 where the table was built and the flow ended, 1 where one was refused, 2 where a file could not be read or
+ * The table that was built needs no check: the filler of the index makes it all the same, and passes. List, classes, parts and rows are not looked at once
+ * the index is there. The exit status is 0 where the table was built and the flow ended, 1 where one was refused, 2 where a file could not be read or
  * written or the archive is not the header's.
  */
 #include <inttypes.h>
@@ -74,19 +74,20 @@ static void print(const uint32_t *pairs, uint64_t count)
         printf("%" PRIu32 " %" PRIu32 "\n", pairs[2 * i], pairs[2 * i + 1]);
 }
 
-/* Feeds a whole piece by the index and prints its pairs. Answers the refusal, or WATCH_PASSED. */
-static uint32_t feed_piece(uint8_t *flow, uint64_t start, const uint8_t *piece, size_t piece_len)
+/* Feeds a whole piece by the index and prints its pairs; `split` is where the flow stands, before and after. Answers the refusal, or WATCH_PASSED. */
+static uint32_t feed_piece(uint8_t *flow, uint32_t *split, uint64_t start, const uint8_t *piece, size_t piece_len)
 {
     uint32_t pairs[WATCH_ENOUGH_WORDS];
     for (;;) {
-        watch_fed fed = watch_prepared_feed(classes, built.classes, splits, built.splits, table_index, index_len,
-                                            flow, WATCH_FLOW_SIZE, start, piece, piece_len, pairs, WATCH_ENOUGH_WORDS);
-        print(pairs, fed.pairs);
-        if (fed.refusal != WATCH_PASSED || fed.all)
-            return fed.refusal;
-        start += fed.bytes;
-        piece += fed.bytes;
-        piece_len -= fed.bytes;
+        watch_stood stood = watch_prepared_feed(splits, built.splits, table_index, index_len, *split,
+                                                flow, WATCH_FLOW_SIZE, start, piece, piece_len, pairs, WATCH_ENOUGH_WORDS);
+        print(pairs, stood.pairs);
+        *split = stood.split;
+        if (stood.refusal != WATCH_PASSED || stood.all)
+            return stood.refusal;
+        start += stood.bytes;
+        piece += stood.bytes;
+        piece_len -= stood.bytes;
     }
 }
 
@@ -101,9 +102,10 @@ static int watch_file(const char *name)
     print(pairs, begun.pairs);
     FILE *file = opened(name, "rb");
     uint64_t offset = 0;
+    uint32_t split = 0;
     size_t piece_len;
     while ((piece_len = fread(piece, 1, sizeof piece, file)) != 0) {
-        uint32_t refusal = feed_piece(flow, offset, piece, piece_len);
+        uint32_t refusal = feed_piece(flow, &split, offset, piece, piece_len);
         if (refusal != WATCH_PASSED)
             return refused(refusal);
         offset += piece_len;

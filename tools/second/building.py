@@ -40,28 +40,32 @@ def few_over(dice, records, places):
     return chain(places, (96, 97, 98, 99)) + b"".join(rest)
 
 
-def line(refusal, table, lent):
-    """What the builder answers, and what it leaves in lists of these lengths."""
-    fronts = table or model.Table(b"", b"", b"", b"")
+def line(letter, refusal, made, lent):
+    """What is answered, and what is left in lists of these lengths."""
+    fronts = made or [b""] * len(lent)
     values = [refusal, *(len(front) for front in fronts)]
     for front, length in zip(fronts, lent):
         others = length - len(front)
         values += [digest(front), others if refusal in (0, 16) else 0, 0 if refusal in (0, 16) else others]
-    return " ".join(["b"] + [str(value) for value in values])
+    return " ".join([letter] + [str(value) for value in values])
 
 
 class Cases:
-    def __init__(self):
+    """What is asked of a function that fills lent lists, and the lines of its answers."""
+
+    def __init__(self, letter="b", lent=LENT, make=model.build):
+        self.letter, self.lent, self.make = letter, lent, make
         self.asked = []
         self.lines = []
         self.counts = {}
 
-    def ask(self, data, lent=LENT):
-        refusal, table = model.build(data, lent)
+    def ask(self, data, lent=None):
+        lent = lent or self.lent
+        refusal, made = self.make(data, lent)
         self.asked.append((data, lent))
-        self.lines.append(line(refusal, table, lent))
+        self.lines.append(line(self.letter, refusal, made, lent))
         self.counts[refusal] = self.counts.get(refusal, 0) + 1
-        return refusal, table
+        return refusal, made
 
     def commands(self):
         return b"".join(block(data) + b"".join(u32(length) for length in lent) for data, lent in self.asked)

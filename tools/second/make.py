@@ -1,4 +1,5 @@
-"""Writes crates/vectors/stdin and crates/vectors/stdout, and counts.txt here; for the builder, builds and built here."""
+"""Writes crates/vectors/stdin and crates/vectors/stdout, and counts.txt here; for the builder, builds and
+built here, and for splits with an index straight from a list prepares and prepared."""
 
 import sys
 
@@ -9,6 +10,7 @@ from pathlib import Path
 import building
 import cases
 import examples
+import preparing
 from dice import Dice
 from tape import Tape
 
@@ -44,6 +46,16 @@ def counts_text(counts, groups):
     return "\n".join(lines) + "\n"
 
 
+def filling_line(letter, name, cases):
+    return "%s  %-13s %6d  %s\n" % (letter, name, sum(cases.counts.values()),
+                                    " ".join("%d:%d" % pair for pair in sorted(cases.counts.items())))
+
+
+def write_cases(here, asked, answered, cases):
+    (here / asked).write_bytes(cases.commands())
+    (here / answered).write_bytes("".join(line + "\n" for line in cases.lines).encode("ascii"))
+
+
 def main():
     examples.check()
     tape = Tape()
@@ -52,14 +64,14 @@ def main():
     target = here.parent.parent / "crates" / "vectors"
     target.mkdir(parents=True, exist_ok=True)
     built = building.make(Dice(SEED + 1))
-    text = counts_text(tape.counts, tape.groups) + "\nb  %-13s %6d  %s\n" % (
-        "builder", sum(built.counts.values()),
-        " ".join("%d:%d" % pair for pair in sorted(built.counts.items())))
+    prepared = preparing.make(Dice(SEED + 2))
+    text = (counts_text(tape.counts, tape.groups) + "\n" + filling_line("b", "builder", built)
+            + filling_line("q", "preparing", prepared))
     (target / "stdin").write_bytes(tape.stdin())
     (target / "stdout").write_bytes(tape.stdout())
     (here / "counts.txt").write_text(text)
-    (here / "builds").write_bytes(built.commands())
-    (here / "built").write_bytes("".join(line + "\n" for line in built.lines).encode("ascii"))
+    write_cases(here, "builds", "built", built)
+    write_cases(here, "prepares", "prepared", prepared)
     sys.stderr.write(text)
     sys.stderr.write("stdin %d bytes, stdout %d bytes\n" % (len(tape.stdin()), len(tape.stdout())))
 

@@ -9,7 +9,7 @@ import sys
 sys.dont_write_bytecode = True
 
 from model import Table
-from tape import Tape
+from tape import Tape, put, resized
 
 
 class Reader:
@@ -46,6 +46,11 @@ def replay(data, tape):
             tape.load_record(reader.block())
         elif command == b"M":
             tape.load_matrix(reader.block())
+        elif command == b"N":
+            length, at, part = reader.number(4), reader.number(4), reader.block()
+            tape.load_matrix(put(resized(tape.matrix, length), at, part))
+        elif command == b"S":
+            tape.sow(reader.number(4), reader.number(4))
         elif command == b"m":
             tape.fill_matrix()
         elif command == b"x":
@@ -67,8 +72,9 @@ def replay(data, tape):
         elif command == b"i":
             tape.fill(reader.number(8))
         elif command == b"p":
-            start, words, piece = reader.number(8), reader.number(4), reader.block()
-            tape.prepared_feed(start, words, piece)
+            hint, start, words, piece = (reader.number(4), reader.number(8), reader.number(4),
+                                         reader.block())
+            tape.prepared_feed(hint, start, words, piece)
         else:
             raise ValueError("no such command: %r" % command)
 

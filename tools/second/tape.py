@@ -63,6 +63,39 @@ def block(data):
     return b"".join(out)
 
 
+def resized(data, length):
+    """Cut to so many bytes, or with zeros behind."""
+    return (data + bytes(length))[:length]
+
+
+def put(data, at, part):
+    """The bytes from a place on become these."""
+    return data[:at] + part + data[at + len(part):]
+
+
+def sown(length, seed):
+    """Bytes from a seed: each a little more than the one before, and a little more again after
+    256."""
+    return bytes((seed + 7 * (i % 256) + i // 256) % 256 for i in range(length))
+
+
+def changes(before, after):
+    """The parts in which two strings of one length differ, each with its place; two that are less
+    than 16 bytes apart are one."""
+    parts = []
+    lines = (line for line in range(0, len(after), 64)
+             if before[line:line + 64] != after[line:line + 64])
+    places = (at for line in lines for at in range(line, min(line + 64, len(after))))
+    for at in places:
+        if before[at] == after[at]:
+            continue
+        if parts and at - parts[-1][1] < 16:
+            parts[-1][1] = at + 1
+        else:
+            parts.append([at, at + 1])
+    return [(first, after[first:end]) for first, end in parts]
+
+
 class Tape:
     def __init__(self):
         self.commands = []
@@ -93,8 +126,19 @@ class Tape:
         """The bytes that are filled and that a matrix feed or a prepared feed goes by: a matrix, or an index."""
         assert len(matrix) <= MOST_MATRIX
         if matrix != self.matrix:
+            parts = changes(resized(self.matrix, len(matrix)), matrix) or [(0, b"")]
+            if 2 * sum(len(data) + 16 for _, data in parts) < len(matrix):
+                self.commands += [b"N" + u32(len(matrix)) + u32(at) + block(data)
+                                  for at, data in parts]
+            else:
+                self.commands.append(b"M" + block(matrix))
             self.matrix = matrix
-            self.commands.append(b"M" + block(matrix))
+
+    def sow(self, length, seed):
+        """The matrix or index becomes so many bytes from a seed."""
+        assert length <= MOST_MATRIX
+        self.matrix = sown(length, seed)
+        self.commands.append(b"S" + u32(length) + u32(seed))
 
     def load_record(self, record):
         assert len(record) <= model.FLOW_SIZE + BEYOND
@@ -142,10 +186,10 @@ class Tape:
         return self._answer(b"k" + u64(bound), "k",
                             [model.table_refusal(self.list, self.table, bound)])
 
-    def _fed(self, command, name, answer):
+    def _fed(self, command, name, answer, more=()):
         self.record = answer.record
         self._answer(command, name, [
-            answer.refusal, answer.consumed, answer.pairs, answer.all,
+            answer.refusal, answer.consumed, answer.pairs, answer.all, *more,
             digest_words(answer.words), digest(answer.record)])
         return answer
 
@@ -178,12 +222,14 @@ class Tape:
         refusal, self.matrix = indexes.fill(self.list, self.table, bound, self.matrix)
         return self._answer(b"i" + u64(bound), "i", [refusal, digest(self.matrix)])
 
-    def prepared_feed(self, start, words, piece):
+    def prepared_feed(self, hint, start, words, piece):
         assert words <= MOST_WORDS and len(piece) <= MOST_PIECE
         buffer = [WORD_FILL + i for i in range(words)]
-        answer = indexes.prepared_feed(self.table.classes, self.table.splits, self.matrix,
-                                       self.record, start, buffer, piece)
-        return self._fed(b"p" + u64(start) + u32(words) + block(piece), "p", answer)
+        stood = indexes.prepared_feed(self.table.splits, self.matrix, hint, self.record, start,
+                                      buffer, piece)
+        self._fed(b"p" + u32(hint) + u64(start) + u32(words) + block(piece), "p", stood.answer,
+                  [stood.split])
+        return stood
 
     # The two files.
 

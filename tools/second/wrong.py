@@ -584,7 +584,7 @@ def built_lines(changes, asked):
     version.automaton = stepping
     version.list_refusal = model.list_refusal
     version.pack_set = packed
-    return [building.line(*version.build(data, lent), lent) for data, lent in asked]
+    return [building.line("b", *version.build(data, lent), lent) for data, lent in asked]
 
 
 def lines_of(changes, stream, right):

@@ -69,8 +69,9 @@
 //! pairs as the plain feed. `Table::build` makes one of a list, with one row read a byte, and [`Table::build_in`] does so in lists that the caller
 //! lends; what they make passes.
 //!
-//! An [`Index`] is that table worked out once more: where each class of byte leads from each split, and what is told there. [`Flow::prepared_feed`]
-//! runs it, one look a byte, and tells and saves what [`Flow::split_feed`] does with the table.
+//! An [`Index`] is that table worked out once more: where each byte leads from each split, and what is told there. [`Flow::prepared_feed`]
+//! runs it, one look a byte, and tells and saves what [`Flow::split_feed`] does with the table. [`Index::prepare_in`], and with `std` `Index::prepare`,
+//! make one straight from a list, without a table.
 //!
 //! # Bit matrices
 //!
@@ -122,7 +123,7 @@
 //! # Features
 //!
 //! `std`, which is on unless default features are turned off, makes [`Refusal`], [`SplitError`] and [`CompileError`] errors of the standard library, and
-//! has `Table::build`, `List::compile`, `List::compile_all`, `List::join`, `List::fold`, `extended::Builder` and `extended::Certificate::explore`, which
+//! has `Table::build`, `Index::prepare`, `List::compile`, `List::compile_all`, `List::join`, `List::fold`, `extended::Builder` and `extended::Certificate::explore`, which
 //! alone allocate memory. Without it the crate needs nothing but `core`. It builds with Rust 1.63 and later.
 
 #![no_std]
@@ -153,7 +154,7 @@ pub use sizes::{
     MOST_SPLITS, OFFSET_AT, RECORD_SIZE, RESERVED_AT, ROWS_AT, ROW_SIZE, SET_SIZE, SIGNATURES, SLOTS, SPLIT_SIZE,
     STATES, UNUSED, VERSION, X_BITS, X_COUNTERS, X_FLOW_SIZE, X_MOVES_SIZE, X_OFF, X_PROGRAM_SIZE, X_STATES,
 };
-pub use sizes::{MOST_NOTES, NOTE_SIZE};
+pub use sizes::{MOST_NOTES, NOTE_SIZE, PREPARE_INDEX, PREPARE_SPLITS, TELLING};
 
 #[cfg(feature = "std")]
 pub use join::CollectError;
@@ -521,7 +522,11 @@ impl Flow {
 
     /// The prepared feed of a piece that begins at offset `start` of the flow, by an index: refusals 4 to 6 and 8, which change nothing, and
     /// 14 at a byte. With an index that [`Index::fill`] gave it is [`split_feed`](Flow::split_feed) with that index's table, on every flow, start,
-    /// piece and buffer.
+    /// piece and buffer; with one of [`Index::prepare_in`], on a flow opened on its list, [`feed`](Flow::feed) but for the rows read.
+    ///
+    /// `split` is a hint: the split where the flow stands, left there by the call before. Any number may be handed in, and 0 for a new flow: one that
+    /// is wrong costs a search. Afterwards it is the split where the flow then stands, or the number of splits where it stands at none; a refusal 4 to 6
+    /// or 8 leaves it.
     ///
     /// ```
     /// # use watch::{Flow, Index, List, SplitError, Table, TableLists, BYTE_VALUES, SET_SIZE};
@@ -537,27 +542,29 @@ impl Flow {
     ///
     /// let mut words = [0; 4];
     /// let mut flow = Flow::open(&list, &mut words)?.flow;
-    /// let fed = flow.prepared_feed(&index, 0, b"xyz", &mut words)?;
+    /// let mut split = 77;
+    /// let fed = flow.prepared_feed(&index, &mut split, 0, b"xyz", &mut words)?;
     /// assert_eq!((fed.bytes, fed.all, words), (2, false, [9, 1, 9, 2])); // paused before the third pair
+    /// assert_eq!(split, 0);
     /// # Ok::<(), SplitError>(())
     /// ```
     pub fn prepared_feed<B: AsRef<[u8]>>(
         &mut self,
         index: &Index<'_, B>,
+        split: &mut u32,
         start: u64,
         piece: &[u8],
         pairs: &mut [u32],
     ) -> Result<Fed, SplitError> {
         let bytes = index.bytes.as_ref();
         // SAFETY: as in `feed`.
-        let fed = unsafe {
+        let stood = unsafe {
             raw::watch_prepared_feed(
-                index.classes.as_ptr(),
-                index.classes.len(),
                 index.splits.as_ptr(),
                 index.splits.len(),
                 bytes.as_ptr(),
                 bytes.len(),
+                *split,
                 self.bytes.as_mut_ptr(),
                 FLOW_SIZE,
                 start,
@@ -567,7 +574,9 @@ impl Flow {
                 pairs.len(),
             )
         };
-        split_fed(fed)
+        *split = stood.split;
+        let raw::WatchStood { bytes, pairs, refusal, all, .. } = stood;
+        split_fed(raw::WatchFed { bytes, pairs, refusal, all })
     }
 
     /// The matrix feed of a piece that begins at offset `start` of the flow: as [`feed`](Flow::feed), but each byte's new frontier is the union of
@@ -720,11 +729,12 @@ impl Flow {
     pub fn prepared_feed_all<B: AsRef<[u8]>>(
         &mut self,
         index: &Index<'_, B>,
+        split: &mut u32,
         start: u64,
         piece: &[u8],
         told: impl FnMut(Pair),
     ) -> Result<FedAll, SplitError> {
-        feed_whole(start, piece, told, |start, rest, words| self.prepared_feed(index, start, rest, words))
+        feed_whole(start, piece, told, |start, rest, words| self.prepared_feed(index, split, start, rest, words))
     }
 }
 
@@ -1030,7 +1040,7 @@ impl<'a> Table<'a> {
     /// let index = Index::fill(&table, vec![0; table.index_size()])?;
     /// let mut told = Vec::new();
     /// let mut flow = Flow::open_all(&list, |_| ());
-    /// flow.prepared_feed_all(&index, 0, b"abab", |pair| told.push(pair.to_string()))?;
+    /// flow.prepared_feed_all(&index, &mut 0, 0, b"abab", |pair| told.push(pair.to_string()))?;
     /// assert_eq!(told, ["7 2", "7 4"]);
     /// assert_eq!(flow.rows_read(), 4); // one row a byte
     /// # Ok::<(), watch::SplitError>(())
@@ -1073,12 +1083,11 @@ impl<'a> Table<'a> {
     }
 }
 
-/// The index of a split table: what [`Flow::prepared_feed`] runs, with the table's classes and splits.
+/// The index of splits: what [`Flow::prepared_feed`] runs, with these splits. Of a table, or straight from a list.
 ///
 /// It owns its bytes, or borrows them, as `B` does: `Vec<u8>`, `Box<[u8]>`, an array, or a lent `&mut [u8]`.
 #[derive(Clone, Copy, PartialEq, Eq)]
 pub struct Index<'a, B> {
-    classes: &'a [u8],
     splits: &'a [u8],
     bytes: B,
 }
@@ -1110,13 +1119,18 @@ impl<'a, B: AsRef<[u8]>> Index<'a, B> {
             )
         };
         Refusal::verdict(number)?;
-        Ok(Index { classes: lists.classes, splits: lists.splits, bytes })
+        Ok(Index { splits: lists.splits, bytes })
     }
 
-    /// An index that was filled before, with the classes and the splits of its table. Nothing is unsafe about a wrong one, but a prepared feed may
-    /// then refuse it (8), halt (14), or tell other pairs than the split feed.
-    pub fn unchecked(classes: &'a [u8], splits: &'a [u8], bytes: B) -> Index<'a, B> {
-        Index { classes, splits, bytes }
+    /// An index that was filled before, with its splits. Nothing is unsafe about a wrong one, but a prepared feed may then refuse it (8), halt
+    /// (14), or tell other pairs than the split feed.
+    pub fn unchecked(splits: &'a [u8], bytes: B) -> Index<'a, B> {
+        Index { splits, bytes }
+    }
+
+    /// The splits that the index is of.
+    pub fn splits(&self) -> &'a [u8] {
+        self.splits
     }
 
     /// The index's bytes, to be saved.
@@ -1133,6 +1147,84 @@ impl<'a, B: AsRef<[u8]>> Index<'a, B> {
 impl<B: AsRef<[u8]>> fmt::Debug for Index<'_, B> {
     fn fmt(&self, f: &mut fmt::Formatter<'_>) -> fmt::Result {
         write!(f, "Index({} splits)", self.splits.len() / SPLIT_SIZE)
+    }
+}
+
+impl<'a> Index<'a, &'a [u8]> {
+    /// Prepares splits and their index straight from a list, in two lent lists: refusals 16 and 17.
+    ///
+    /// The splits have to have [`PREPARE_SPLITS`] bytes and the index [`PREPARE_INDEX`], and each may have more; the fronts that are used are
+    /// answered, and zeros follow them. 17 changes nothing, and 16 fills both with zeros.
+    pub fn prepare_in(list: &List<'_>, splits: &'a mut [u8], index: &'a mut [u8]) -> Result<Index<'a, &'a [u8]>, Refusal> {
+        let bytes = list.bytes;
+        // SAFETY: each pointer and length is that of a slice that is borrowed over the call, and the two that are written are borrowed as
+        // mutable, so they overlap nothing.
+        let made = unsafe {
+            raw::watch_prepare(
+                bytes.as_ptr(),
+                bytes.len(),
+                splits.as_mut_ptr(),
+                splits.len(),
+                index.as_mut_ptr(),
+                index.len(),
+            )
+        };
+        Refusal::verdict(made.refusal)?;
+        Ok(Index { splits: &splits[..made.splits as usize], bytes: &index[..made.index as usize] })
+    }
+
+    /// Prepares splits and their index straight from a list, in memory of their own: refusal 16. It takes some 5 MB while it prepares.
+    ///
+    /// ```
+    /// use watch::{Flow, Index, List, SPLIT_SIZE};
+    ///
+    /// # let bytes = *b"\x01\x00\xFF\0\0\0\0\0\x01aa\0\0\0\x01\0\x01bb\0\x01\0\x02\0\x02\0\0\0\0\0\0\0\x03\0\0\0\x02\0\x07\0";
+    /// let list = List::check(&bytes)?; // signature 7 after any "ab"
+    /// let prepared = Index::prepare(&list)?;
+    /// let index = prepared.index();
+    /// assert_eq!(index.splits().len(), 3 * SPLIT_SIZE); // {0}, {0, 1} and {0, 2} can be reached
+    ///
+    /// let (mut told, mut split) = (Vec::new(), 0);
+    /// let mut flow = Flow::open_all(&list, |_| ());
+    /// flow.prepared_feed_all(&index, &mut split, 0, b"abab", |pair| told.push(pair.to_string()))?;
+    /// assert_eq!(told, ["7 2", "7 4"]);
+    /// assert_eq!((split, flow.rows_read()), (2, 4)); // at {0, 2}, after one row a byte
+    /// # Ok::<(), watch::SplitError>(())
+    /// ```
+    #[cfg(feature = "std")]
+    pub fn prepare(list: &List<'_>) -> Result<Prepared, Refusal> {
+        let mut splits = std::vec![0; PREPARE_SPLITS];
+        let mut bytes = std::vec![0; PREPARE_INDEX];
+        let index = Index::prepare_in(list, &mut splits, &mut bytes)?;
+        let lengths = [index.splits.len(), index.bytes.len()];
+        for (list, length) in [&mut splits, &mut bytes].into_iter().zip(lengths) {
+            list.truncate(length);
+            list.shrink_to_fit();
+        }
+        Ok(Prepared { splits, bytes })
+    }
+}
+
+/// Splits and their index that were prepared, in memory of their own.
+#[cfg(feature = "std")]
+#[derive(Clone, PartialEq, Eq)]
+pub struct Prepared {
+    splits: std::vec::Vec<u8>,
+    bytes: std::vec::Vec<u8>,
+}
+
+#[cfg(feature = "std")]
+impl Prepared {
+    /// The index, with its splits. It needs no check: it is proved that it is right for the list that it was prepared of.
+    pub fn index(&self) -> Index<'_, &[u8]> {
+        Index { splits: &self.splits, bytes: &self.bytes }
+    }
+}
+
+#[cfg(feature = "std")]
+impl fmt::Debug for Prepared {
+    fn fmt(&self, f: &mut fmt::Formatter<'_>) -> fmt::Result {
+        write!(f, "Prepared({:?})", self.index())
     }
 }
 
@@ -1267,10 +1359,14 @@ const _: () = {
     send_and_sync::<raw::WatchFed>();
     send_and_sync::<raw::WatchOpened>();
     send_and_sync::<raw::WatchBuilt>();
+    send_and_sync::<raw::WatchStood>();
+    send_and_sync::<raw::WatchMade>();
     send_and_sync::<raw::WatchCompiled>();
     send_and_sync::<LentLists<'static>>();
     #[cfg(feature = "std")]
     send_and_sync::<Built<'static>>();
+    #[cfg(feature = "std")]
+    send_and_sync::<Prepared>();
     #[cfg(feature = "std")]
     send_and_sync::<Compiled>();
 };

@@ -5,7 +5,7 @@
 //! # Safety
 //!
 //! Of every function here: each pointer is valid for its length (`pairs_len` counts words), for reads, and `flow`, `pairs`, the `matrix` that is
-//! filled, the four lists of `watch_build` and the list of `watch_compile` for writes too; `pairs` is aligned; what is written overlaps nothing else of the call; nobody else
+//! filled, the four lists of `watch_build`, the two of `watch_prepare` and the list of `watch_compile` for writes too; `pairs` is aligned; what is written overlaps nothing else of the call; nobody else
 //! writes any of the buffers, or reads one that is written, during the call. A pointer with length 0 may dangle. There is no wrong content.
 
 /// What a feed answers, as C lays it out.
@@ -20,6 +20,34 @@ pub struct WatchFed {
     pub refusal: u32,
     /// Whether the whole piece was consumed.
     pub all: bool,
+}
+
+/// What a prepared feed answers, as C lays it out.
+#[repr(C)]
+#[derive(Clone, Copy, Debug, PartialEq, Eq)]
+pub struct WatchStood {
+    /// Bytes consumed, from the front of the piece.
+    pub bytes: u64,
+    /// Pairs written, two words each.
+    pub pairs: u64,
+    /// 0, or the number of the refusal.
+    pub refusal: u32,
+    /// The split where the flow then stands, the number of splits where it stands at none; with 4 to 6 and 8 the hint.
+    pub split: u32,
+    /// Whether the whole piece was consumed.
+    pub all: bool,
+}
+
+/// What preparing answers, as C lays it out.
+#[repr(C)]
+#[derive(Clone, Copy, Debug, PartialEq, Eq)]
+pub struct WatchMade {
+    /// Bytes used of the splits.
+    pub splits: u64,
+    /// Bytes used of the index.
+    pub index: u64,
+    /// 0, or the number of the refusal.
+    pub refusal: u32,
 }
 
 /// What an opening answers, as C lays it out.
@@ -252,14 +280,13 @@ extern "C" {
         index_len: usize,
     ) -> u32;
 
-    /// The prepared feed: refusals 4 to 6 and 8, and 14.
+    /// The prepared feed, with a hint of the split where the flow stands: refusals 4 to 6 and 8, and 14.
     pub fn watch_prepared_feed(
-        classes: *const u8,
-        classes_len: usize,
         splits: *const u8,
         splits_len: usize,
         index: *const u8,
         index_len: usize,
+        split: u32,
         flow: *mut u8,
         flow_len: usize,
         start: u64,
@@ -267,7 +294,18 @@ extern "C" {
         piece_len: usize,
         pairs: *mut u32,
         pairs_len: usize,
-    ) -> WatchFed;
+    ) -> WatchStood;
+
+    /// Splits and an index straight from a list: refusals 1 to 3, 17 and 16. `splits` and `index` are written, so they overlap nothing else of the
+    /// call.
+    pub fn watch_prepare(
+        list: *const u8,
+        list_len: usize,
+        splits: *mut u8,
+        splits_len: usize,
+        index: *mut u8,
+        index_len: usize,
+    ) -> WatchMade;
 
     /// The check of an automaton with bits and counters: 0, or 24.
     pub fn watch_x_check(moves: *const u8, moves_len: usize, programs: *const u8, programs_len: usize) -> u32;

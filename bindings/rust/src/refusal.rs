@@ -1,5 +1,5 @@
 use crate::{
-    FLOW_SIZE, HELD_SIZE, MOST_BOUND, MOST_CLASS, MOST_LIST, MOST_OFFSET, MOST_PARTS, MOST_SEGMENT, RECORD_SIZE,
+    FLOW_SIZE, HELD_SIZE, MOST_BOUND, MOST_CLASS, MOST_LIST, MOST_OFFSET, MOST_PARTS, MOST_SEGMENT, MOST_SPLITS, RECORD_SIZE,
     SIGNATURES, STATES,
 };
 use core::fmt;
@@ -48,14 +48,17 @@ pub enum Refusal {
     NoStartSplit = 12,
     /// 13: for some split and byte, the NFA step of its set is no split.
     NotClosed = 13,
-    /// 14: split feed, at a byte: the frontier is no split, or the slots taken name no part or are more than b.
+    /// 14: split feed, at a byte: the frontier is no split, or the slots taken name no part or are more than b; prepared feed, at a
+    /// byte: the frontier is no split, or the byte before led to a place without a whole entry.
     NoSplit = 14,
     /// 15: opening: more pairs of offset 0 than room.
     NoRoom = 15,
-    /// 16: building: more than [`MOST_PARTS`] sets can be reached from the start set, or more than [`MOST_CLASS`] + 1 classes are needed.
+    /// 16: building: more than [`MOST_PARTS`] sets can be reached from the start set, or more than [`MOST_CLASS`] + 1 classes are needed;
+    /// preparing: more than [`MOST_SPLITS`] sets can be reached.
     TooMany = 16,
     /// 17: building: a lent list is shorter than [`LENT_CLASSES`](crate::LENT_CLASSES), [`LENT_PARTS`](crate::LENT_PARTS),
-    /// [`LENT_ROWS`](crate::LENT_ROWS) or [`LENT_SPLITS`](crate::LENT_SPLITS) bytes.
+    /// [`LENT_ROWS`](crate::LENT_ROWS) or [`LENT_SPLITS`](crate::LENT_SPLITS) bytes; preparing: the splits are shorter than
+    /// [`PREPARE_SPLITS`](crate::PREPARE_SPLITS), or the index than [`PREPARE_INDEX`](crate::PREPARE_INDEX).
     LentLists = 17,
     /// 18: a segment over [`MOST_SEGMENT`] bytes, or one that begins ahead and cannot be held: another is, or it has more than
     /// [`HELD_SIZE`] bytes.
@@ -175,15 +178,17 @@ impl fmt::Display for Refusal {
             Refusal::NoStartSplit => f.write_str("the start set is no split"),
             Refusal::NotClosed => f.write_str("for some split and byte, the NFA step of its set is no split"),
             Refusal::NoSplit => f.write_str(
-                "split feed, at a byte: the frontier is no split, or the slots taken name no part or are more than b",
+                "split or prepared feed, at a byte: the frontier is no split, the slots taken name no part or are more than b, \
+                 or the byte before led to a place without a whole entry",
             ),
             Refusal::NoRoom => f.write_str("opening: more pairs of offset 0 than room"),
             Refusal::TooMany => write!(
                 f,
-                "building: more than {MOST_PARTS} sets can be reached, or more than {} classes are needed",
+                "building: more than {MOST_PARTS} sets can be reached, or more than {} classes are needed; \
+                 preparing: more than {MOST_SPLITS} sets can be reached",
                 MOST_CLASS + 1
             ),
-            Refusal::LentLists => f.write_str("building: a lent list is too short"),
+            Refusal::LentLists => f.write_str("building or preparing: a lent list is too short"),
             Refusal::Segment => write!(
                 f,
                 "a segment over {MOST_SEGMENT} bytes, or one that begins ahead while another is held or with more than {HELD_SIZE} bytes"

@@ -2,7 +2,7 @@
 //! is written so. `tools/sizes` in the repository holds them to the constants of the proved code.
 
 /// The version of the C face that this crate is written for. [`List::check`](crate::List::check) compares it with the archive's.
-pub const VERSION: u32 = 16;
+pub const VERSION: u32 = 17;
 
 /// States are the numbers below this one.
 pub const STATES: usize = 1024;
@@ -71,10 +71,19 @@ pub const ROW_SIZE: usize = BYTE_VALUES * SET_SIZE;
 pub const MOST_MATRIX: usize = STATES * ROW_SIZE;
 
 /// Bytes in the entry of a split in an index.
-pub const ENTRY_SIZE: usize = 192;
+pub const ENTRY_SIZE: usize = 1088;
 
 /// Bytes in the index of the most splits: a set of states, then an entry for each.
 pub const MOST_INDEX: usize = SET_SIZE + ENTRY_SIZE * MOST_SPLITS;
+
+/// What a word of an index has more where the entry that it leads to tells.
+pub const TELLING: u32 = 2_147_483_648;
+
+/// The bytes that splits prepared straight from a list need.
+pub const PREPARE_SPLITS: usize = SPLIT_SIZE * MOST_SPLITS;
+
+/// The bytes that their index needs.
+pub const PREPARE_INDEX: usize = MOST_INDEX;
 
 /// The bytes that the classes of a table that is built need.
 pub const LENT_CLASSES: usize = BYTE_VALUES;

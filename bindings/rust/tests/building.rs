@@ -1,6 +1,7 @@
 //! Replays the cases of the builder that the second program made, `tools/second/builds`, through the archive and compares each line with
 //! `tools/second/built`. Where a table is built, the check accepts it at bound 1, and flows fed through it and by its index tell the pairs of the plain
-//! feed. `tools/second/README.md` says what the lines have. `WATCH_VECTORS` may name a smaller number of lines.
+//! feed. So of splits and an index straight from a list, `tools/second/prepares` and `prepared`. `tools/second/README.md` says what the lines have.
+//! `WATCH_VECTORS` may name a smaller number of lines.
 
 #[path = "dice.rs"]
 mod dice;
@@ -9,7 +10,8 @@ use dice::Dice;
 use std::collections::BTreeMap;
 use std::path::PathBuf;
 use watch::{
-    raw, Flow, Index, LentLists, List, Pair, Refusal, Table, LENT_CLASSES, LENT_PARTS, LENT_ROWS, LENT_SPLITS, SET_SIZE,
+    raw, Flow, Index, LentLists, List, Pair, Refusal, Table, LENT_CLASSES, LENT_PARTS, LENT_ROWS, LENT_SPLITS,
+    PREPARE_INDEX, PREPARE_SPLITS, SET_SIZE, SPLIT_SIZE,
 };
 
 /// What stands in each lent list before a call.
@@ -77,12 +79,21 @@ fn build(list: &[u8], lent: [usize; 4]) -> (raw::WatchBuilt, [Box<[u8]>; 4]) {
     (built, lists)
 }
 
+/// Prepares in lists of these lengths, each a block of its own; the answer, and the lists.
+fn prepare(list: &[u8], lent: [usize; 2]) -> (raw::WatchMade, [Box<[u8]>; 2]) {
+    let mut lists = lent.map(|length| vec![FILL; length].into_boxed_slice());
+    let [s, x] = &mut lists;
+    // SAFETY: every pointer and length is that of a block of its own.
+    let made =
+        unsafe { raw::watch_prepare(list.as_ptr(), list.len(), s.as_mut_ptr(), s.len(), x.as_mut_ptr(), x.len()) };
+    (made, lists)
+}
+
 /// The line of an answer: of each list the digest of the bytes used, and of the others how many are 0 and how many are still as they were.
-fn line(built: &raw::WatchBuilt, lists: &[Box<[u8]>; 4]) -> String {
-    let lengths = [built.classes, built.parts, built.rows, built.splits];
-    let mut text = format!("b {}", built.refusal);
+fn line(letter: char, refusal: u32, lengths: &[u64], lists: &[Box<[u8]>]) -> String {
+    let mut text = format!("{letter} {refusal}");
     lengths.iter().for_each(|length| text += &format!(" {length}"));
-    for (list, &length) in lists.iter().zip(&lengths) {
+    for (list, &length) in lists.iter().zip(lengths) {
         let (front, rest) = list.split_at(length as usize);
         let count = |byte: u8| rest.iter().filter(|&&b| b == byte).count();
         text += &format!(" {} {} {}", digest(front), count(0), count(FILL));
@@ -102,13 +113,105 @@ fn told(list: &List, table: Option<&Table>, piece: &[u8]) -> Vec<Pair> {
             flow.split_feed_all(table, 0, piece, |pair| pairs.push(pair)).unwrap();
             if table.lists().parts.len() <= FEW_SETS * SET_SIZE {
                 let index = Index::fill(table, vec![FILL; table.index_size()]).unwrap();
-                prepared.prepared_feed_all(&index, 0, piece, |pair| again.push(pair)).unwrap();
+                prepared.prepared_feed_all(&index, &mut 0, 0, piece, |pair| again.push(pair)).unwrap();
                 assert_eq!((&again, &prepared), (&pairs, &flow));
             }
             assert_eq!(flow.rows_read(), piece.len() as u64);
         }
     }
     pairs
+}
+
+/// Bytes that a list speaks of, mostly.
+fn spoken_of(dice: &mut Dice, list: &[u8]) -> Vec<u8> {
+    let letters: Vec<u8> = list.chunks(8).flat_map(|record| [record[1], record[2]]).collect();
+    (0..40).map(|_| letters[dice.below(letters.len())]).collect()
+}
+
+/// The pairs of a piece that is fed by an index, cut in two, with the split that the call before left or with any number; each byte reads one row, and
+/// the split left has the frontier.
+fn told_by_index(dice: &mut Dice, list: &List, index: &Index<&[u8]>, piece: &[u8]) -> Vec<Pair> {
+    let mut pairs = Vec::new();
+    let mut flow = Flow::open_all(list, |pair| pairs.push(pair));
+    let mut split = dice.below(9) as u32;
+    let cut = dice.below(piece.len() + 1);
+    for (start, part) in [(0, &piece[..cut]), (cut, &piece[cut..])] {
+        if dice.once_in(3) {
+            split = u32::MAX;
+        }
+        flow.prepared_feed_all(index, &mut split, start as u64, part, |pair| pairs.push(pair)).unwrap();
+        assert_eq!(index.splits()[SPLIT_SIZE * split as usize..][..SET_SIZE], flow.as_bytes()[..SET_SIZE]);
+    }
+    assert_eq!(flow.rows_read(), piece.len() as u64);
+    pairs
+}
+
+#[test]
+fn what_is_prepared_is_answered_line_by_line() {
+    let most = std::env::var("WATCH_VECTORS").map_or(usize::MAX, |n| n.parse().expect("WATCH_VECTORS is a number"));
+    let (prepares, prepared) = (file("prepares"), String::from_utf8(file("prepared")).unwrap());
+    let mut reader = Reader { data: &prepares };
+    let mut expected = prepared.lines();
+    let mut dice = Dice(17);
+    let mut counts = BTreeMap::<u32, usize>::new();
+    let (mut lines, mut pairs) = (0, 0);
+    while !reader.data.is_empty() && lines < most {
+        let bytes = reader.block();
+        let lent = [(); 2].map(|()| reader.u32());
+        let (made, lists) = prepare(&bytes, lent);
+        lines += 1;
+        let lengths = [made.splits, made.index];
+        assert_eq!(Some(line('q', made.refusal, &lengths, &lists).as_str()), expected.next(), "line {lines}");
+        *counts.entry(made.refusal).or_default() += 1;
+        if made.refusal == 0 {
+            let list = List::check(&bytes).unwrap();
+            let index = Index::unchecked(&lists[0][..made.splits as usize], &lists[1][..made.index as usize]);
+            let piece = spoken_of(&mut dice, &bytes);
+            let plain = told(&list, None, &piece);
+            assert_eq!(told_by_index(&mut dice, &list, &index, &piece), plain, "line {lines}");
+            pairs += plain.len();
+        }
+    }
+    if lines < most {
+        assert_eq!(expected.next(), None, "after line {lines}");
+        assert!(pairs > 500, "{pairs} pairs");
+    }
+    println!("preparing: {lines} lines, all equal; {pairs} pairs as the plain feed tells; {counts:?}");
+}
+
+/// The index that is filled for the built table is the one that is prepared, byte for byte: one row a byte.
+#[test]
+fn what_is_prepared_is_the_index_of_the_built_table() {
+    for bytes in [BARN.to_vec(), fan(9), fan(40)] {
+        let list = List::check(&bytes).unwrap();
+        let built = Table::build(&list).unwrap();
+        let index = Index::fill(&built.table(), vec![FILL; built.table().index_size()]).unwrap();
+        let prepared = Index::prepare(&list).unwrap();
+        assert!(index.as_bytes() == prepared.index().as_bytes());
+        let sets = |splits: &[u8]| splits.chunks(SPLIT_SIZE).map(|split| split[..SET_SIZE].to_vec()).collect::<Vec<_>>();
+        assert_eq!(sets(index.splits()), sets(prepared.index().splits()));
+        assert!(prepared.index().splits().chunks(SPLIT_SIZE).all(|split| split[SET_SIZE..] == [255; 8]));
+    }
+}
+
+#[test]
+fn lent_lists_of_any_length_are_prepared_in() {
+    let list = List::check(BARN).unwrap();
+    let own = Index::prepare(&list).unwrap();
+    assert_eq!(format!("{own:?}"), "Prepared(Index(3 splits))");
+    let (mut splits, mut index) = (vec![FILL; PREPARE_SPLITS + 3], vec![FILL; PREPARE_INDEX + 5]);
+    assert_eq!(Index::prepare_in(&list, &mut splits, &mut index), Ok(own.index()));
+    assert_eq!((&splits[PREPARE_SPLITS..], &index[PREPARE_INDEX..]), (&[0; 3][..], &[0; 5][..]));
+    for (less, fewer) in [(1, 0), (0, 1)] {
+        let (mut splits, mut index) = (vec![FILL; PREPARE_SPLITS - less], vec![FILL; PREPARE_INDEX - fewer]);
+        assert_eq!(Index::prepare_in(&list, &mut splits, &mut index), Err(Refusal::LentLists));
+        assert!(splits.iter().chain(&index).all(|&byte| byte == FILL));
+    }
+}
+
+/// State 0 leads to another state on each of so many bytes, and one class more than them.
+fn fan(letters: u8) -> Vec<u8> {
+    (0..letters).flat_map(|c| [1, c, c, 0, 0, 0, c + 1, 0]).chain([2, 0, 0, 0, 0, 0, 0, 0]).collect()
 }
 
 #[test]
@@ -125,7 +228,8 @@ fn the_builders_cases_are_answered_line_by_line() {
         let lent = [(); 4].map(|()| reader.u32());
         let (built, lists) = build(&bytes, lent);
         lines += 1;
-        assert_eq!(Some(line(&built, &lists).as_str()), expected.next(), "line {lines}");
+        let lengths = [built.classes, built.parts, built.rows, built.splits];
+        assert_eq!(Some(line('b', built.refusal, &lengths, &lists).as_str()), expected.next(), "line {lines}");
         *counts.entry(built.refusal).or_default() += 1;
         if built.refusal == 0 {
             let list = List::check(&bytes).unwrap();
@@ -136,9 +240,7 @@ fn the_builders_cases_are_answered_line_by_line() {
                 splits: &lists[3][..built.splits as usize],
             };
             let table = Table::check(&list, 1, table).unwrap_or_else(|refusal| panic!("line {lines}: {refusal}"));
-            // Bytes that the list speaks of, mostly.
-            let letters: Vec<u8> = bytes.chunks(8).flat_map(|record| [record[1], record[2]]).collect();
-            let piece: Vec<u8> = (0..40).map(|_| letters[dice.below(letters.len())]).collect();
+            let piece = spoken_of(&mut dice, &bytes);
             let plain = told(&list, None, &piece);
             assert_eq!(told(&list, Some(&table), &piece), plain, "line {lines}");
             pairs += plain.len();
@@ -198,9 +300,10 @@ fn a_short_list_is_refused_and_stays() {
 
 #[test]
 fn more_than_a_table_has_is_refused() {
-    // State 0 leads to another state on each of 64 bytes: 65 classes.
-    let many: Vec<u8> = (0..64).flat_map(|c| [1, c, c, 0, 0, 0, c + 1, 0]).chain([2, 0, 0, 0, 0, 0, 0, 0]).collect();
+    // 65 classes: no table, but an index.
+    let many = fan(64);
     assert_eq!(Table::build(&List::check(&many).unwrap()), Err(Refusal::TooMany));
+    assert_eq!(Index::prepare(&List::check(&many).unwrap()).unwrap().index().splits().len(), 66 * SPLIT_SIZE);
     let fewer = List::check(&many[8..]).unwrap();
     assert_eq!(Table::build(&fewer).unwrap().lists().rows.len() / SET_SIZE, 64 * 65);
 }

@@ -45,13 +45,14 @@ fn digest(bytes: impl IntoIterator<Item = u8>) -> u64 {
     bytes.into_iter().fold(0, |h, byte| (h * 257 + u64::from(byte) + 1) % 4_294_967_291)
 }
 
-fn fed_line(name: char, fed: raw::WatchFed, words: &[u32], record: &[u8]) -> (u32, String) {
+fn fed_line(name: char, fed: raw::WatchFed, split: Option<u32>, words: &[u32], record: &[u8]) -> (u32, String) {
     let line = format!(
-        "{name} {} {} {} {} {} {}",
+        "{name} {} {} {} {}{} {} {}",
         fed.refusal,
         fed.bytes,
         fed.pairs,
         u32::from(fed.all),
+        split.map_or(String::new(), |split| format!(" {split}")),
         digest(words.iter().flat_map(|word| word.to_le_bytes())),
         digest(record.iter().copied())
     );
@@ -90,6 +91,19 @@ impl State {
             }
             'M' => {
                 self.matrix = reader.block();
+                return None;
+            }
+            'N' => {
+                let (length, at, part) = (reader.u32() as usize, reader.u32() as usize, reader.block());
+                let mut bytes = std::mem::take(&mut self.matrix).into_vec();
+                bytes.resize(length, 0);
+                bytes[at..at + part.len()].copy_from_slice(&part);
+                self.matrix = bytes.into();
+                return None;
+            }
+            'S' => {
+                let (length, seed) = (reader.u32() as usize, reader.u32() as usize);
+                self.matrix = (0..length).map(|i| (seed + 7 * (i % 256) + i / 256) as u8).collect();
                 return None;
             }
             'R' => {
@@ -131,7 +145,7 @@ impl State {
                         words.len(),
                     )
                 };
-                fed_line('f', fed, &words, &self.record)
+                fed_line('f', fed, None, &words, &self.record)
             }
             'k' => {
                 let bound = reader.u64();
@@ -178,7 +192,7 @@ impl State {
                         words.len(),
                     )
                 };
-                fed_line('s', fed, &words, &self.record)
+                fed_line('s', fed, None, &words, &self.record)
             }
             'm' => {
                 let refusal = unsafe { raw::watch_fill_matrix(l, n, self.matrix.as_mut_ptr(), self.matrix.len()) };
@@ -203,7 +217,7 @@ impl State {
                         words.len(),
                     )
                 };
-                fed_line('x', fed, &words, &self.record)
+                fed_line('x', fed, None, &words, &self.record)
             }
             'i' => {
                 let bound = reader.u64();
@@ -227,17 +241,16 @@ impl State {
                 (refusal, format!("i {refusal} {}", digest(self.matrix.iter().copied())))
             }
             'p' => {
-                let start = reader.u64();
+                let (split, start) = (reader.u32(), reader.u64());
                 let mut words: Box<[u32]> = (0..reader.u32()).map(|i| WORD_FILL + i).collect();
                 let piece = reader.block();
-                let fed = unsafe {
+                let stood = unsafe {
                     raw::watch_prepared_feed(
-                        self.classes.as_ptr(),
-                        self.classes.len(),
                         self.splits.as_ptr(),
                         self.splits.len(),
                         self.matrix.as_ptr(),
                         self.matrix.len(),
+                        split,
                         self.record.as_mut_ptr(),
                         self.record.len(),
                         start,
@@ -247,7 +260,9 @@ impl State {
                         words.len(),
                     )
                 };
-                fed_line('p', fed, &words, &self.record)
+                let raw::WatchStood { bytes, pairs, refusal, split, all } = stood;
+                let fed = raw::WatchFed { bytes, pairs, refusal, all };
+                fed_line('p', fed, Some(split), &words, &self.record)
             }
             _ => panic!("no such command: {name}"),
         };

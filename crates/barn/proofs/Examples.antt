@@ -17,8 +17,9 @@ use Rattle.flows.specs.Flow.{flowBytes, badFlow}
 use Rattle.plain.specs.Plain.{openPairs}
 use Rattle.tables.specs.Table.{largest, part, row, splitSet, slots, usedSlots, takenSlots, allBelow, joined, badClasses, badCount, badRowsLength, badLengths, goodSlots, inOrder, unordered, badSplits, badRows, badUnion, noStartSplit, notClosed, tableRefusal, splitOf}
 use Rattle.splits.specs.Split.{taken, stuck, splitStep}
-use Rattle.indexes.specs.Index.{knownIn, toldAt, rowsOf, leadsTo, spent, tells, moves, entry, entries}
-use Rattle.prepared.specs.Prepared.{halved, soughtOf, badIndex}
+use Rattle.entries.specs.Entry.{toldOf, splitAt, knownIn, badIndex}
+use Rattle.entries.specs.Stand.{halved, soughtOf, holdsAt, began, namedBy as namedFrom, stoodAt}
+use Rattle.fills.specs.Filled.{wordOf, wordsOf, costOf, entryOf, indexOf}
 use Rattle.classes.specs.Classes.{alike}
 use Rattle.build.specs.Build.{partsOf, splitsOf}
 use Rattle.barn.specs.Examples.{Row, Agree, feedRows, openRow, openedRow, acceptedRow, acceptedRow₁, acceptedRow₀, boundRow, closedRow, startRow, loudRow, indexRow, alikeRow, orderRows, indexRows, buildRows, examples}
@@ -112,7 +113,7 @@ orders-hold = tt
 
 -- what the index's rows compute with, beside those
 indexing : ℕ
-unfolding sigsAt knownIn toldAt stack rowsOf leadsTo spent tells moves entry entries halved soughtOf badIndex
+unfolding sigsAt stack toldOf splitAt knownIn badIndex halved soughtOf holdsAt began namedFrom stoodAt wordOf wordsOf costOf entryOf indexOf
 indexing = 0
 
 index-holds : T (same (indexRow .0) (indexRow .1))

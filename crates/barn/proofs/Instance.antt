@@ -1,5 +1,5 @@
 -- The demands are no empty promises: openings, and calls that follow, to which the theorems apply. Assumes nothing.
-use Prim.Native.Nat.{ℕ, zero, suc, _/_, _^_, _<_}
+use Prim.Native.Nat.{ℕ, zero, suc, _<_}
 use mathlib.Core.Path.{_≡_, refl, sym, _∙_}
 use mathlib.Core.List.{List, [], _∷_, _++_}
 use mathlib.Core.Logic.{inl, inr}
@@ -7,6 +7,7 @@ use native.Mathlib.Omega.{arith}
 use lib.ListN.{replicate}
 use lib.Dec.{lit<}
 use Rattle.sets.specs.Set.{digits, setBytes}
+use Rattle.sets.proofs.Laws.{small-digits}
 use Rattle.lists.specs.List.{badLength}
 use Rattle.rules.specs.Rules.{Rule, verdict}
 use Rattle.rules.proofs.Rules.{stop}
@@ -15,10 +16,12 @@ use Rattle.feeds.proofs.Runs.{bytes-append}
 use Rattle.plain.specs.Plain.{openFlow}
 use Rattle.tables.specs.Table.{Table, tableRefusal}
 use Rattle.matrix.specs.Matrix.{filled}
-use Rattle.indexes.specs.Index.{filledIndex}
-use Rattle.prepared.specs.Prepared.{preparedRules}
-use Rattle.prepared.proofs.Feeding.{lists-said, prepared-passes}
-use Rattle.demands.specs.Calls.{Via, byList, byTable, byMatrix, byIndex, Call, InBytes}
+use Rattle.entries.specs.Stand.{standRules}
+use Rattle.entries.proofs.Sizes.{lists-said}
+use Rattle.entries.proofs.Lawful.{stand-passes}
+use Rattle.fills.specs.Filled.{filledIndex}
+use Rattle.fills.proofs.Made.{filled-checked}
+use Rattle.demands.specs.Calls.{Via, byList, byTable, byMatrix, byIndex, bySlots, Call, InBytes}
 use Rattle.demands.specs.Demands.{Flows, Demand2, Demand3, Swapped}
 use Rattle.barn.specs.Examples.{L, L₀, splitOf₂, s0, s01, s02, T₃, T₁, a, b, room, full, begin, swaps}
 use Rattle.barn.proofs.Examples.{open-agrees, opened-agrees, accepted-agrees, accepted-agrees₁, accepted-agrees₀}
@@ -100,30 +103,25 @@ mixed-applies =
     swapped L₀ full (replicate 5 9) passes mixed (three, (one b (lit< tt), (one b (lit< tt), (one b (lit< tt), (one b (lit< tt), tt)))))
     (λ v. (refl, tt), (λ v. (refl, tt), (λ v. none _ _ v, (λ v. (refl, accepts), (λ v. (refl, refl), tt)))))
 
--- five calls of "abab": "a" plain; "b" by the index of T; an index of no bytes, which is refused with 8; "a" by the index of the table of bound 1, and "b" by the list's matrix
+-- five calls of "abab": "a" plain; "b" by the index of T, from the split where the flow stands; an index of no bytes, which is refused with 8; "a" by the index of the table of bound 1,
+-- from a hint that names no split, and "b" by the list's matrix
 abbrev along : Via → ℕ → List ℕ → Call
 along via at piece = record { list = L; via = via; at = at; piece = piece; out = room 1 }
 
 abbrev indexed : List Call
 indexed =
-    along byList 0 (a ∷ []) ∷ along (byIndex 2 T₃ (filledIndex L T₃)) 1 (b ∷ []) ∷ along (byIndex 2 T₃ []) 2 (a ∷ [])
-    ∷ along (byIndex 1 T₁ (filledIndex L T₁)) 2 (a ∷ []) ∷ along (byMatrix (filled L)) 3 (b ∷ []) ∷ []
+    along byList 0 (a ∷ []) ∷ along (byIndex 2 (bySlots T₃) (T₃ .splits) (filledIndex L T₃) 1) 1 (b ∷ []) ∷ along (byIndex 2 (bySlots T₃) (T₃ .splits) [] 2) 2 (a ∷ [])
+    ∷ along (byIndex 1 (bySlots T₁) (T₁ .splits) (filledIndex L T₁) 9) 2 (a ∷ []) ∷ along (byMatrix (filled L)) 3 (b ∷ []) ∷ []
 
 -- an index of no bytes is refused
-no-index : (P : Type 0) (R : List ℕ) → verdict (preparedRules (T₃ .classes) (T₃ .splits) [] R 2 (a ∷ [])) ≡ 0 → P
-no-index P R v = absurd (omega (arith, lists-said (T₃ .classes) (T₃ .splits) [] (prepared-passes (T₃ .classes) (T₃ .splits) [] R 2 (a ∷ []) v .3) .index))
+no-index : (P : Type 0) (R : List ℕ) → verdict (standRules (T₃ .splits) [] 2 R 2 (a ∷ [])) ≡ 0 → P
+no-index P R v = absurd (omega (arith, lists-said (T₃ .splits) [] (stand-passes (T₃ .splits) [] 2 R 2 (a ∷ []) v .3) .long))
 
 -- the splits of both tables are bytes
-digits-bytes : (m n : ℕ) → Bytes (digits 8 m n)
-unfolding digits
-digits-bytes zero n i = lit< tt
-digits-bytes (suc m) n zero = omega arith
-digits-bytes (suc m) n (suc i) = digits-bytes m (n / 2 ^ 8) i
-
 split-bytes : (n p q : ℕ) → Bytes (splitOf₂ n p q)
 split-bytes n p q =
-    bytes-append (setBytes n) (digits 8 2 p ++ (digits 8 2 q ++ digits 8 4 0xFFFFFFFF)) (digits-bytes 128 n)
-    (bytes-append (digits 8 2 p) (digits 8 2 q ++ digits 8 4 0xFFFFFFFF) (digits-bytes 2 p) (bytes-append (digits 8 2 q) (digits 8 4 0xFFFFFFFF) (digits-bytes 2 q) (digits-bytes 4 0xFFFFFFFF)))
+    bytes-append (setBytes n) (digits 8 2 p ++ (digits 8 2 q ++ digits 8 4 0xFFFFFFFF)) (small-digits 8 128 n)
+    (bytes-append (digits 8 2 p) (digits 8 2 q ++ digits 8 4 0xFFFFFFFF) (small-digits 8 2 p) (bytes-append (digits 8 2 q) (digits 8 4 0xFFFFFFFF) (small-digits 8 2 q) (small-digits 8 4 0xFFFFFFFF)))
 
 splits-bytes : (x y z : List ℕ) → Bytes x → Bytes y → Bytes z → Bytes (x ++ (y ++ z))
 splits-bytes x y z p q r = bytes-append x (y ++ z) p (bytes-append y z q r)
@@ -137,9 +135,9 @@ bytes₁ = splits-bytes (splitOf₂ 1 0 65535) (splitOf₂ 3 1 65535) (splitOf�
 pub indexed-applies : Swapped L (openFlow L full []) indexed
 indexed-applies =
     swapped L full [] opens indexed (one a (lit< tt), (one b (lit< tt), (one a (lit< tt), (one a (lit< tt), (one b (lit< tt), tt)))))
-    (λ v. (refl, tt), (λ v. (refl, (accepts₂, refl, bytes₃)), (λ v. no-index _ _ v, (λ v. (refl, (accepts₁, refl, bytes₁)), (λ v. (refl, refl), tt)))))
+    (λ v. (refl, tt), (λ v. (refl, filled-checked L 2 T₃ accepts₂ bytes₃ 1), (λ v. no-index _ _ v, (λ v. (refl, filled-checked L 1 T₁ accepts₁ bytes₁ 9), (λ v. (refl, refl), tt)))))
 
 -- two calls through T at 2, split and then prepared
-pub through-applies : Demand3 L 2 T₃ (openFlow L full []) (along (byTable 2 T₃) 0 (a ∷ []) ∷ along (byIndex 2 T₃ (filledIndex L T₃)) 1 (b ∷ []) ∷ [])
+pub through-applies : Demand3 L 2 T₃ (openFlow L full []) (along (byTable 2 T₃) 0 (a ∷ []) ∷ along (byIndex 2 (bySlots T₃) (T₃ .splits) (filledIndex L T₃) 1) 1 (b ∷ []) ∷ [])
 through-applies =
-    demand-3 L 2 T₃ accepts₂ full [] opens _ (one a (lit< tt), (one b (lit< tt), tt)) (λ v. (refl, inl refl), (λ v. (refl, inr (refl, bytes₃)), tt))
+    demand-3 L 2 T₃ accepts₂ full [] opens _ (one a (lit< tt), (one b (lit< tt), tt)) (λ v. (refl, inl refl), (λ v. (refl, inr (1, refl, bytes₃)), tt))

@@ -13,8 +13,9 @@ use Rattle.flows.specs.Flow.{flowSize, flowBytes, rowsOf}
 use Rattle.plain.specs.Plain.{plain, opened, openFlow, pairsOf}
 use Rattle.tables.specs.Table.{Table, table, splitSize, mostClass, mostParts, mostSplits, mostBound, tableRefusal}
 use Rattle.matrix.specs.Matrix.{matrixLength, cellAt}
-use Rattle.indexes.specs.Index.{entrySize, sigsPlace, notePlace, entryPlace, filledIndex}
-use Rattle.prepared.specs.Prepared.{preparedFeed}
+use Rattle.entries.specs.Entry.{entrySize, sigsPlace, costPlace, flagPlace, entryPlace, telling}
+use Rattle.entries.specs.Stand.{standFeed, stoodAt}
+use Rattle.fills.specs.Filled.{filledIndex}
 use Rattle.classes.specs.Classes.{mostClasses, alike}
 use Rattle.build.specs.Build.{mostRows, lower, partsOf, splitsOf}
 use Rattle.demands.specs.Calls.{Via, byList, byTable, byMatrix, Call, outcome, wordsOf, after}
@@ -278,38 +279,53 @@ s8 = splitOf₂ 256 0 65535
 
 -- ---- the index of T for L
 
--- an entry by hand: where the classes of T lead, the signatures told as a number, the rows of a byte, and whether any are told
-abbrev pub entryBy : ℕ → ℕ → ℕ → ℕ → ℕ → ℕ → List ℕ
-entryBy other toA toB sigs n some = other ∷ 0 ∷ toA ∷ 0 ∷ toB ∷ 0 ∷ (replicate 122 0 ++ (digits 8 32 sigs ++ (n ∷ some ∷ replicate 30 0)))
+-- so many times the four bytes of one word
+abbrev pub wordBytes : ℕ → ℕ → List ℕ
+wordBytes zero w = []
+wordBytes (suc n) w = digits 8 4 w ++ wordBytes n w
 
--- L names {0,1,2}; by "a" {0} leads to `toA`; {0,1} by "b" to {0,2}, which tells 7; one slot is taken at {0}, and two at the others
+-- an entry by hand: the words of "a", of "b" and of every other byte, the signatures told as a number, and the rows of a byte; its states are all named
+abbrev pub entryBy : ℕ → ℕ → ℕ → ℕ → ℕ → List ℕ
+entryBy other toA toB sigs n = wordBytes 97 other ++ (wordBytes 1 toA ++ (wordBytes 1 toB ++ (wordBytes 157 other ++ (digits 8 32 sigs ++ (n ∷ 1 ∷ replicate 30 0)))))
+
+-- L names {0,1,2}; by "a" {0} goes on as the word `toA` says; {0,1} by "b" to {0,2}, at 2,304, which tells 7; one slot is taken at {0}, and two at the others
 abbrev pub indexBy : ℕ → List ℕ
-indexBy toA = setBytes 7 ++ (entryBy 0 toA 0 0 1 0 ++ (entryBy 0 1 2 0 2 0 ++ entryBy 0 1 0 128 2 1))
+indexBy toA = setBytes 7 ++ (entryBy 128 toA 128 0 1 ++ (entryBy 128 1216 (2304 + telling) 0 2 ++ entryBy 128 1216 128 128 2))
 
--- a prepared feed by T's classes and splits and an index, from a record
-abbrev pub preparedBy : List ℕ → List ℕ → ℕ → List ℕ → ℕ → Outcome
-preparedBy X R at piece n = preparedFeed (T₃ .classes) (T₃ .splits) X R at piece (room n)
+-- the index of T: "a" leads from {0} to {0,1}, at 1,216
+abbrev pub X₃ : List ℕ
+X₃ = indexBy 1216
+
+-- a prepared feed by T's splits, an index and a hint, from a record; and the split that it answers
+abbrev pub preparedBy : List ℕ → ℕ → List ℕ → ℕ → List ℕ → ℕ → Outcome
+preparedBy X h R at piece n = standFeed (T₃ .splits) X h R at piece (room n)
+
+abbrev pub stoodBy : List ℕ → ℕ → List ℕ → ℕ → List ℕ → ℕ → ℕ
+stoodBy X h R at piece n = stoodAt (T₃ .splits) X h R at piece (room n)
 
 -- what the filler writes for T is the index by hand
 abbrev pub indexRow : Row
-indexRow = (filledIndex L T₃, indexBy 1)
+indexRow = (filledIndex L T₃, X₃)
 
 abbrev pub indexRows : List Row
 indexRows =
-    -- bytes of an entry, the places of its signatures and its note, and bytes of an index of 3 splits and of the most
-    (entrySize ∷ sigsPlace ∷ notePlace ∷ entryPlace 3 ∷ entryPlace mostSplits ∷ [], 192 ∷ 128 ∷ 160 ∷ 704 ∷ 786560 ∷ [])
-    -- "abab" by the index: the words and the 7 rows of the split feed
-    ∷ (answered (preparedBy (indexBy 1) (opened L) 0 (a ∷ b ∷ a ∷ b ∷ []) 2), 0 ∷ 4 ∷ 2 ∷ 1 ∷ [])
-    ∷ (preparedBy (indexBy 1) (opened L) 0 (a ∷ b ∷ a ∷ b ∷ []) 2 .words, 7 ∷ 2 ∷ 7 ∷ 4 ∷ [])
-    ∷ (preparedBy (indexBy 1) (opened L) 0 (a ∷ b ∷ a ∷ b ∷ []) 2 .saved, flowBytes 5 4 7)
-    -- "a" leads to number 3, which names no split: it is consumed, tells nothing and costs one row; "b" halts with 14, and the frontier between them is empty
-    ∷ (answered (preparedBy (indexBy 3) (opened L) 0 (a ∷ b ∷ []) 2), 14 ∷ 1 ∷ 0 ∷ 0 ∷ [])
-    ∷ (preparedBy (indexBy 3) (opened L) 0 (a ∷ b ∷ []) 2 .saved, flowBytes 0 1 1)
-    -- a frontier that is no split, {0,1,2}: 14 at the first byte; of an empty piece nothing, and it stays
-    ∷ (answered (preparedBy (indexBy 1) (flowBytes 7 0 0) 0 (a ∷ []) 2) ++ answered (preparedBy (indexBy 1) (flowBytes 7 0 0) 0 [] 2), 14 ∷ 0 ∷ 0 ∷ 0 ∷ 0 ∷ 0 ∷ 0 ∷ 1 ∷ [])
-    -- {3}, which the index does not name: 4; an index of no bytes names none, so that 8 is given, of the empty piece too; 5 comes before 8
-    ∷ (answered (preparedBy (indexBy 1) (flowBytes 8 0 0) 0 (a ∷ []) 2), 4 ∷ 0 ∷ 0 ∷ 0 ∷ [])
-    ∷ (answered (preparedBy [] (flowBytes 8 0 0) 0 [] 2) ++ answered (preparedBy [] (opened L) 1 (a ∷ []) 2), 8 ∷ 0 ∷ 0 ∷ 0 ∷ 5 ∷ 0 ∷ 0 ∷ 0 ∷ [])
+    -- bytes of an entry, the places of its signatures, its cost and its flag, and bytes of an index of 3 splits and of the most
+    (entrySize ∷ sigsPlace ∷ costPlace ∷ flagPlace ∷ entryPlace 3 ∷ entryPlace mostSplits ∷ [], 1088 ∷ 1024 ∷ 1056 ∷ 1057 ∷ 3392 ∷ 4456576 ∷ [])
+    -- "abab" by the index, from split 0 and from a hint that names none: the words and the 7 rows of the split feed; it then stands at split 2
+    ∷ (answered (preparedBy X₃ 0 (opened L) 0 (a ∷ b ∷ a ∷ b ∷ []) 2) ++ answered (preparedBy X₃ 9 (opened L) 0 (a ∷ b ∷ a ∷ b ∷ []) 2), 0 ∷ 4 ∷ 2 ∷ 1 ∷ 0 ∷ 4 ∷ 2 ∷ 1 ∷ [])
+    ∷ (preparedBy X₃ 0 (opened L) 0 (a ∷ b ∷ a ∷ b ∷ []) 2 .words, 7 ∷ 2 ∷ 7 ∷ 4 ∷ [])
+    ∷ (preparedBy X₃ 0 (opened L) 0 (a ∷ b ∷ a ∷ b ∷ []) 2 .saved, flowBytes 5 4 7)
+    ∷ (stoodBy X₃ 0 (opened L) 0 (a ∷ b ∷ a ∷ b ∷ []) 2 ∷ stoodBy X₃ 1 (opened L) 0 (a ∷ []) 2 ∷ stoodBy X₃ 9 (opened L) 0 [] 2 ∷ [], 2 ∷ 1 ∷ 0 ∷ [])
+    -- "a" leads to place 3,392, behind the last entry: it is consumed, tells nothing and costs one row; "b" halts with 14, the frontier between them is empty, and 3 is answered
+    ∷ (answered (preparedBy (indexBy 3392) 0 (opened L) 0 (a ∷ b ∷ []) 2), 14 ∷ 1 ∷ 0 ∷ 0 ∷ [])
+    ∷ (preparedBy (indexBy 3392) 0 (opened L) 0 (a ∷ b ∷ []) 2 .saved, flowBytes 0 1 1)
+    ∷ (stoodBy (indexBy 3392) 0 (opened L) 0 (a ∷ b ∷ []) 2 ∷ [], 3 ∷ [])
+    -- a frontier that is no split, {0,1,2}: 14 at the first byte, and 3; of an empty piece nothing, and it stays
+    ∷ (answered (preparedBy X₃ 0 (flowBytes 7 0 0) 0 (a ∷ []) 2) ++ answered (preparedBy X₃ 0 (flowBytes 7 0 0) 0 [] 2), 14 ∷ 0 ∷ 0 ∷ 0 ∷ 0 ∷ 0 ∷ 0 ∷ 1 ∷ [])
+    ∷ (stoodBy X₃ 0 (flowBytes 7 0 0) 0 (a ∷ []) 2 ∷ [], 3 ∷ [])
+    -- {3}, which the index does not name: 4, and the hint is answered; an index of no bytes names none, so that 8 is given, of the empty piece too; 5 comes before 8
+    ∷ (answered (preparedBy X₃ 7 (flowBytes 8 0 0) 0 (a ∷ []) 2) ++ (stoodBy X₃ 7 (flowBytes 8 0 0) 0 (a ∷ []) 2 ∷ []), 4 ∷ 0 ∷ 0 ∷ 0 ∷ 7 ∷ [])
+    ∷ (answered (preparedBy [] 0 (flowBytes 8 0 0) 0 [] 2) ++ answered (preparedBy [] 0 (opened L) 1 (a ∷ []) 2), 8 ∷ 0 ∷ 0 ∷ 0 ∷ 5 ∷ 0 ∷ 0 ∷ 0 ∷ [])
     ∷ []
 
 -- the order of the splits, tested at the start of each split feed

@@ -14,7 +14,7 @@ use Rattle.sets.proofs.Laws.{Small, length-digits}
 use Rattle.rules.specs.Scan.{stack}
 use Rattle.rules.proofs.Stacks.{stack-length}
 use Rattle.lists.specs.List.{listRefusal}
-use Rattle.tables.specs.Table.{byteValues, splitSize, part}
+use Rattle.tables.specs.Table.{mostParts, byteValues, splitSize, part}
 use Rattle.tables.proofs.Entries.{set-bytes}
 use Rattle.classes.specs.Classes.{mostClasses, classOf, classesOf, classTotal}
 use Rattle.build.specs.Build.{partsOf, rowOf, rowsOf, slotBytes, splitsOf, over}
@@ -22,12 +22,12 @@ use Rattle.build.specs.Loops.{Laid, setsOf, Searched, Rowed, classStep, 
 use Rattle.classes.specs.Loops.{Classed, Numbered}
 use Rattle.build.proofs.Laying.{stack-front}
 use Rattle.classes.proofs.Totals.{class-length, class-at, class-lt}
-use Rattle.build.proofs.Exploring.{sets-length, sets-at, reached}
+use Rattle.build.proofs.Exploring.{classes-closed, sets-length, sets-at, reached}
 use Rattle.build.proofs.Accepts.{split-long}
 
 -- ---- entries, and zeros behind them
 
-laid-over : (f g : ℕ → List ℕ) (k m n : ℕ) (b lent : List ℕ) → length b ≡ length lent → ((i : ℕ) → length (g i) ≡ k) → m ≡ n → Laid f k m b → ((i : ℕ) → i < m → f i ≡ g i)
+pub laid-over : (f g : ℕ → List ℕ) (k m n : ℕ) (b lent : List ℕ) → length b ≡ length lent → ((i : ℕ) → length (g i) ≡ k) → m ≡ n → Laid f k m b → ((i : ℕ) → i < m → f i ≡ g i)
     → take (k * m) b ++ replicate (length b - k * m) 0 ≡ over (stack g n) lent
 laid-over f g k m n b lent e size q h same =
     let t : take (k * m) b ≡ stack g n = stack-front g k m b (λ i l. h i l ∙ same i l) ∙ ap (stack g) q in
@@ -102,7 +102,7 @@ module _ (L C P R W C′ R₁ : List ℕ) (k : ℕ) (h : byteValues ≤ length C
         reached = λ e. absurd (true≢false e);
       }
 
-  pub sought : (R′ W′ P′ : List ℕ) (n : ℕ) (full : Bool) → listRefusal L ≡ 0 → k ≤ mostClasses → Searched L W P W′ P′ n k full → length R′ ≡ length R₁
+  pub sought : (R′ W′ P′ : List ℕ) (n : ℕ) (full : Bool) → listRefusal L ≡ 0 → k ≤ mostClasses → Searched mostParts (classStep L) L W P W′ P′ n k full → length R′ ≡ length R₁
       → (full ≡ false → Rowed (classStep L) R′ W′ k (n * k)) → Sought L C P R W C′ P′ R′ W′ n k full
   sought R′ W′ P′ n full good l s e r =
       record {
@@ -115,5 +115,5 @@ module _ (L C P R W C′ R₁ : List ℕ) (k : ℕ) (h : byteValues ≤ length C
         rowed = r;
         classed = λ z. classed l;
         zeros = g .zeros;
-        reached = λ z. reached L W′ P′ n good (s .known z) (class-lt L) (rw (g .total) at (s .closed z));
+        reached = λ z. reached mostParts L W′ P′ n (s .known z) (classes-closed L W′ P′ n good (class-lt L) (rw (g .total) at (s .closed z)));
       }

@@ -23,7 +23,7 @@ use Rattle.build.proofs.Reached.{not-both}
 use Rattle.build.proofs.Accepts.{tabled, part-length, row-length, split-length}
 use Rattle.build.proofs.Outcomes.{fronts-of, enough}
 
-over-ends : (front lent : List ℕ) → length front ≤ length lent → Ends lent (over front lent) (length front)
+pub over-ends : (front lent : List ℕ) → length front ≤ length lent → Ends lent (over front lent) (length front)
 over-ends front lent h = (
   length-append front (replicate (length lent - length front) 0) ∙ omega (arith, length-replicate {A = ℕ} (length lent - length front) 0),
   λ i l. let q : i ≡ length front + (i - length front) = omega arith in

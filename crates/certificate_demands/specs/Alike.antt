@@ -41,7 +41,7 @@ pub record ListFlow (L : List ℕ) : Type 0 where
   pub out : List ℕ
   pub opens : openFlow L flow out .refusal ≡ 0
   -- each is the plain feed on L, a split feed through a table that the check accepts at its bound, the matrix feed by the matrix that the
-  -- filler writes, or the prepared feed by the index that its filler writes; one that is refused may hold anything
+  -- filler writes, or the prepared feed by an index that is right for L; one that is refused may hold anything
   pub calls : List list.Call
   pub in-bytes : list.InBytes calls
   pub by-list : list.Each (Swaps L) (openFlow L flow out .saved) calls

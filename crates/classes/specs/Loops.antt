@@ -6,6 +6,7 @@ use mathlib.Core.List.{List}
 use lib.ListN.{length, getD}
 use lib.Dec.{eqb}
 use Rattle.rules.specs.Scan.{every, first}
+use Rattle.lists.specs.List.{isEdge, low, high}
 use Rattle.lists.specs.Automaton.{step}
 use Rattle.tables.specs.Table.{byteValues, part}
 use Rattle.classes.specs.Classes.{mostClasses, lowestLike, classOf, classTotal}
@@ -23,6 +24,10 @@ pub record SetsAre (W X : List ℕ) (f : ℕ → ℕ) (n : ℕ) : Type 0 where
   pub long : length X ≡ length W
   pub sets : (c : ℕ) → c < n → part X c ≡ f c
   pub rest : (c : ℕ) → n ≤ c → part X c ≡ part W c
+
+-- record i is an edge from byte 0 to byte 255, which every byte takes
+abbrev pub wide : List ℕ → ℕ → Bool
+wide L i = (isEdge L i && eqb (low L i) 0) && eqb (high L i) 255
 
 -- bytes c and d have one class in C, and one set in W
 abbrev pub like : List ℕ → List ℕ → ℕ → ℕ → Bool

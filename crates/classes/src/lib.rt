@@ -1,18 +1,18 @@
 // The classes of the bytes, as coarse as a list permits: two bytes share one where every state steps alike on both.
 use sets::StateSet;
 ghost use mathlib.Core.Path.{_≡_};
-ghost use mathlib.Core.Bool.{true, _&&_};
+ghost use mathlib.Core.Bool.{true, false, not, _&&_};
 ghost use mathlib.Core.List.{List, _++_};
 ghost use Prim.Native.Nat.{ℕ, _+_, _-_, _*_, _^_, _<_, _≤_};
 ghost use lib.ListN.{length, getD, take, replicate};
 ghost use lib.Dec.{eqb};
-ghost use Rattle.sets.specs.Set.{states, setSize, setOf, join};
+ghost use Rattle.sets.specs.Set.{states, setSize, setOf, holds, join};
 ghost use Rattle.rules.specs.Scan.{some, first};
-ghost use Rattle.lists.specs.List.{records, from};
-ghost use Rattle.lists.specs.Automaton.{step};
+ghost use Rattle.lists.specs.List.{records, from, target};
+ghost use Rattle.lists.specs.Automaton.{edge, step};
 ghost use Rattle.tables.specs.Table.{byteValues, part};
 ghost use Rattle.classes.specs.Classes.{lowestLike, classOf};
-ghost use Rattle.classes.specs.Loops.{SetsAre, lowTo, parted, Parting, Filled, Lows, Numbered};
+ghost use Rattle.classes.specs.Loops.{SetsAre, wide, lowTo, parted, Parting, Filled, Lows, Numbered};
 
 // Writes zeros from a place to the end.
 pub fn clear(b: &mut [u8], from: usize)
@@ -32,15 +32,75 @@ pub fn is_set(b: &[u8], i: usize, f: StateSet) -> bool
     StateSet::whole(b, sets::BYTES * i).same(f)
 }
 
-// Writes the empty set for each byte.
-fn empty_sets(rows: &mut [u8])
-    requires { ⌜ setSize * byteValues ≤ length (now rows) ⌝ }
-    ensures { λ r. ⌜ SetsAre (now (rows .entry)) (now (rows .exit)) (λ c. 0) byteValues ⌝ }
+// Writes a set for each byte.
+fn put_sets(f: StateSet, rows: &mut [u8])
+    requires { ⌜ (setSize * byteValues ≤ length (now rows)) × (setOf f < 2 ^ states) ⌝ }
+    ensures { λ r. ⌜ SetsAre (now (rows .entry)) (now (rows .exit)) (λ c. setOf f) byteValues ⌝ }
 {
-    let none = StateSet::EMPTY;
     for c in 0..tables::BYTE_VALUES {
-        none.store(rows, sets::BYTES * c);
+        f.store(rows, sets::BYTES * c);
     }
+}
+
+// Says whether record i leaves a state of f and is an edge from byte 0 to byte 255.
+fn takes_all(list: &[u8], f: StateSet, i: usize) -> bool
+    requires { ⌜ i < records (now list) ⌝ }
+    ensures { λ r. ⌜ r ≡ (holds (setOf f) (from (now (list .entry)) i) && wide (now (list .entry)) i) ⌝ }
+{
+    if f.has(lists::from(list, i)) {
+        lists::is_edge(list, i)
+            & (lists::byte_of(list, i, 1) == 0)
+            & (lists::byte_of(list, i, 2) == 255)
+    } else {
+        false
+    }
+}
+
+// States that every byte leads to from f: those that its edges from byte 0 to byte 255 lead to.
+fn always(list: &[u8], f: StateSet) -> StateSet
+    ensures { λ r. ⌜ (setOf r < 2 ^ states) × ((c : ℕ) → c < byteValues → join (setOf r) (step (now (list .entry)) (setOf f) c) ≡ step (now (list .entry)) (setOf f) c) ⌝ }
+{
+    let mut base = StateSet::EMPTY;
+    for i in 0..list.len() / lists::RECORD_SIZE {
+        if takes_all(list, f, i) {
+            base = base.with(lists::target(list, i));
+        }
+    }
+    base
+}
+
+// Says whether record i leaves a state of f and leads to one that is not in `base`.
+fn adds(list: &[u8], f: StateSet, base: StateSet, i: usize) -> bool
+    requires { ⌜ i < records (now list) ⌝ }
+    ensures { λ r. ⌜ r ≡ (holds (setOf f) (from (now (list .entry)) i) && not (holds (setOf base) (target (now (list .entry)) i))) ⌝ }
+{
+    if f.has(lists::from(list, i)) {
+        !base.has(lists::target(list, i))
+    } else {
+        false
+    }
+}
+
+// No byte below this one takes a record that is a list of its own.
+fn first_byte(list: &[u8]) -> usize
+    requires { ⌜ records (now list) ≡ 1 ⌝ }
+    ensures { λ r. ⌜ (r ≤ byteValues) × ((c : ℕ) → c < r → edge (now (list .entry)) c 0 ≡ false) ⌝ }
+{
+    if lists::byte_of(list, 0, 3) == 1 {
+        return 0;
+    }
+    lists::byte_of(list, 0, 1) as usize
+}
+
+// No byte from this one on takes it.
+fn end_byte(list: &[u8]) -> usize
+    requires { ⌜ records (now list) ≡ 1 ⌝ }
+    ensures { λ r. ⌜ (r ≤ byteValues) × ((c : ℕ) → r ≤ c → c < byteValues → edge (now (list .entry)) c 0 ≡ false) ⌝ }
+{
+    if lists::byte_of(list, 0, 3) == 1 {
+        return tables::BYTE_VALUES;
+    }
+    lists::byte_of(list, 0, 2) as usize + 1
 }
 
 // Adds to each byte's set what a record, a list of its own, leads to on that byte from f.
@@ -48,7 +108,9 @@ fn add_steps(list: &[u8], f: StateSet, rows: &mut [u8])
     requires { ⌜ (setSize * byteValues ≤ length (now rows)) × (records (now list) ≡ 1) ⌝ }
     ensures { λ r. ⌜ SetsAre (now (rows .entry)) (now (rows .exit)) (λ c. join (part (now (rows .entry)) c) (step (now (list .entry)) (setOf f) c)) byteValues ⌝ }
 {
-    for c in 0..tables::BYTE_VALUES {
+    let low = first_byte(list);
+    let end = end_byte(list);
+    for c in low..end {
         let b = c as u8;
         if lists::edge(list, b, lists::exchanged(b), 0) {
             let t = StateSet::whole(rows, sets::BYTES * c).union(lists::step(list, f, b));
@@ -57,15 +119,15 @@ fn add_steps(list: &[u8], f: StateSet, rows: &mut [u8])
     }
 }
 
-// Writes the set that each byte leads to from state s, record by record.
-fn fill_steps(list: &[u8], s: usize, rows: &mut [u8])
-    requires { ⌜ (s < states) × (setSize * byteValues ≤ length (now rows)) ⌝ }
-    ensures { λ r. ⌜ (length (now (rows .exit)) ≡ length (now (rows .entry))) × ((c : ℕ) → c < byteValues → part (now (rows .exit)) c ≡ step (now (list .entry)) (2 ^ s) c) ⌝ }
+// Writes the set that each byte leads to from f, record by record; what every byte leads to is written once.
+pub fn fill_steps(list: &[u8], f: StateSet, rows: &mut [u8])
+    requires { ⌜ setSize * byteValues ≤ length (now rows) ⌝ }
+    ensures { λ r. ⌜ (length (now (rows .exit)) ≡ length (now (rows .entry))) × ((c : ℕ) → c < byteValues → part (now (rows .exit)) c ≡ step (now (list .entry)) (setOf f) c) ⌝ }
 {
-    let f = StateSet::EMPTY.with(s);
-    empty_sets(rows);
+    let base = always(list, f);
+    put_sets(base, rows);
     for i in 0..list.len() / lists::RECORD_SIZE {
-        if lists::from(list, i) == s {
+        if adds(list, f, base, i) {
             let at = lists::RECORD_SIZE * i;
             let end = at + lists::RECORD_SIZE;
             add_steps(&list[at..end], f, rows);
@@ -134,7 +196,7 @@ fn part_by(list: &[u8], s: usize, classes: &mut [u8], rows: &mut [u8])
     if !is_left(list, s) {
         return;
     }
-    fill_steps(list, s, rows);
+    fill_steps(list, StateSet::EMPTY.with(s), rows);
     refine(classes, rows);
 }
 

@@ -52,7 +52,7 @@ first-split (w ∷ ws) vs n f =
     choose f (λ a. inl (inl a)) (λ b. choose (first-split ws vs n (b .1)) (λ g. inl (inr (b .0, g))) (λ g. inr ((b .0, g .0), g .1)))
 
 -- where the first table refuses, the second says nothing
-words-refused : (ws vs : List Row) (r : ℕ) → InWords ws r → (r ≡ 0 → ⊥) → InWords (ws ++ vs) r
+pub words-refused : (ws vs : List Row) (r : ℕ) → InWords ws r → (r ≡ 0 → ⊥) → InWords (ws ++ vs) r
 words-refused ws vs r i z =
     record {
       passes = (λ e. absurd (z e), λ n. i .passes .1 (none-front ws vs n));
@@ -63,7 +63,7 @@ words-refused ws vs r i z =
     }
 
 -- where it passes, one row more is given, or none
-words-next : (ws : List Row) (n : ℕ) (A : Type 0) → InWords ws 0 → (n ≡ 0 → ⊥) → A → InWords (ws ++ ((n, A) ∷ [])) n
+pub words-next : (ws : List Row) (n : ℕ) (A : Type 0) → InWords ws 0 → (n ≡ 0 → ⊥) → A → InWords (ws ++ ((n, A) ∷ [])) n
 words-next ws n A i z a =
     record {
       passes = (λ e. absurd (z e), λ m. absurd (none-back ws ((n, A) ∷ []) m .0 a));
@@ -73,7 +73,7 @@ words-next ws n A i z a =
       );
     }
 
-words-none : (ws : List Row) (n : ℕ) (A : Type 0) → InWords ws 0 → (A → ⊥) → InWords (ws ++ ((n, A) ∷ [])) 0
+pub words-none : (ws : List Row) (n : ℕ) (A : Type 0) → InWords ws 0 → (A → ⊥) → InWords (ws ++ ((n, A) ∷ [])) 0
 words-none ws n A i b =
     record {
       passes = (λ e. none-both ws ((n, A) ∷ []) (i .passes .0 refl) (b, tt), λ m. refl);

@@ -5,7 +5,7 @@ use mathlib.Core.Bool.{true}
 use mathlib.Core.List.{List, _++_}
 use native.Mathlib.Omega.{arith}
 use lib.Dec.{lit<}
-use borrow.Author.Tests.{eq-eqb, ne-eqb, leb-true, le-leb}
+use borrow.Author.Tests.{ne-eqb}
 use Rattle.sets.specs.Set.{signatures, size}
 use Rattle.sets.proofs.Members.{members-size, members-most}
 use Rattle.rules.specs.Scan.{every, rising}
@@ -29,9 +29,11 @@ use Rattle.splits.proofs.Halting.{stuck-exactly}
 use Rattle.splits.proofs.Rising.{rising-verdict, rising-as-before}
 use Rattle.matrix.specs.Matrix.{fillRules}
 use Rattle.matrix.proofs.Exact.{matrix-is-plain, filled-left}
-use Rattle.indexes.specs.Index.{filledIndex, indexRules, indexRefusal, FillsIndex}
-use Rattle.indexes.proofs.Filling.{fill-passes}
-use Rattle.prepared.proofs.Exact.{prepared-exact}
+use Rattle.entries.proofs.Hints.{feed-hints, stood-hints}
+use Rattle.entries.proofs.Words.{index-moves}
+use Rattle.entries.proofs.Standing.{hint-kept, stands}
+use Rattle.fills.specs.Filled.{indexRules, indexRefusal}
+use Rattle.fills.proofs.Ready as index
 use Rattle.build.proofs.Reached.{unique-build}
 use Rattle.build.proofs.Outcomes.{build-accepted}
 use Rattle.build.proofs.Words.{keeps, empties, fills}
@@ -39,9 +41,11 @@ use Rattle.rules.specs.Words.{InWords}
 use Rattle.demands.specs.Words.{tableWords, AllRise}
 use Rattle.demands.specs.Calls.{wayOf}
 use Rattle.demands.specs.Demands.{Demand1}
+use Rattle.prepares.proofs.Ends.{unique-prepare}
 use Rattle.demands.proofs.Engines.{lawful-of, said-of, ruled-of}
 use Rattle.demands.proofs.Saying.{list-tells, open-tells, table-tells, fill-tells, index-tells}
 use Rattle.demands.proofs.Building.{build-tells}
+use Rattle.demands.proofs.Preparing.{prepare-tells, prepare-keeps, prepare-empties, prepare-makes}
 
 -- ---- opening
 
@@ -72,10 +76,6 @@ all-rise S r = every-all (splitCount S) (inOrder S) at-each
     at-each zero h = in-order-first S
     at-each (suc i) h = in-order-exactly S i h .1 (r i h)
 
--- what the filler leaves
-index-left : (L : List ℕ) (b : ℕ) (T : Table) (X : List ℕ) (refusal : ℕ) (left : List ℕ) → FillsIndex L b T X refusal left → refusal ≡ 0 → (tableRefusal L b T ≡ 0) × (left ≡ filledIndex L T)
-index-left L b T X n left w z = (fill-passes L b T X (sym (w .refused) ∙ z) .0, w .wrote ∙ rw (eq-eqb (indexRefusal L b T X) 0 (sym (w .refused) ∙ z)))
-
 -- the table check in words
 table-said : (L : List ℕ) (b : ℕ) (T : Table) → InWords (tableWords L b T) (tableRefusal L b T)
 unfolding tableRefusal
@@ -105,10 +105,13 @@ demand-1 =
       feeds-low = λ R c. lawful-of (c .via) .below-14 (c .list) R (c .at) (c .piece);
       feeds-cut = λ R c. lawful-of (c .via) .shorter (c .list) R (c .at) (c .piece);
       stuck-said = stuck-exactly;
-      lost-said = λ C S X x. (leb-true _ _, le-leb _ _);
+      lost-said = λ S X x. index-moves S X x 0 .halts;
       splits-rising = λ L b T R at piece out r. rising-as-before L b T (all-rise (T .splits) r) R at piece out;
       matrices-plain = matrix-is-plain;
-      prepares-split = λ L b T R at piece out e s h. prepared-exact L b T e s R at piece out h;
+      prepares-split = λ L b T h R at piece out e s hb. index.stand-exact L b T e s h R at piece out hb;
+      hints-kept = hint-kept;
+      stands-said = λ L S X r h R at piece out hr hb v. stands L S X r h R hr at piece out hb v;
+      hints-alike = λ L S X r h k R at piece out. (feed-hints L S X r h k R at piece out, stood-hints L S X r h k R at piece out);
       tables = table-exactly;
       tables-said = table-said;
       fills-said = λ L X n left w. rw (w .refuses) (fill-tells L X);
@@ -116,10 +119,15 @@ demand-1 =
       fills-passes = filled-left;
       indexes-said = λ L b T X n left w. rw (w .refused) (index-tells L b T X);
       indexes-not = λ L b T X n left w v. w .wrote ∙ rw (ne-eqb (indexRefusal L b T X) 0 (λ z. v (w .refused ∙ z)));
-      indexes-passes = index-left;
+      indexes-passes = λ L b T X n left w z. index.filled-left L b T X n left w z;
       builds-one = unique-build;
       builds-said = build-tells;
       builds-not = keeps;
       builds-16 = empties;
       builds-passes = λ L T o b z. let f = fills L T o b z in (f .0, build-accepted L T o b z, f .1);
+      prepares-one = unique-prepare;
+      prepares-said = prepare-tells;
+      prepares-not = prepare-keeps;
+      prepares-16 = prepare-empties;
+      prepares-passes = prepare-makes;
     }

@@ -32,8 +32,9 @@ use Rattle.feeds.specs.Engine.{run}
 use Rattle.tables.specs.Table.{Table, tableRefusal}
 use Rattle.matrix.specs.Matrix.{filled, Fills}
 use Rattle.matrix.proofs.Exact.{filled-left}
-use Rattle.indexes.specs.Index.{filledIndex, FillsIndex}
-use Rattle.demands.specs.Calls.{Via, byList, byTable, byMatrix, byIndex, Checked, Call, wayOf, outcome, ruled, asked, Each}
+use Rattle.fills.specs.Filled.{filledIndex, FillsIndex}
+use Rattle.fills.proofs.Made.{filled-checked}
+use Rattle.demands.specs.Calls.{Via, byList, byTable, byMatrix, byIndex, bySlots, Checked, Call, wayOf, outcome, ruled, asked, Each}
 use Rattle.demands.specs.Demands.{Swaps, Swapped, Due}
 use Rattle.demands.specs.Drivers.{viaBy, callOf, pieceOf, does, nearest, Plan, planned, Turn, Meant, AsMeant, answer, answers, Came, Driven}
 use Rattle.demands.proofs.Demand1.{demand-1}
@@ -163,13 +164,13 @@ due-as L bs cs ws vs p q h = rw (p, q) at h
 
 -- by the list, an accepted table, and what the fillers wrote: whatever the number says, what a feed goes by is checked
 pub checked-by : (L : List ℕ) (b : ℕ) (T : Table) (X Y : List ℕ) → tableRefusal L b T ≡ 0 → X ≡ filled L → Y ≡ filledIndex L T → Bytes (T .splits) → (k : ℕ) → Checked L (viaBy b T X Y k)
-checked-by L b T X Y ok x y h k = go (eqb k 1) (eqb k 2) (eqb k 3)
+checked-by L b T X Y ok x y h k = go (eqb k 0) (eqb k 1) (eqb k 2)
   where
-    go : (p q r : Bool) → Checked L (cond p (byTable b T) (cond q (byMatrix X) (cond r (byIndex b T Y) byList)))
-    go true q r = ok
-    go false true r = x
-    go false false true = (ok, y, h)
-    go false false false = tt
+    go : (p q r : Bool) → Checked L (cond p byList (cond q (byTable b T) (cond r (byMatrix X) (byIndex b (bySlots T) (T .splits) Y (k - 3)))))
+    go true q r = tt
+    go false true r = ok
+    go false false true = x
+    go false false false = rw y (filled-checked L b T ok h (k - 3))
 
 -- so the calls change between what is checked
 meant-swaps : (L : List ℕ) (P : Plan) → ((i : ℕ) → Checked L (P .via i)) → (R : List ℕ) (k n w : ℕ) (ms : List (Made Call)) (e v : ℕ) → AsMeant L P k n w ms e v → Each (Swaps L) R (callsOf ms)

@@ -3,6 +3,7 @@ use Prim.Native.Nat.{ℕ, _^_, _≤_, _<_}
 use mathlib.Core.Path.{_≡_, refl, sym, _∙_}
 use mathlib.Core.Bool.{false}
 use mathlib.Core.List.{List}
+use native.Mathlib.Omega.{arith}
 use native.Mathlib.Decide.{ℕ-discrete}
 use lib.ListN.{length}
 use Rattle.sets.specs.Set.{states}
@@ -23,30 +24,36 @@ use Rattle.plain.specs.Means.{listAutomata}
 use Rattle.plain.proofs.Lawful as list
 use Rattle.splits.proofs.Lawful as table
 use Rattle.matrix.proofs.Lawful as matrix
-use Rattle.prepared.proofs.Lawful as index
+use Rattle.splits.proofs.Stepping.{split-cheap}
+use Rattle.entries.proofs.Lawful as index
 use Rattle.rules.specs.Words.{InWords}
-use Rattle.demands.specs.Calls.{Via, byList, byTable, byMatrix, byIndex, meansOf, wordsBy, Lent, Call, wayOf, outcome, ruled, bytesOf, InBytes}
+use Rattle.demands.specs.Calls.{Via, byList, byTable, byMatrix, byIndex, Counting, bySlots, byOne, countBy, meansOf, wordsBy, Lent, Call, wayOf, outcome, ruled, bytesOf, InBytes}
 use Rattle.demands.specs.Demands.{spends, counted}
 use Rattle.demands.proofs.Saying.{feed-tells, split-tells, matrix-tells, prepared-tells}
+
+-- a byte counts at most a row for each state
+count-few : (n : Counting) (F : ℕ) → countBy n F ≤ states
+count-few (bySlots T) F = omega (arith, split-cheap T F)
+count-few byOne F = omega arith
 
 pub lawful-of : (v : Via) → Lawful listAutomata (meansOf v)
 lawful-of byList = list.lawful
 lawful-of (byTable b T) = table.lawful b T
 lawful-of (byMatrix X) = matrix.lawful X
-lawful-of (byIndex b T X) = index.lawful b T X
+lawful-of (byIndex b n S X h) = index.lawful b (countBy n) (count-few n) S X h
 
 pub said-of : (v : Via) (L R : List ℕ) (at : ℕ) (piece : List ℕ) → InWords (wordsBy v L R at piece) (verdict (meansOf v .rules L R at piece))
 said-of byList L = feed-tells L
 said-of (byTable b T) L = split-tells L b T
 said-of (byMatrix X) L = matrix-tells L X
-said-of (byIndex b T X) L = prepared-tells (T .classes) (T .splits) X
+said-of (byIndex b n S X h) L = prepared-tells S X h
 
 pub ruled-of : (v : Via) (L R : List ℕ) (at : ℕ) (piece : List ℕ) → Rises (meansOf v .rules L R at piece) × Refuses (meansOf v .rules L R at piece) (verdict (meansOf v .rules L R at piece))
 unfolding rising
 ruled-of byList L R at piece = let rs = meansOf byList .rules L R at piece in (rises 0 rs refl, refuses rs refl)
 ruled-of (byTable b T) L R at piece = let rs = meansOf (byTable b T) .rules L R at piece in (rises 0 rs refl, refuses rs refl)
 ruled-of (byMatrix X) L R at piece = let rs = meansOf (byMatrix X) .rules L R at piece in (rises 0 rs refl, refuses rs refl)
-ruled-of (byIndex b T X) L R at piece = let rs = meansOf (byIndex b T X) .rules L R at piece in (rises 0 rs refl, refuses rs refl)
+ruled-of (byIndex b n S X h) L R at piece = let rs = meansOf (byIndex b n S X h) .rules L R at piece in (rises 0 rs refl, refuses rs refl)
 
 -- ---- of any of them
 

@@ -1,5 +1,6 @@
 pub mod Saying
 pub mod Building
+pub mod Preparing
 pub mod Engines
 pub mod Due
 pub mod Demand1

@@ -7,8 +7,8 @@ use mathlib.Core.Logic.{_⊎_, inl, inr, _↔_}
 use native.Mathlib.Omega.{arith}
 use native.Mathlib.Decide.{ℕ-discrete}
 use lib.ListN.{length, getD}
-use lib.Dec.{ltb}
-use borrow.Author.Tests.{eqb-true, ltb-false, le-ltb, not-true}
+use lib.Dec.{eqb, ltb}
+use borrow.Author.Tests.{eqb-true, eq-eqb, ne-eqb, ltb-false, lt-ltb, le-ltb, not-true}
 use Rattle.sets.specs.Set.{signatures, setSize, members, within, setAt}
 use Rattle.sets.proofs.Members.{members-size}
 use Rattle.rules.specs.Scan.{rising}
@@ -27,16 +27,18 @@ use Rattle.feeds.specs.Engine.{room}
 use Rattle.feeds.specs.Opening.{noRoom}
 use Rattle.plain.specs.Plain.{openPairs, openRules}
 use Rattle.plain.proofs.Opening.{openPairs-long}
-use Rattle.tables.specs.Table.{Table, mostSplits, mostBound, splitSize, partCount, splitCount, slots, usedSlots, takenSlots, goodSlots, inOrder, unordered, badBound, badClasses, badCount, badLengths, badSplits, badRows, badUnion, noStartSplit, notClosed, sizeRules, risingRules, tableRules}
+use Rattle.tables.specs.Table.{Table, mostSplits, mostBound, splitSize, partCount, splitCount, splitSet, slots, usedSlots, takenSlots, goodSlots, inOrder, unordered, badBound, badClasses, badCount, badLengths, badSplits, badRows, badUnion, noStartSplit, notClosed, sizeRules, risingRules, tableRules}
 use Rattle.tables.proofs.Accepted.{Slots-good}
 use Rattle.tables.proofs.Joined.{below-exactly}
 use Rattle.tables.proofs.Checked.{bad-bound, bad-classes, bad-count, bad-rows-length, bad-lengths, bad-splits, bad-rows, bad-union, no-start-split, not-closed, slots-exactly, in-order-first, in-order-exactly, unordered-exactly}
 use Rattle.splits.specs.Split.{splitRules}
 use Rattle.matrix.specs.Matrix.{matrixLength, wrongMatrix, fillRules, matrixRules}
 use Rattle.lists.proofs.Highest.{names-low, highest-is}
-use Rattle.indexes.specs.Index.{entryPlace, knownIn, wrongIndex, indexRules}
-use Rattle.prepared.specs.Prepared.{badIndex, preparedRules}
-use Rattle.demands.specs.Words.{listWords, openingRows, openWords, Foreign, flowWords, feedWords, Highest, lengthWords, fillWords, matrixWords, Miscounted, Misclassed, Mislisted, SlotsGood, Rises, sizeWords, entryWords, tableWords, orderWords, splitWords, Misindexed, indexWords, Unnamed, preparedWords}
+use Rattle.entries.specs.Entry.{entryPlace, flagAt, knownIn, wrongIndex, badIndex}
+use Rattle.entries.specs.Stand.{holdsAt, namedBy, standRules}
+use Rattle.entries.proofs.Hints.{holds-said}
+use Rattle.fills.specs.Filled.{indexRules}
+use Rattle.demands.specs.Words.{listWords, openingRows, openWords, Foreign, flowWords, feedWords, Highest, lengthWords, fillWords, matrixWords, Miscounted, Misclassed, Mislisted, SlotsGood, Rises, sizeWords, entryWords, tableWords, orderWords, splitWords, Misindexed, indexWords, Misfit, Hinted, Outside, Unnamed, preparedWords}
 
 -- ---- the rows
 
@@ -226,11 +228,24 @@ module _ (b : ℕ) (T : Table) where
 
 -- ---- the prepared feed
 
-module _ (C S X : List ℕ) where
-  -- some state of the frontier is not among those that the index names
-  unnamed : (R : List ℕ) → not (knownIn X (frontierOf R)) ≡ true ↔ Unnamed X R
+module _ (S X : List ℕ) (h : ℕ) where
+  -- 8 of its lists
+  index-lists : badIndex S X ≡ true ↔ Misfit S X
+  unfolding badIndex
+  index-lists = either-words (Miscounted splitSize mostSplits S) (Misindexed S X) (badCount splitSize mostSplits S) (wrongIndex S X) (bad-count splitSize mostSplits S) (index-words S X)
+
+  -- the flow stands at the split that is handed in
+  hinted : (R : List ℕ) → holdsAt S X h (frontierOf R) ≡ true ↔ Hinted S X h R
+  unfolding holdsAt
+  hinted R = (
+    λ e. let p = holds-said S X h (frontierOf R) e in (fails (Misfit S X) (badIndex S X) index-lists .0 (p .0), p .1, p .2),
+    λ w. rw (fails (Misfit S X) (badIndex S X) index-lists .1 (w .0), lt-ltb h (splitCount S) (w .1), eq-eqb (splitSet S h) (frontierOf R) (w .2)),
+  )
+
+  -- some state of the frontier is not among those that the index begins with
+  outside : (R : List ℕ) → not (knownIn X (frontierOf R)) ≡ true ↔ Outside X R
   unfolding knownIn
-  unnamed R =
+  outside R =
       let o = outside-exactly (frontierOf R) (setAt X 0) in (
         λ e.
             let n = neither (ltb (length X) setSize) (within (frontierOf R) (setAt X 0)) (not-true (ltb (length X) setSize || within (frontierOf R) (setAt X 0)) e) in
@@ -238,18 +253,27 @@ module _ (C S X : List ℕ) where
         λ w. rw (le-ltb (length X) setSize (w .0)) (o .1 (w .1)),
       )
 
-  -- 8 of its lists
-  index-lists : badIndex C S X ≡ true ↔ ((Misclassed C ⊎ Miscounted splitSize mostSplits S) ⊎ Misindexed S X)
-  unfolding badIndex
-  index-lists =
-      either-words (Misclassed C ⊎ Miscounted splitSize mostSplits S) (Misindexed S X) (badClasses C || badCount splitSize mostSplits S) (wrongIndex S X)
-      (either-words (Misclassed C) (Miscounted splitSize mostSplits S) (badClasses C) (badCount splitSize mostSplits S) (bad-classes C) (bad-count splitSize mostSplits S))
-      (index-words S X)
+  unnamed : (R : List ℕ) → not (namedBy S X h (frontierOf R)) ≡ true ↔ Unnamed S X h R
+  unfolding namedBy
+  unnamed R = go (holdsAt S X h (frontierOf R)) refl
+    where
+      zero-flag : (n : ℕ) → not (not (eqb n 0)) ≡ true ↔ (n ≡ 0)
+      zero-flag zero = (λ e. refl, λ e. refl)
+      zero-flag (suc n) = (λ e. absurd (true≢false (sym e ∙ rw (ne-eqb (suc n) 0 (λ q. omega arith)))), λ e. absurd (omega arith))
 
-  prepared-says : (R : List ℕ) (at : ℕ) (piece : List ℕ) → Says (preparedRules C S X R at piece) (preparedWords C S X R at piece)
+      go : (t : Bool) → holdsAt S X h (frontierOf R) ≡ t → not (cond t (not (eqb (flagAt X (entryPlace h)) 0)) (knownIn X (frontierOf R))) ≡ true ↔ Unnamed S X h R
+      go true e =
+          let w = hinted R .0 e in
+          let z = zero-flag (flagAt X (entryPlace h)) in
+          (λ f. inl (w, z .0 f), λ s. choose s (λ p. z .1 (p .1)) (λ p. absurd (p .0 w)))
+      go false e =
+          let n = fails (Hinted S X h R) (holdsAt S X h (frontierOf R)) (hinted R) .0 e in
+          (λ f. inr (n, outside R .0 f), λ s. choose s (λ p. absurd (n (p .0))) (λ p. outside R .1 (p .1)))
+
+  prepared-says : (R : List ℕ) (at : ℕ) (piece : List ℕ) → Says (standRules S X h R at piece) (preparedWords S X h R at piece)
   prepared-says R at piece = (
     refl,
-    either-words _ (Unnamed X R) (badFlow R) (not (knownIn X (frontierOf R))) (bad-flow R) (unnamed R),
+    either-words _ (Unnamed S X h R) (badFlow R) (not (namedBy S X h (frontierOf R))) (bad-flow R) (unnamed R),
     (refl, other-start R at, (refl, too-long R piece, (refl, index-lists, tt))),
   )
 
@@ -279,5 +303,5 @@ matrix-tells L X R at piece = tells (matrixRules L X R at piece) (matrixWords L 
 pub index-tells : (L : List ℕ) (b : ℕ) (T : Table) (X : List ℕ) → InWords (indexWords L b T X) (verdict (indexRules L b T X))
 index-tells L b T X = tells (indexRules L b T X) (indexWords L b T X) refl (index-says b T L X)
 
-pub prepared-tells : (C S X R : List ℕ) (at : ℕ) (piece : List ℕ) → InWords (preparedWords C S X R at piece) (verdict (preparedRules C S X R at piece))
-prepared-tells C S X R at piece = tells (preparedRules C S X R at piece) (preparedWords C S X R at piece) refl (prepared-says C S X R at piece)
+pub prepared-tells : (S X : List ℕ) (h : ℕ) (R : List ℕ) (at : ℕ) (piece : List ℕ) → InWords (preparedWords S X h R at piece) (verdict (standRules S X h R at piece))
+prepared-tells S X h R at piece = tells (standRules S X h R at piece) (preparedWords S X h R at piece) refl (prepared-says S X h R at piece)

@@ -28,6 +28,7 @@ use Rattle.plain.specs.Means.{listAutomata}
 use Rattle.plain.proofs.Lawful.{reached-lt}
 use Rattle.tables.specs.Table.{Table, tableRefusal}
 use Rattle.splits.proofs.Rising.{accepted-rises}
+use Rattle.fills.proofs.Made.{filled-checked}
 use Rattle.demands.specs.Calls.{Via, byTable, byIndex, Checked, Names, Call, wayOf, outcome, ruled, asked, bytesOf, after, InBytes, Each}
 use Rattle.demands.specs.Demands.{Plainly, Flows, PlainFlows, Fit, Through, activeParts, SplitFollows, SplitCuts, Swaps, spends, mostRows, counted, Swapped, ListSwaps}
 use Rattle.demands.proofs.Engines.{lawful-of, calls-bytes, listKind, acts-so}
@@ -136,11 +137,11 @@ demand-2-opened L R out z cs hb h =
 
 module _ (L : List ℕ) (b : ℕ) (T : Table) (ok : tableRefusal L b T ≡ 0) where
   through-swaps : (R : List ℕ) (c : Call) → Through L b T R c → Swaps L R c
-  through-swaps R c f v = let g = f v in (g .0, choose (g .1) (λ e. rw e ok) (λ e. rw (e .0) (ok, refl, e .1)))
+  through-swaps R c f v = let g = f v in (g .0, choose (g .1) (λ e. rw e ok) (λ e. rw (e .1) (filled-checked L b T ok (e .2) (e .0))))
 
   through-counts : (R : List ℕ) (cs : List Call) → Each (Through L b T) R cs → Each (λ Q c. verdict (ruled Q c) ≡ 0 → spends (c .via) ≡ spends (byTable b T)) R cs
   through-counts =
-      along-map asked (Through L b T) (λ Q c. verdict (ruled Q c) ≡ 0 → spends (c .via) ≡ spends (byTable b T)) (λ Q c f v. choose (f v .1) (λ e. ap spends e) (λ e. ap spends (e .0)))
+      along-map asked (Through L b T) (λ Q c. verdict (ruled Q c) ≡ 0 → spends (c .via) ≡ spends (byTable b T)) (λ Q c f v. choose (f v .1) (λ e. ap spends e) (λ e. ap spends (e .1)))
 
   through-met : (cs : List Call) → InBytes cs → Each (Through L b T) (opened L) cs → Each (Meets L) (opened L) cs
   through-met cs hb h = swaps-met L cs hb (along-map asked (Through L b T) (Swaps L) through-swaps (opened L) cs h)

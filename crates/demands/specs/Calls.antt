@@ -6,7 +6,7 @@ use Rattle.feeds.specs.Engine.{Outcome}
 use Rattle.feeds.specs.Calls.{Way, fedBy, Asked, asking, recordAfter, allTold, allBytes, Along, Pieces}
 use Rattle.feeds.specs.Lawful.{wayBy}
 use Rattle.plain.specs.Means.{listAutomata}
-pub use Rattle.demands.specs.Engines.{Via, byList, byTable, byMatrix, byIndex, meansOf, wordsBy}
+pub use Rattle.demands.specs.Engines.{Via, byList, byTable, byMatrix, byIndex, Counting, bySlots, byOne, countBy, meansOf, wordsBy}
 
 -- what it goes by is checked for the list L; what rule 4 takes for the states that are named are those of L; what is lent is bytes
 abbrev pub Checked : List ℕ → Via → Type 0

@@ -22,16 +22,27 @@ use Rattle.plain.specs.Plain.{plain, opened, openPairs, firstRules, openRules, 
 use Rattle.tables.specs.Table.{Table, splitCount, sizeRules, tableRules, tableRefusal}
 use Rattle.splits.specs.Split.{taken, stuck, split, splitFeed}
 use Rattle.matrix.specs.Matrix.{filled, fillRules, Fills, matrixFeed}
-use Rattle.indexes.specs.Index.{filledIndex, indexRules, FillsIndex}
-use Rattle.prepared.specs.Prepared.{Place, prepared, preparedFeed}
-use Rattle.build.specs.Words.{Tabled, fronts, Nowhere, Untouched, ZerosBehind}
-use Rattle.build.specs.Build.{Building, Builds}
+use Rattle.entries.specs.Stand.{Stand, indexed, standRules, standFeed, stoodAt}
+use Rattle.entries.specs.Right.{IsAt, Right}
+use Rattle.fills.specs.Filled.{filledIndex, indexRules, FillsIndex}
+use Rattle.prepares.specs.Prepare.{Preparing, Prepares, splitsOf, madeIndex}
+use Rattle.build.specs.Words.{Tabled, fronts, Nowhere, Untouched, Ends, ZerosBehind}
+use Rattle.build.specs.Build.{Building, Builds, Reached}
 use Rattle.rules.specs.Words.{InWords}
-use Rattle.demands.specs.Words.{listWords, openWords, tableWords, AllRise, Stuck, fillWords, indexWords, buildWords}
-use Rattle.demands.specs.Calls.{Via, byList, byTable, byIndex, meansOf, wordsBy, Checked, Names, Lent, Call, wayOf, outcome, ruled, asked, bytesOf, wordsOf, after, InBytes, Each}
+use Rattle.demands.specs.Words.{listWords, openWords, tableWords, AllRise, Stuck, fillWords, indexWords, buildWords, prepareWords}
+use Rattle.demands.specs.Calls.{Via, byList, byTable, byIndex, bySlots, byOne, meansOf, wordsBy, Checked, Names, Lent, Call, wayOf, outcome, ruled, asked, bytesOf, wordsOf, after, InBytes, Each}
 
 -- ==== Demand 1: each refusal has a number, is given exactly when the rules say, and changes nothing in the buffers;
--- ==== only 14, met by the split feed at some byte, keeps the bytes before it, and 16, met by the builder, fills its lists with zeros.
+-- ==== only 14, met by the split feed and the prepared feed at some byte, keeps the bytes before it, and 16, met by the builder and by what is made straight from a list, fills the lists with zeros.
+
+-- what is left in the lists lent as S and X where nothing is refused: the sets that can be reached, rising, each as a split without slots, and their index; and zeros behind both
+pub record Prepared (L S X : List ℕ) (o : Preparing) : Type 0 where
+  pub sets : List ℕ
+  pub reached : Reached L sets
+  pub splits : take (o .splits) (o .made) ≡ splitsOf sets
+  pub index : take (o .index) (o .indexed) ≡ madeIndex L sets
+  pub behind : Ends S (o .made) (o .splits)
+  pub after : Ends X (o .indexed) (o .index)
 
 pub record Demand1 : Type 0 where
   -- in the rules of each entry point the numbers rise: of those that apply, the lowest is given
@@ -52,17 +63,25 @@ pub record Demand1 : Type 0 where
   pub feeds-said : (R : List ℕ) (c : Call) → InWords (wordsBy (c .via) (c .list) R (c .at) (c .piece)) (verdict (ruled R c))
   pub feeds-low : (R : List ℕ) (c : Call) → verdict (ruled R c) < 14
   pub feeds-cut : (R : List ℕ) (c : Call) (n : ℕ) → verdict (ruled R c) ≡ 0 → verdict (wayOf (c .via) (c .list) .rules R (c .at) (take n (c .piece))) ≡ 0
-  -- 14 in words: the split feed halts at a frontier that is stuck, the prepared feed at a number that names no split
+  -- 14 in words: the split feed halts at a frontier that is stuck, the prepared feed at a place behind which no whole entry stands
   pub stuck-said : (b : ℕ) (T : Table) (F : ℕ) → stuck b T F ≡ true ↔ Stuck b T F
-  pub lost-said : (C S X : List ℕ) (x : Place) → prepared C S X .halts x ≡ true ↔ (splitCount S ≤ x .split)
+  pub lost-said : (S X : List ℕ) (x : Stand) → indexed S X .halts x ≡ true ↔ (length X < x .place + 1088)
   -- the split feed, where the splits' sets rise: the outcome is that of the rules 1 to 8, without 9
   pub splits-rising : (L : List ℕ) (b : ℕ) (T : Table) (R : List ℕ) (at : ℕ) (piece out : List ℕ) → AllRise (T .splits)
       → splitFeed L b T R at piece out ≡ feed (feedRules L R at piece ++ sizeRules b T) (split L b T) flowLayout R piece out
   -- by the list's matrix the matrix feed answers and leaves what the plain feed does, and by the index of a table that the check accepts the prepared feed
   -- what the split feed does, on every record, start, piece and buffer
   pub matrices-plain : (L R : List ℕ) (at : ℕ) (piece out : List ℕ) → Bytes piece → matrixFeed L (filled L) R at piece out ≡ plainFeed L R at piece out
-  pub prepares-split : (L : List ℕ) (b : ℕ) (T : Table) (R : List ℕ) (at : ℕ) (piece out : List ℕ) → tableRefusal L b T ≡ 0 → Bytes (T .splits) → Bytes piece
-      → preparedFeed (T .classes) (T .splits) (filledIndex L T) R at piece out ≡ splitFeed L b T R at piece out
+  pub prepares-split : (L : List ℕ) (b : ℕ) (T : Table) (h : ℕ) (R : List ℕ) (at : ℕ) (piece out : List ℕ) → tableRefusal L b T ≡ 0 → Bytes (T .splits) → Bytes piece
+      → standFeed (T .splits) (filledIndex L T) h R at piece out ≡ splitFeed L b T R at piece out
+  -- the split that the prepared feed answers: where a rule refuses, the hint; else, by a right index, the split whose set is the frontier that is left, or the number of splits where none is.
+  -- By a right index all else is the same for every hint
+  pub hints-kept : (S X : List ℕ) (h : ℕ) (R : List ℕ) (at : ℕ) (piece out : List ℕ) → (verdict (standRules S X h R at piece) ≡ 0 → ⊥) → stoodAt S X h R at piece out ≡ h
+  pub stands-said : (L S X : List ℕ) → Right L S X → (h : ℕ) (R : List ℕ) (at : ℕ) (piece out : List ℕ) → Bytes R → Bytes piece → verdict (standRules S X h R at piece) ≡ 0
+      → let F = frontierOf (standFeed S X h R at piece out .saved) in
+      IsAt S F (stoodAt S X h R at piece out) ⊎ ((stoodAt S X h R at piece out ≡ splitCount S) × ((j : ℕ) → IsAt S F j → ⊥))
+  pub hints-alike : (L S X : List ℕ) → Right L S X → (h k : ℕ) (R : List ℕ) (at : ℕ) (piece out : List ℕ)
+      → (standFeed S X h R at piece out ≡ standFeed S X k R at piece out) × (verdict (standRules S X k R at piece) ≡ 0 → stoodAt S X h R at piece out ≡ stoodAt S X k R at piece out)
   -- the table check: 1 to 3 and 7 to 13
   pub tables : (L : List ℕ) (b : ℕ) (T : Table) → Refuses (tableRules L b T) (tableRefusal L b T)
   pub tables-said : (L : List ℕ) (b : ℕ) (T : Table) → InWords (tableWords L b T) (tableRefusal L b T)
@@ -83,6 +102,13 @@ pub record Demand1 : Type 0 where
   pub builds-16 : (L : List ℕ) (T : Table) (o : Building) → Builds L T o → o .refusal ≡ 16 → Nowhere o × ZerosBehind T o
   -- without a refusal the fronts of the lists are the table of what can be reached, which the check accepts at 1, and zeros follow them
   pub builds-passes : (L : List ℕ) (T : Table) (o : Building) → Builds L T o → o .refusal ≡ 0 → Tabled L (fronts o) × (tableRefusal L 1 (fronts o) ≡ 0) × ZerosBehind T o
+  -- splits and an index straight from a list, in lists lent as S and X: 1 to 3, then 17, then 16; there is one outcome, a refusal but 16 changes nothing, and 16 leaves zeros
+  pub prepares-one : (L S X : List ℕ) (o p : Preparing) → Prepares L S X o → Prepares L S X p → o ≡ p
+  pub prepares-said : (L S X : List ℕ) (o : Preparing) → Prepares L S X o → InWords (prepareWords L S X) (o .refusal)
+  pub prepares-not : (L S X : List ℕ) (o : Preparing) → Prepares L S X o → (o .refusal ≡ 0 → ⊥) → (o .refusal ≡ 16 → ⊥)
+      → (o .splits ≡ 0) × (o .index ≡ 0) × (o .made ≡ S) × (o .indexed ≡ X)
+  pub prepares-16 : (L S X : List ℕ) (o : Preparing) → Prepares L S X o → o .refusal ≡ 16 → (o .splits ≡ 0) × (o .index ≡ 0) × Ends S (o .made) 0 × Ends X (o .indexed) 0
+  pub prepares-passes : (L S X : List ℕ) (o : Preparing) → Prepares L S X o → o .refusal ≡ 0 → Prepared L S X o
 
 -- ==== Demand 2: the plain feed reports exactly the pairs that the automaton's definition gives for the bytes consumed, going on from
 -- ==== the flow's saved frontier, each once, by offset and then signature. It consumes as many bytes as have room for their pairs.
@@ -143,7 +169,7 @@ pub record OneCall : Type 0 where
   pub elsewhere : (R : List ℕ) (c : Call) → otherStart R (c .at) ≡ true → (outcome R c .refusal ≡ 0 → ⊥) × Unchanged R (c .out) (outcome R c)
   -- a feed leaves no record that a later feed on its list refuses with 4, if what it goes by is checked: then it names no foreign state
   pub never-4 : (R : List ℕ) (c : Call) → Bytes (c .piece) → Checked (c .list) (c .via) → Fit (c .list) R → Fit (c .list) (outcome R c .saved)
-  -- and such a record no call on the list refuses with 4, whatever table or matrix it goes by, checked or not, and by the index that the filler writes for any table
+  -- and such a record no call on the list refuses with 4, whatever table or matrix it goes by, checked or not, and by every index that names what the list does
   pub never-foreign : (R : List ℕ) (c : Call) → Names (c .list) (c .via) → Fit (c .list) R → outcome R c .refusal ≡ 4 → ⊥
   -- and whatever it goes by, the record keeps the size, the reserved bytes and the rows that 4 asks
   pub kept-whole : (R : List ℕ) (c : Call) → Bytes (c .piece) → Lent (c .via) → badFlow R ≡ false → badFlow (outcome R c .saved) ≡ false
@@ -152,9 +178,10 @@ pub record OneCall : Type 0 where
 -- ==== that table and bound, or by its index, cut anywhere and with refused calls between, no call ends in 14, the pairs told are those of demand 2,
 -- ==== and the rows read are the sum of the active parts before each byte, at most b times the bytes consumed.
 
--- a call that no rule refuses is on L, a split feed through T at b or the prepared feed by the index that the filler writes for T; one that is refused may hold anything
+-- a call that no rule refuses is on L, a split feed through T at b or, from any hint, the prepared feed by the index that the filler writes for T; one that is refused may hold anything
 abbrev pub Through : List ℕ → ℕ → Table → List ℕ → Call → Type 0
-Through L b T R c = verdict (ruled R c) ≡ 0 → (c .list ≡ L) × ((c .via ≡ byTable b T) ⊎ ((c .via ≡ byIndex b T (filledIndex L T)) × Bytes (T .splits)))
+Through L b T R c =
+    verdict (ruled R c) ≡ 0 → (c .list ≡ L) × ((c .via ≡ byTable b T) ⊎ ((h : ℕ) × (c .via ≡ byIndex b (bySlots T) (T .splits) (filledIndex L T) h) × Bytes (T .splits)))
 
 -- the automaton of L, where a byte costs the slots taken at the frontier before it
 abbrev pub activeParts : List ℕ → Table → Engine ℕ
@@ -192,18 +219,18 @@ BuiltFollows =
 -- and by its index the prepared feed answers and leaves what the split feed through it does
 abbrev pub BuiltPrepares : Type 0
 BuiltPrepares =
-    (L : List ℕ) (T : Table) (o : Building) → Builds L T o → o .refusal ≡ 0 → (R : List ℕ) (at : ℕ) (piece out : List ℕ) → Bytes piece
-    → preparedFeed (fronts o .classes) (fronts o .splits) (filledIndex L (fronts o)) R at piece out ≡ splitFeed L 1 (fronts o) R at piece out
+    (L : List ℕ) (T : Table) (o : Building) → Builds L T o → o .refusal ≡ 0 → (h : ℕ) (R : List ℕ) (at : ℕ) (piece out : List ℕ) → Bytes piece
+    → standFeed (fronts o .splits) (filledIndex L (fronts o)) h R at piece out ≡ splitFeed L 1 (fronts o) R at piece out
 
 -- ==== Changing tables in mid-flow: for one list a flow from opening may change at any piece between any tables that the check accepts, each
--- ==== at its own bound, their indexes, the plain feed, and the matrix that the filler writes: pairs and frontier are as if nothing was swapped, and each
+-- ==== at its own bound, any index that is right for the list, from any hint, the plain feed, and the matrix that the filler writes: pairs and frontier are as if nothing was swapped, and each
 -- ==== call adds at most its own bound times the bytes that it consumed. Such a flow holds no state that the list does not name, so no call on the list is refused with 4.
 
 -- a call that no rule refuses is on L, and what it goes by is checked; one that is refused may hold anything
 abbrev pub Swaps : List ℕ → List ℕ → Call → Type 0
 Swaps L R c = verdict (ruled R c) ≡ 0 → (c .list ≡ L) × Checked L (c .via)
 
--- what a call counts at the frontier before a byte: plain and by a matrix its states, through a table or by its index the slots taken; and the most that this may be
+-- what a call counts at the frontier before a byte: plain and by a matrix its states, through a table or by its index the slots taken, by an index made straight from the list one row; and the most that this may be
 abbrev pub spends : Via → ℕ → ℕ
 spends v = meansOf v .spends
 
@@ -215,7 +242,7 @@ abbrev pub counted : Via → List ℕ → Engine ℕ
 counted v L = costing (plain L) (spends v)
 
 pub record Swapped (L : List ℕ) (o : Opening) (cs : List Call) : Type 0 where
-  -- no call ends in 14, and none on L is refused as foreign, whatever table or matrix it goes by, and by the index that the filler writes for any table
+  -- no call ends in 14, and none on L is refused as foreign, whatever table or matrix it goes by, and by every index that names what L does
   pub never-14 : Each (λ Q c. outcome Q c .refusal ≡ 14 → ⊥) (o .saved) cs
   pub never-4 : Each (λ Q c. c .list ≡ L → Names L (c .via) → outcome Q c .refusal ≡ 4 → ⊥) (o .saved) cs
   -- a call on L by what is checked answers what the plain feed would, and leaves the same words: it is refused where that is, and consumes the same bytes
@@ -230,6 +257,21 @@ abbrev pub ListSwaps : Type 0
 ListSwaps =
     (L R out : List ℕ) → openFlow L R out .refusal ≡ 0 → (cs : List Call) → InBytes cs → Each (Swaps L) (openFlow L R out .saved) cs → Swapped L (openFlow L R out) cs
 
--- and a table that the builder made is one of those that such a flow may change to, at bound 1, and so is its index
+-- what is written into an index for any table, accepted or not, names what the list does
+abbrev pub FilledNames : Type 0
+FilledNames = (L : List ℕ) (b : ℕ) (T : Table) (h : ℕ) → Names L (byIndex b (bySlots T) (T .splits) (filledIndex L T) h)
+
+-- the index that the filler writes for an accepted table is right, at the table's own count and bound
+abbrev pub FilledSwaps : Type 0
+FilledSwaps = (L : List ℕ) (b : ℕ) (T : Table) → tableRefusal L b T ≡ 0 → Bytes (T .splits) → (h : ℕ) → Checked L (byIndex b (bySlots T) (T .splits) (filledIndex L T) h)
+
+-- a table that the builder made is one of those that such a flow may change to, at bound 1, and so is its index
 abbrev pub BuiltSwaps : Type 0
-BuiltSwaps = (L : List ℕ) (T : Table) (o : Building) → Builds L T o → o .refusal ≡ 0 → Checked L (byTable 1 (fronts o)) × Checked L (byIndex 1 (fronts o) (filledIndex L (fronts o)))
+BuiltSwaps =
+    (L : List ℕ) (T : Table) (o : Building) → Builds L T o → o .refusal ≡ 0 → (h : ℕ)
+    → Checked L (byTable 1 (fronts o)) × Checked L (byIndex 1 (bySlots (fronts o)) (fronts o .splits) (filledIndex L (fronts o)) h)
+
+-- and so are splits and an index made straight from the list, at one row a byte
+abbrev pub PreparedSwaps : Type 0
+PreparedSwaps =
+    (L S X : List ℕ) (o : Preparing) → Prepares L S X o → o .refusal ≡ 0 → (h : ℕ) → Checked L (byIndex 1 byOne (take (o .splits) (o .made)) (take (o .index) (o .indexed)) h)

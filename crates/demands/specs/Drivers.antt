@@ -18,20 +18,20 @@ use Rattle.flows.specs.Flow.{frontierOf, offsetOf}
 use Rattle.plain.specs.Plain.{plain, openFlow}
 use Rattle.tables.specs.Table.{Table, tableRefusal}
 use Rattle.matrix.specs.Matrix.{Fills}
-use Rattle.indexes.specs.Index.{FillsIndex}
+use Rattle.fills.specs.Filled.{FillsIndex}
 use Rattle.build.specs.declared.Built.{Built}
 use Rattle.build.specs.Words.{Tabled, fronts, Nowhere, ZerosBehind}
 use Rattle.build.specs.Build.{Building}
 use Rattle.rules.specs.Words.{InWords}
 use Rattle.demands.specs.Words.{buildWords}
-use Rattle.demands.specs.Calls.{Via, byList, byTable, byMatrix, byIndex, Call, outcome}
+use Rattle.demands.specs.Calls.{Via, byList, byTable, byMatrix, byIndex, bySlots, Call, outcome}
 use Rattle.demands.specs.Demands.{Due, Swapped}
 
 -- ---- any number of feeds of any kind
 
--- by what a feed goes, as a number says: 1 the table T at b, 2 the matrix X, 3 the index Y of T, else the list
+-- by what a feed goes, as a number says: 0 the list, 1 the table T at b, 2 the matrix X, 3 and more the index Y of T, from the split that is so many more
 abbrev pub viaBy : ℕ → Table → List ℕ → List ℕ → ℕ → Via
-viaBy b T X Y k = cond (eqb k 1) (byTable b T) (cond (eqb k 2) (byMatrix X) (cond (eqb k 3) (byIndex b T Y) byList))
+viaBy b T X Y k = cond (eqb k 0) byList (cond (eqb k 1) (byTable b T) (cond (eqb k 2) (byMatrix X) (byIndex b (bySlots T) (T .splits) Y (k - 3))))
 
 abbrev pub callOf : List ℕ → Via → ℕ → List ℕ → List ℕ → Call
 callOf L via at piece out = record { list = L; via = via; at = at; piece = piece; out = out }

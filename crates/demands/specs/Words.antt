@@ -140,21 +140,33 @@ Stuck b T F =
     (NoSplit (T .splits) F ⊎ ((i : ℕ) × (i < length (taken T F)) × (partCount (T .parts) ≤ getD (taken T F) i 0)))
     ⊎ (b < length (taken T F))
 
--- ---- the index of a table: its filler 1 to 3 and 7 to 13, its feed 4 to 6 and 8; and 14 at a number that names no split
+-- ---- the index of a table: its filler 1 to 3 and 7 to 13; a feed by an index 4 to 6 and 8, and 14 at a place that has no whole entry
 
--- not a set of states, and 192 bytes for each split
+-- not a set of states, and 1,088 bytes for each split
 abbrev pub Misindexed : List ℕ → List ℕ → Type 0
-Misindexed S X = length X ≡ setSize + 192 * splitCount S → ⊥
+Misindexed S X = length X ≡ setSize + 1088 * splitCount S → ⊥
 
 abbrev pub indexWords : List ℕ → ℕ → Table → List ℕ → List Row
 indexWords L b T X = listWords L ++ ((7, (b ≡ 0) ⊎ (mostBound < b)) ∷ (8, Mislisted T ⊎ Misindexed (T .splits) X) ∷ entryWords L b T)
 
--- some state of the frontier is not in the set that the index begins with, where it is long enough to hold one
-abbrev pub Unnamed : List ℕ → List ℕ → Type 0
-Unnamed X R = (setSize ≤ length X) × ((s : ℕ) × (holds (frontierOf R) s ≡ true) × (holds (setAt X 0) s ≡ true → ⊥))
+-- splits or an index of a wrong length
+abbrev pub Misfit : List ℕ → List ℕ → Type 0
+Misfit S X = Miscounted splitSize mostSplits S ⊎ Misindexed S X
 
-abbrev pub preparedWords : List ℕ → List ℕ → List ℕ → List ℕ → ℕ → List ℕ → List Row
-preparedWords C S X R k piece = flowWords (Unnamed X R) R k piece ++ ((8, (Misclassed C ⊎ Miscounted splitSize mostSplits S) ⊎ Misindexed S X) ∷ [])
+-- the flow stands at split h: the lists fit, and its frontier is the set of that split
+abbrev pub Hinted : List ℕ → List ℕ → ℕ → List ℕ → Type 0
+Hinted S X h R = (Misfit S X → ⊥) × (h < splitCount S) × (splitSet S h ≡ frontierOf R)
+
+-- some state of the frontier is not in the set that the index begins with, where it is long enough to hold one
+abbrev pub Outside : List ℕ → List ℕ → Type 0
+Outside X R = (setSize ≤ length X) × ((s : ℕ) × (holds (frontierOf R) s ≡ true) × (holds (setAt X 0) s ≡ true → ⊥))
+
+-- the states count as not all named: by byte 1,057 of the entry where the flow stands at the split that is handed in, else by that set
+abbrev pub Unnamed : List ℕ → List ℕ → ℕ → List ℕ → Type 0
+Unnamed S X h R = (Hinted S X h R × (getD X (setSize + 1088 * h + 1057) 0 ≡ 0)) ⊎ ((Hinted S X h R → ⊥) × Outside X R)
+
+abbrev pub preparedWords : List ℕ → List ℕ → ℕ → List ℕ → ℕ → List ℕ → List Row
+preparedWords S X h R k piece = flowWords (Unnamed S X h R) R k piece ++ ((8, Misfit S X) ∷ [])
 
 -- ---- the builder: 1 to 3, then 17, then 16
 
@@ -173,3 +185,13 @@ earlyWords L T = listWords L ++ lentWords T
 -- 16: one set more can be reached than a table may have parts, or one class more is needed than it may have
 abbrev pub buildWords : List ℕ → Table → List Row
 buildWords L T = earlyWords L T ++ ((16, Many L (suc mostParts) ⊎ Needs L (suc mostClasses)) ∷ [])
+
+-- ---- splits and an index straight from a list: 1 to 3, then 17, then 16
+
+-- 17: a lent list has not the bytes for 4,096 splits
+abbrev pub bothWords : List ℕ → List ℕ → List Row
+bothWords S X = (17, (length S < 557056) ⊎ (length X < 4456576)) ∷ []
+
+-- 16: more sets can be reached than there may be splits
+abbrev pub prepareWords : List ℕ → List ℕ → List ℕ → List Row
+prepareWords L S X = (listWords L ++ bothWords S X) ++ ((16, Many L (suc mostSplits)) ∷ [])

@@ -53,7 +53,7 @@ fn note(notes: &mut [usize], i: usize, fed: Fed)
     notes[at + 3] = flag(fed.all);
 }
 
-// Feeds a piece by what the number says: 1 the table, 2 the matrix, 3 the index, else the list.
+// Feeds a piece by what the number says: 0 the list, 1 the table, 2 the matrix, 3 and more the index, from the split that is so many more.
 pub fn feed_by(
     list: &[u8],
     bound: u64,
@@ -74,6 +74,9 @@ pub fn feed_by(
         (now (matrix .entry)) (now (index .entry)) kind)
         start (now (piece .entry)) (now (pairs .entry)))) r (now (pairs .exit)) (now (flow .exit)) ⌝ }
 {
+    if kind == 0 {
+        return plain::feed(list, flow, start, piece, pairs);
+    }
     if kind == 1 {
         return splits::feed(
             list,
@@ -91,10 +94,8 @@ pub fn feed_by(
     if kind == 2 {
         return matrix::feed(list, matrix, flow, start, piece, pairs);
     }
-    if kind == 3 {
-        return prepared::feed(classes, splits, index, flow, start, piece, pairs);
-    }
-    plain::feed(list, flow, start, piece, pairs)
+    let stood = indexed::feed(splits, index, kind - 3, flow, start, piece, pairs);
+    stood.fed
 }
 
 // Feeds bytes n to e of a stream, with words w to v.
@@ -249,7 +250,7 @@ fn drive(
     let listed = lists::check_list(list);
     let checked = tables::check_table(list, bound, classes, parts, rows, splits);
     let filled = matrix::fill(list, matrix);
-    let indexed = indexes::fill(list, bound, classes, parts, rows, splits, index);
+    let indexed = fills::fill(list, bound, classes, parts, rows, splits, index);
     let opened = plain::open_flow(list, flow, pairs);
     let told = 2 * opened.pairs;
     let fed = feed_all(

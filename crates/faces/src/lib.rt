@@ -5,23 +5,26 @@ use watch_c::WatchFed;
 use watch_c::WatchFound;
 use watch_c::WatchHeld;
 use watch_c::WatchJoined;
+use watch_c::WatchMade;
 use watch_c::WatchOpened;
 use watch_c::WatchPart;
+use watch_c::WatchStood;
 ghost use mathlib.Core.Path.{_≡_};
 ghost use Rattle.lists.specs.List.{listRefusal};
 ghost use Rattle.plain.specs.Plain.{openFlow, plainFeed};
 ghost use Rattle.tables.specs.Table.{table, tableRefusal};
 ghost use Rattle.splits.specs.Split.{splitFeed};
 ghost use Rattle.matrix.specs.Matrix.{Fills, matrixFeed};
-ghost use Rattle.indexes.specs.Index.{FillsIndex};
-ghost use Rattle.prepared.specs.Prepared.{preparedFeed};
+ghost use Rattle.entries.specs.Stand.{standFeed, stoodAt};
+ghost use Rattle.fills.specs.Filled.{FillsIndex};
 ghost use Rattle.build.specs.Build.{Builds};
+ghost use Rattle.prepares.specs.Prepare.{Prepares};
 ghost use Rattle.extended.specs.Machine.{machineRefusal};
 ghost use Rattle.extended.specs.Extended.{extendedOpen, extendedFeed};
 ghost use lib.ListN.{length};
 ghost use Rattle.resends.specs.Resend.{taking, due};
 ghost use Rattle.certificates.specs.Certificate.{certificateRefusal};
-ghost use Rattle.watch_c.specs.Face.{version, faceBuilt, faceCompiled, faceJoined, faceFolded};
+ghost use Rattle.watch_c.specs.Face.{version, stoodFed, faceBuilt, faceMade, faceCompiled, faceJoined, faceFolded};
 ghost use Rattle.compile.specs.Compile.{Compiles};
 ghost use Rattle.joins.specs.Join.{Joins};
 ghost use Rattle.folds.specs.Fold.{FoldAnswers};
@@ -129,7 +132,13 @@ fn drive_matrix(
     }
 }
 
-// Fills an index and feeds a piece by it. Where the filler refuses nothing, that is the split feed.
+// What the filler of an index and a feed by what it left answered.
+struct DroveIndex {
+    filled: u32,
+    stood: WatchStood,
+}
+
+// Fills an index and feeds a piece by it, whatever split is handed in. Where the filler refuses nothing, that is the split feed.
 fn drive_index(
     list: &[u8],
     bound: u64,
@@ -138,24 +147,26 @@ fn drive_index(
     rows: &[u8],
     splits: &[u8],
     index: &mut [u8],
+    split: u32,
     flow: &mut [u8],
     start: u64,
     piece: &[u8],
     pairs: &mut [u32],
-) -> DroveFilled
+) -> DroveIndex
     ensures fills { λ r. ⌜ FillsIndex (now (list .entry)) bound (table (now (classes .entry)) (now (parts .entry)) (now (rows .entry)) (now (splits .entry)))
         (now (index .entry)) (r .filled) (now (index .exit)) ⌝ }
-    ensures feeds { λ r. ⌜ held (r .fed) (now (pairs .exit)) (now (flow .exit))
-        ≡ preparedFeed (now (classes .entry)) (now (splits .entry)) (now (index .exit)) (now (flow .entry)) start (now (piece .entry)) (now (pairs .entry)) ⌝ }
-    ensures splitly { λ r. ⌜ (r .filled ≡ 0 → held (r .fed) (now (pairs .exit)) (now (flow .exit))
+    ensures feeds { λ r. ⌜ held (stoodFed (r .stood)) (now (pairs .exit)) (now (flow .exit))
+        ≡ standFeed (now (splits .entry)) (now (index .exit)) split (now (flow .entry)) start (now (piece .entry)) (now (pairs .entry)) ⌝ }
+    ensures stands { λ r. ⌜ r .stood .split ≡ stoodAt (now (splits .entry)) (now (index .exit)) split (now (flow .entry)) start (now (piece .entry)) (now (pairs .entry)) ⌝ }
+    ensures splitly { λ r. ⌜ (r .filled ≡ 0 → held (stoodFed (r .stood)) (now (pairs .exit)) (now (flow .exit))
         ≡ splitFeed (now (list .entry)) bound (table (now (classes .entry)) (now (parts .entry)) (now (rows .entry)) (now (splits .entry)))
         (now (flow .entry)) start (now (piece .entry)) (now (pairs .entry))) ⌝ }
 {
     let filled = watch_c::watch_fill_index(list, bound, classes, parts, rows, splits, index);
-    let fed = watch_c::watch_prepared_feed(classes, splits, index, flow, start, piece, pairs);
-    DroveFilled {
+    let stood = watch_c::watch_prepared_feed(splits, index, split, flow, start, piece, pairs);
+    DroveIndex {
         filled: filled,
-        fed: fed,
+        stood: stood,
     }
 }
 
@@ -171,6 +182,13 @@ fn drive_build(
         (faceBuilt r (table (now (classes .exit)) (now (parts .exit)) (now (rows .exit)) (now (splits .exit)))) ⌝ }
 {
     watch_c::watch_build(list, classes, parts, rows, splits)
+}
+
+// Calls the exported name that prepares a list.
+fn drive_prepare(list: &[u8], splits: &mut [u8], index: &mut [u8]) -> WatchMade
+    ensures { λ r. ⌜ Prepares (now (list .entry)) (now (splits .entry)) (now (index .entry)) (faceMade r (now (splits .exit)) (now (index .exit))) ⌝ }
+{
+    watch_c::watch_prepare(list, splits, index)
 }
 
 // What the calls for the automaton with bits and counters answered: the check, the opening, and the feed.

@@ -1,16 +1,20 @@
 -- Telling a set part by part: its members from the lowest on, and the words of their pairs, where there is room for all. Assumes nothing.
 use Prim.Native.Nat.{ℕ, _+_, _*_, _/_, _%_, _^_, _≤_, _<_}
 use mathlib.Core.Path.{_≡_, refl, sym, ap, _∙_}
+use mathlib.Core.Bool.{true, false}
 use mathlib.Core.List.{List, [], _∷_, _++_}
 use native.Mathlib.Omega.{arith}
-use native.Mathlib.Nat.{zero-mul, mul-one, div-one, div-eq-of-lt}
+use native.Mathlib.Nat.{zero-mul, mul-one, div-one, div-eq-of-lt, mod-lt}
 use lib.ListN.{length, getD, set, length-append}
-use lib.Pow.{shr-shr}
-use Rattle.sets.specs.Set.{sigWords, signatures, num, size, members, placed}
+use lib.Pow.{shr-shr, pow-pos}
+use borrow.Author.Tests.{eqb-true, eqb-false}
+use Rattle.sets.specs.Set.{sigWords, signatures, num, bit, holds, size, members, placed}
+use Rattle.sets.proofs.Laws.{bits-ext, bit-zero}
 use Rattle.sets.proofs.Words.{word-at}
 use Rattle.sets.proofs.Sets.{Words, words-lt, holds-empty}
 use Rattle.sets.proofs.Parts.{low-in, high-in, at-state, members-none, members-one, members-split}
 use Rattle.sets.proofs.Members.{members-size}
+use Rattle.words.proofs.Bits.{bit-mod}
 use Rattle.feeds.specs.Engine.{pairsAt}
 use Rattle.feeds.specs.Fed.{Tells}
 use Rattle.feeds.proofs.Runs.{pairsAt-length}
@@ -95,6 +99,35 @@ module _ {out₀ : List ℕ} {w₀ k G : ℕ} {out : List ℕ} {w n s : ℕ} (h 
   left-none e =
       let z = tells-none out w k (n * 2 ^ s) (ap (λ (m : ℕ). m * 2 ^ s) e ∙ zero-mul (2 ^ s)) in
       record { next = z .next ∙ h .next; wrote = z .wrote ∙ h .wrote }
+
+-- the lowest bit of what is left, and the zeros below it
+module _ {out₀ : List ℕ} {w₀ k G : ℕ} {out : List ℕ} {w n s : ℕ} (h : Left out₀ w₀ k G out w n s) (room : w₀ + 2 * size signatures G ≤ length out₀) (t : ℕ) (one : holds n t ≡ true)
+    (zeros : (q : ℕ) → q < t → holds n q ≡ false) where
+  odd : n / 2 ^ t % 2 ≡ 1
+  unfolding holds
+  odd = eqb-true (n / 2 ^ t % 2) 1 one
+
+  clear : n % 2 ^ t ≡ 0
+  unfolding holds
+  clear = bits-ext t (n % 2 ^ t) 0 (mod-lt n (pow-pos t)) (pow-pos t) (λ q l. bit-mod n t q l ∙ zero-bit q l ∙ sym (bit-zero q))
+    where
+      zero-bit : (q : ℕ) → q < t → bit n q ≡ 0
+      zero-bit q l = omega (arith, eqb-false (n / 2 ^ q % 2) 1 (zeros q l), mod-lt (n / 2 ^ q) (pow-pos 1))
+
+  -- the zeros are no members
+  past : Left out₀ w₀ k G out w (n / 2 ^ t) (s + t)
+  past = left-more h room t w out (tells-none out w k (n % 2 ^ t * 2 ^ s) (ap (λ (m : ℕ). m * 2 ^ s) clear ∙ zero-mul (2 ^ s)))
+
+  -- the bit is a signature, and there is room for its pair
+  pub lowest-at : s + t < signatures
+  lowest-at = left-at past (λ e. let z : n / 2 ^ t % 2 ≡ 0 = rw e in omega (arith, z, odd))
+
+  pub lowest-low : (1 * 2 ^ (s + t) < 2 ^ signatures) × (w + 2 * size signatures (1 * 2 ^ (s + t)) ≤ length out)
+  lowest-low = rw odd at (left-low past room 1)
+
+  -- it is told
+  pub lowest-more : (v : ℕ) (left : List ℕ) → Tells (1 * 2 ^ (s + t)) out w k v left → Left out₀ w₀ k G left v (n / 2 ^ t / 2) (s + t + 1)
+  lowest-more v left r = left-more past room 1 v left (rw odd r)
 
 -- ---- the words of a set, one after the other
 

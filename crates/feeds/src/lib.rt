@@ -50,23 +50,7 @@ fn tell_one(pairs: &mut [u32], w: usize, bit: u64, s: usize, offset: u32) -> usi
     w
 }
 
-// Writes signature and offset for each bit of a byte that is 1, from word `at` on; its lowest bit is signature `base`. Answers the word after.
-fn tell_byte(pairs: &mut [u32], at: usize, byte: u64, base: usize, offset: u32) -> usize
-    requires { ⌜ (byte * 2 ^ base < 2 ^ signatures) × (at + 2 * size signatures (byte * 2 ^ base) ≤ length (now pairs)) ⌝ }
-    ensures { λ r. ⌜ Tells (byte * 2 ^ base) (now (pairs .entry)) at offset r (now (pairs .exit)) ⌝ }
-{
-    let mut w = at;
-    let mut rest = byte;
-    let mut s = base;
-    while rest != 0 {
-        w = tell_one(pairs, w, rest % 2, s, offset);
-        rest = rest / 2;
-        s = s + 1;
-    }
-    w
-}
-
-// Writes signature and offset for each bit of a word that is 1, from word `at` on; its lowest bit is signature `base`. Answers the word after.
+// Writes signature and offset for each bit of a word that is 1, from word `at` on; its lowest bit is signature `base`. Each is found by the zeros below it. Answers the word after.
 fn tell_word(pairs: &mut [u32], at: usize, word: u64, base: usize, offset: u32) -> usize
     requires { ⌜ (word * 2 ^ base < 2 ^ signatures) × (at + 2 * size signatures (word * 2 ^ base) ≤ length (now pairs)) ⌝ }
     ensures { λ r. ⌜ Tells (word * 2 ^ base) (now (pairs .entry)) at offset r (now (pairs .exit)) ⌝ }
@@ -75,9 +59,10 @@ fn tell_word(pairs: &mut [u32], at: usize, word: u64, base: usize, offset: u32) 
     let mut rest = word;
     let mut s = base;
     while rest != 0 {
-        w = tell_byte(pairs, w, rest % 256, s, offset);
-        rest = rest / 256;
-        s = s + 8;
+        let zeros = words::lowest(rest);
+        w = tell_one(pairs, w, 1, s + zeros, offset);
+        rest = (rest >> zeros) / 2;
+        s = s + zeros + 1;
     }
     w
 }

@@ -12,7 +12,7 @@ use Rattle.plain.specs.Plain.{openFlow, plainFeed}
 use Rattle.tables.specs.Table.{Table, tableRefusal}
 use Rattle.splits.specs.Split.{splitFeed}
 use Rattle.matrix.specs.Matrix.{Fills, matrixFeed}
-use Rattle.indexes.specs.Index.{FillsIndex}
+use Rattle.fills.specs.Filled.{FillsIndex}
 use Rattle.build.specs.Build.{Building, Builds}
 use Rattle.certificates.specs.Certificate.{certificateRefusal}
 use Rattle.segments.specs.Segment.{Sent, Kept, Heard}

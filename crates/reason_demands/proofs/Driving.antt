@@ -20,7 +20,7 @@ use Rattle.plain.specs.Plain.{opened, openFlow}
 use Rattle.tables.specs.Table.{Table, tableRefusal}
 use Rattle.matrix.specs.Matrix.{Fills}
 use Rattle.matrix.proofs.Exact.{filled-left}
-use Rattle.indexes.specs.Index.{FillsIndex}
+use Rattle.fills.specs.Filled.{FillsIndex}
 use Rattle.reasons.specs.Run.{Question, ofSignature}
 use Rattle.reasons.specs.Reason.{whyRules}
 use Rattle.demands.specs.Calls.{Via, Checked, Call, wayOf, outcome, ruled}

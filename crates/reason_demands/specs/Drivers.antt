@@ -12,7 +12,7 @@ use Rattle.feeds.specs.Opening.{Opens}
 use Rattle.plain.specs.Plain.{openFlow}
 use Rattle.tables.specs.Table.{Table, tableRefusal}
 use Rattle.matrix.specs.Matrix.{Fills}
-use Rattle.indexes.specs.Index.{FillsIndex}
+use Rattle.fills.specs.Filled.{FillsIndex}
 use Rattle.demands.specs.Calls.{outcome}
 use Rattle.demands.specs.Drivers.{viaBy, callOf}
 use Rattle.reasons.specs.Run.{ofSignature}

@@ -60,7 +60,7 @@ pub record Explained (L R : List ℕ) (cs : List Call) : Type 0 where
   -- and so is why a state is in the frontier that they leave: exactly the states of that frontier have a run
   pub stands : (s : ℕ) → Runs L (frontierOf R) (bytesOf R cs) (length (bytesOf R cs)) (ofState s) ↔ (holds (frontierOf (after R cs)) s ≡ true)
 
--- from an opening on, by the plain feed, accepted tables, the list's matrix and filled indexes, changed at any call, refused ones between: of the whole flow, and of the calls ds from
+-- from an opening on, by the plain feed, accepted tables, the list's matrix and indexes that are right for it, changed at any call, refused ones between: of the whole flow, and of the calls ds from
 -- the record that the calls cs left
 pub record Reasons (L : List ℕ) (o : Opening) (cs ds : List Call) : Type 0 where
   pub flow : FlowRuns L o cs

@@ -132,7 +132,7 @@ fn drive_why(
 {
     let checked = tables::check_table(list, bound, classes, parts, rows, splits);
     let filled = matrix::fill(list, matrix);
-    let indexed = indexes::fill(list, bound, classes, parts, rows, splits, index);
+    let indexed = fills::fill(list, bound, classes, parts, rows, splits, index);
     let opened = plain::open_flow(list, first, pairs);
     let again = plain::open_flow(list, flow, pairs);
     let asked = feed_and_ask(

@@ -5,10 +5,11 @@ use feeds::Fed;
 use segments::Heard;
 use tape::Table;
 
-// What a command says of its call: the letter, the bound, the offset or number where the bytes start, and where each list of the table ends.
+// What a command says of its call: the letter, the bound, the hint of a split, the offset or number where the bytes start, and where each list of the table ends.
 pub struct Call {
     pub letter: u8,
     pub bound: u64,
+    pub hint: u32,
     pub start: u64,
     pub table: Table,
 }
@@ -45,7 +46,7 @@ pub fn check(call: Call, list: &[u8], table: &[u8]) {
 // Fills an index.
 fn fill_index(call: Call, list: &[u8], table: &[u8], index: &mut [u8]) -> u32 {
     let t = call.table;
-    indexes::fill(
+    fills::fill(
         list,
         call.bound,
         tape::classes(table, t),
@@ -108,28 +109,7 @@ fn split_feed(
     )
 }
 
-// Feeds by an index.
-fn prepared_feed(
-    call: Call,
-    table: &[u8],
-    index: &[u8],
-    record: &mut [u8],
-    piece: &[u8],
-    out: &mut [u32],
-) -> Fed {
-    let t = call.table;
-    prepared::feed(
-        tape::classes(table, t),
-        tape::splits(table, t),
-        index,
-        record,
-        call.start,
-        piece,
-        out,
-    )
-}
-
-// Feeds by the letter: by the list alone, through the table, by the matrix or by the index.
+// Feeds by the letter: by the list alone, through the table or by the matrix.
 fn feed_by(
     call: Call,
     list: &[u8],
@@ -145,10 +125,7 @@ fn feed_by(
     if call.letter == b's' {
         return split_feed(call, list, table, record, piece, out);
     }
-    if call.letter == b'x' {
-        return matrix::feed(list, matrix, record, call.start, piece, out);
-    }
-    prepared_feed(call, table, matrix, record, piece, out)
+    matrix::feed(list, matrix, record, call.start, piece, out)
 }
 
 // Replays a feed.
@@ -164,6 +141,30 @@ pub fn feed(
     tape::fill(out);
     let fed = feed_by(call, list, table, matrix, record, piece, out);
     tape::put_feed(call.letter, fed, out, record);
+}
+
+// Replays a prepared feed, by an index.
+pub fn prepared_feed(
+    call: Call,
+    table: &[u8],
+    index: &[u8],
+    record: &mut [u8],
+    piece: &[u8],
+    out: &mut [u32],
+) {
+    let t = call.table;
+    tape::fill(out);
+    let stood = indexed::feed(
+        tape::splits(table, t),
+        index,
+        call.hint as usize,
+        record,
+        call.start,
+        piece,
+        out,
+    );
+    let fed = stood.fed;
+    tape::put_stood(b'p', fed, stood.split, out, record);
 }
 
 // Writes the part that is due, and the digest of its bytes.

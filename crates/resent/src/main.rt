@@ -46,6 +46,7 @@ fn hear(
     let call = Call {
         letter: b'g',
         bound: bound,
+        hint: 0,
         start: start,
         table: t,
     };

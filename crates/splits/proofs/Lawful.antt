@@ -1,17 +1,15 @@
 -- The split feed is lawful: through a table that the check accepts it goes as the automaton does, from each frontier that the automaton comes to. Assumes nothing.
-use Prim.Native.Nat.{ℕ, _+_, _^_, _≤_, _<_}
+use Prim.Native.Nat.{ℕ, _+_, _≤_, _<_}
 use mathlib.Core.Path.{_≡_, refl, sym, ap, _∙_}
 use mathlib.Core.Bool.{true, false, true≢false}
 use mathlib.Core.List.{List, [], _∷_}
 use native.Mathlib.Omega.{arith}
 use lib.ListN.{length}
 use lib.Dec.{lit<}
-use Rattle.sets.specs.Set.{states}
 use Rattle.rules.specs.Rules.{verdict}
 use Rattle.rules.proofs.Rules.{passes-front, exactly, verdict-lt, verdict-front, skip, last}
 use Rattle.rules.proofs.Scanning.{every-all}
 use Rattle.lists.specs.Automaton.{step, accepted}
-use Rattle.lists.proofs.Steps.{step-lt}
 use Rattle.lists.proofs.Named.{step-named}
 use Rattle.feeds.specs.Engine.{Engine, feed}
 use Rattle.feeds.specs.Calls.{Bytes, Follows, costing}
@@ -22,7 +20,7 @@ use Rattle.flows.specs.Flow.{flowBytes, flowLayout, frontierOf, feedRules}
 use Rattle.flows.proofs.Kept.{good-feed, fit-feed}
 use Rattle.plain.specs.Plain.{plain}
 use Rattle.plain.specs.Means.{listAutomata}
-use Rattle.plain.proofs.Lawful.{reached-lt, list-passes, list-shorter}
+use Rattle.plain.proofs.Lawful.{list-passes, list-shorter}
 use Rattle.tables.specs.Table.{Table, splitCount, isSplit, inOrder, risingRules, tableRefusal}
 use Rattle.tables.proofs.Verdict.{ordered-passes}
 use Rattle.tables.proofs.Accepted.{accepted as accepted-table}
@@ -50,9 +48,9 @@ module _ (L : List ℕ) (b : ℕ) (T : Table) (ok : tableRefusal L b T ≡ 0) wh
   abbrev counted : Engine ℕ
   counted = costing (plain L) (λ F. length (taken T F))
 
-  -- the same frontier, a split, and a set of states
+  -- the same frontier, a split
   abbrev AtSplit : ℕ → ℕ → Type 0
-  AtSplit F G = (F ≡ G) × (isSplit (T .splits) F ≡ true) × (F < 2 ^ states)
+  AtSplit F G = (F ≡ G) × (isSplit (T .splits) F ≡ true)
 
   follows : Follows (split L b T) counted AtSplit
   follows =
@@ -63,15 +61,15 @@ module _ (L : List ℕ) (b : ℕ) (T : Table) (ok : tableRefusal L b T ≡ 0) wh
         stays = λ F G c l r. (
           same L b T a F (r .1) c l ∙ ap (λ (H : ℕ). step L H c) (r .0),
           rw (same L b T a F (r .1) c l) (stays L b T a F (r .1) c l),
-          rw (same L b T a F (r .1) c l) (step-lt L F c),
         );
       }
 
-  pub goes-so : (R : List ℕ) (at : ℕ) (piece out : List ℕ) → Bytes piece → Reached listAutomata L (frontierOf R)
+  -- from a split it goes as the automaton does
+  pub goes-at : (R : List ℕ) (at : ℕ) (piece out : List ℕ) → Bytes piece → isSplit (T .splits) (frontierOf R) ≡ true
       → splitFeed L b T R at piece out ≡ feed (splitRules L b T R at piece) (costing (plain L) (λ F. length (taken T F))) flowLayout R piece out
-  goes-so R at piece out h r =
+  goes-at R at piece out h s =
       feed-same (split L b T) counted flowLayout flowLayout R refl refl AtSplit follows (λ F G r. ap (λ (H : ℕ). length (taken T H)) (r .0))
-      (λ F G i n r. ap (λ (H : ℕ). flowBytes H i n) (r .0)) (refl, reached-split (frontierOf R) r, reached-lt L (frontierOf R) r)
+      (λ F G i n r. ap (λ (H : ℕ). flowBytes H i n) (r .0)) (refl, s)
       (splitRules L b T R at piece) (splitRules L b T R at piece) refl piece out h
 
   pub few-so : (F : ℕ) → Reached listAutomata L F → length (taken T F) ≤ b
@@ -95,7 +93,7 @@ lawful b T =
       cheap = λ l L F. omega (arith, split-cheap T F);
       counts = λ F. omega (arith, split-cheap T F);
       same = λ L k. same-verdict L b T k;
-      goes = λ L k. goes-so L b T k;
+      goes = λ L k R at piece out h r. goes-at L b T k R at piece out h (reached-split L b T k (frontierOf R) r);
       few = λ L k. few-so L b T k;
       fits = λ L k. fits-so L b T k;
     }

@@ -1,14 +1,15 @@
 -- The segments that a caller hands in are those of the entry points; and by a filled index one hears what it hears through the table. Assumes nothing.
 use Prim.Native.Nat.{ℕ}
-use mathlib.Core.Path.{_≡_, refl}
+use mathlib.Core.Path.{_≡_, refl, sym, _∙_}
 use mathlib.Core.List.{List, []}
 use Rattle.feeds.specs.Calls.{Bytes}
 use Rattle.flows.specs.Flow.{offsetOf}
 use Rattle.tables.specs.Table.{Table, tableRefusal}
-use Rattle.tables.proofs.Accepted as said
-use Rattle.indexes.specs.Index.{filledIndex}
-use Rattle.prepared.proofs.Exact.{same-verdict, prepared-exact}
-use Rattle.demands.specs.Calls.{Call, byList, byTable, byIndex, wayOf}
+use Rattle.fills.specs.Filled.{filledIndex}
+use Rattle.fills.proofs.Ready.{stand-exact}
+use Rattle.demands.specs.Calls.{Call, byList, byTable, byIndex, bySlots, wayOf}
+use Rattle.demands.proofs.Engines.{lawful-of}
+use Rattle.demands.proofs.Built.{filled-swaps}
 use Rattle.segments.specs.Segment.{Sent, Kept, feedSegment}
 use Rattle.segments.specs.Ways.{plainSegment, splitSegment}
 use Rattle.segments.specs.Calls.{sentOf, hears}
@@ -23,9 +24,11 @@ pub handed-split : (s : ℕ) (S : Kept) (L : List ℕ) (b : ℕ) (T : Table) (st
     → let c : Call = record { list = L; via = byTable b T; at = start; piece = bytes; out = out } in hears listCalls s S c ≡ splitSegment L b T (sentOf listCalls s c) S out
 handed-split s S L b T start bytes out = refl
 
--- by the index that the filler writes for a table that the check accepts, a segment hears and leaves what it does through that table
-pub same-segment : (L : List ℕ) (b : ℕ) (T : Table) → tableRefusal L b T ≡ 0 → Bytes (T .splits) → (g : Sent) → Bytes (g .bytes) → (S : Kept) (out : List ℕ) → Bytes (S .held)
-    → feedSegment (wayOf (byIndex b T (filledIndex L T)) L) g S out ≡ splitSegment L b T g S out
-same-segment L b T e s g sb =
-    same.same-segment (wayOf (byIndex b T (filledIndex L T)) L) (wayOf (byTable b T) L) (λ R. refl) (λ R. same-verdict L b T (said.accepted L b T e) R (offsetOf R) [])
-    (λ R piece out. prepared-exact L b T e s R (offsetOf R) piece out) g sb
+-- by the index that the filler writes for a table that the check accepts, from any hint, a segment hears and leaves what it does through that table
+pub same-segment : (L : List ℕ) (b : ℕ) (T : Table) → tableRefusal L b T ≡ 0 → Bytes (T .splits) → (h : ℕ) (g : Sent) → Bytes (g .bytes) → (S : Kept) (out : List ℕ) → Bytes (S .held)
+    → feedSegment (wayOf (byIndex b (bySlots T) (T .splits) (filledIndex L T) h) L) g S out ≡ splitSegment L b T g S out
+same-segment L b T e s h g sb =
+    let v = byIndex b (bySlots T) (T .splits) (filledIndex L T) h in
+    same.same-segment (wayOf v L) (wayOf (byTable b T) L) (λ R. refl)
+    (λ R. lawful-of v .same L (filled-swaps L b T e s h) R (offsetOf R) [] ∙ sym (lawful-of (byTable b T) .same L e R (offsetOf R) []))
+    (λ R piece out. stand-exact L b T e s h R (offsetOf R) piece out) g sb

@@ -201,6 +201,27 @@ pub fn read_sown(b: &mut [u8]) -> usize {
     k
 }
 
+// Makes the bytes behind the first `used` ones 0.
+fn clear_behind(b: &mut [u8], used: usize) {
+    let k = within(b, used);
+    clear(&mut b[k..]);
+}
+
+// Reads a field to a place of bytes of which the first `used` ones stay and the others become 0.
+fn change(b: &mut [u8], used: usize, at: usize) {
+    clear_behind(b, used);
+    read_field_at(b, at);
+}
+
+// Reads a length, a place and a field: a buffer of which some bytes are in use has so many then, the field among them. Answers how many.
+pub fn read_change(b: &mut [u8], used: usize) -> usize {
+    let n = read_word() as usize;
+    let at = read_word() as usize;
+    let k = within(b, n);
+    change(&mut b[..k], used, at);
+    k
+}
+
 // The digest with one more byte.
 fn digest_byte(h: u64, b: u8) -> u64
     requires { ⌜ h < 4294967291 ⌝ }
@@ -289,14 +310,31 @@ pub fn put_opening(letter: u8, opened: Opened, out: &[u32], record: &[u8]) {
     end();
 }
 
-// Writes the line of a feed: the answer, the words and the record.
-pub fn put_feed(letter: u8, fed: Fed, out: &[u32], record: &[u8]) {
+// Begins the line of a feed with its answer.
+fn begin_feed(letter: u8, fed: Fed) {
     begin(letter);
     put(fed.refusal as u64);
     put(fed.bytes as u64);
     put(fed.pairs as u64);
     put(fed.all as u64);
+}
+
+// Ends the line of a feed with the words and the record.
+fn end_feed(out: &[u32], record: &[u8]) {
     put(digest_words(out));
     put(digest(record));
     end();
+}
+
+// Writes the line of a feed: the answer, the words and the record.
+pub fn put_feed(letter: u8, fed: Fed, out: &[u32], record: &[u8]) {
+    begin_feed(letter, fed);
+    end_feed(out, record);
+}
+
+// Writes the line of a feed that answers a split as well.
+pub fn put_stood(letter: u8, fed: Fed, split: usize, out: &[u32], record: &[u8]) {
+    begin_feed(letter, fed);
+    put(split as u64);
+    end_feed(out, record);
 }

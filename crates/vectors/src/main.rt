@@ -58,6 +58,10 @@ fn feed(mut call: Call, list: &[u8], table: &[u8], matrix: &[u8], record: &mut [
     let mut out = tape::word_buffer();
     let k = tape::within_words(&out, words);
     let p = tape::front(&piece, n);
+    if call.letter == b'p' {
+        replays::prepared_feed(call, table, matrix, record, p, &mut out[..k]);
+        return;
+    }
     replays::feed(call, list, table, matrix, record, p, &mut out[..k]);
 }
 
@@ -71,6 +75,14 @@ fn read_bound(command: u8) -> u64 {
     }
     if command == b'i' {
         return tape::read_number(8);
+    }
+    0
+}
+
+// The hint of a prepared feed, which stands before what else its command has; 0 where the command has none.
+fn read_hint(command: u8) -> u32 {
+    if command == b'p' {
+        return tape::read_word();
     }
     0
 }
@@ -93,6 +105,17 @@ fn answer(call: Call, list: &[u8], table: &[u8], matrix: &mut [u8], record: &mut
     }
 }
 
+// Reads a matrix or index by its letter: whole, from a seed, or a change of the one in use; answers how many bytes it has.
+fn load_matrix(command: u8, matrix: &mut [u8], used: usize) -> usize {
+    if command == b'M' {
+        return tape::read_field(matrix);
+    }
+    if command == b'S' {
+        return tape::read_sown(matrix);
+    }
+    tape::read_change(matrix, used)
+}
+
 // Reads a list, a table, a matrix or index, or a record, by its letter; at the end of the input, where the letter is 0, no commands are left.
 fn load(
     command: u8,
@@ -108,7 +131,11 @@ fn load(
         let t = tape::read_table(table);
         s.table = t;
     } else if command == b'M' {
-        s.matrix = tape::read_field(matrix);
+        s.matrix = load_matrix(command, matrix, s.matrix);
+    } else if command == b'N' {
+        s.matrix = load_matrix(command, matrix, s.matrix);
+    } else if command == b'S' {
+        s.matrix = load_matrix(command, matrix, s.matrix);
     } else if command == b'R' {
         s.record = tape::read_field(record);
     } else {
@@ -133,6 +160,7 @@ fn replay_one(
     let call = Call {
         letter: command,
         bound: read_bound(command),
+        hint: read_hint(command),
         start: 0,
         table: t,
     };

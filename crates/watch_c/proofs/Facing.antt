@@ -1,23 +1,29 @@
 -- The face of an answer answers the same outcome, and only one face does; so of an opening, of building and of compiling. Assumes nothing.
-use Prim.Native.Nat.{ℕ}
+use Prim.Native.Nat.{ℕ, _≤_, _<_}
 use mathlib.Core.Bool.{Bool}
 use mathlib.Core.Path.{_≡_, sym, ap, _∙_}
 use mathlib.Core.List.{List}
+use native.Mathlib.Omega.{arith}
 use Rattle.feeds.specs.Engine.{Outcome}
 use Rattle.feeds.specs.Opening.{Opening}
 use Rattle.feeds.specs.declared.Fed.{Fed}
 use Rattle.feeds.specs.Fed.{Answers}
 use Rattle.feeds.specs.Calls.{Bytes}
 use Rattle.tables.specs.Table.{Table}
+use Rattle.entries.specs.Stand.{stoodAt}
+use Rattle.entries.proofs.Lawful.{stood-few}
 use Rattle.build.specs.Build.{Building, Builds}
 use Rattle.build.proofs.Reached.{unique-build}
+use Rattle.prepares.specs.Prepare.{Preparing, Prepares}
+use Rattle.prepares.proofs.Ends.{unique-prepare}
 use Rattle.compile.specs.Compile.{Compiles}
 use Rattle.compile.proofs.Exactly.{unique-compile}
 use Rattle.watch_c.specs.declared.WatchBuilt.{WatchBuilt}
 use Rattle.watch_c.specs.declared.WatchCompiled.{WatchCompiled}
 use Rattle.watch_c.specs.declared.WatchFed.{WatchFed}
+use Rattle.watch_c.specs.declared.WatchMade.{WatchMade}
 use Rattle.watch_c.specs.declared.WatchOpened.{WatchOpened}
-use Rattle.watch_c.specs.Face.{Faces, FaceAnswers, FaceOpens, faceBuilt, faceCompiled}
+use Rattle.watch_c.specs.Face.{Faces, FaceAnswers, FaceOpens, faceBuilt, faceMade, faceCompiled}
 
 pub faced : {o : Outcome} {f : Fed} {w : WatchFed} {ws sv : List ℕ} → Answers o f ws sv → Faces f w → FaceAnswers o w ws sv
 faced a h =
@@ -29,6 +35,10 @@ faced a h =
       words = a .words;
       saved = a .saved;
     }
+
+-- the split that a feed by an index answers fits the face
+pub stood-fits : (S X : List ℕ) (h : ℕ) (R : List ℕ) (at : ℕ) (piece out : List ℕ) (n : ℕ) → n ≡ stoodAt S X h R at piece out → h < 4294967296 → n ≤ 4294967295
+stood-fits S X h R at piece out n e l = rw e (stood-few S X h R at piece out 4294967295 (omega (arith, l)) (omega arith))
 
 -- two faces, words and records that answer one outcome are the same
 pub unique-face : (o : Outcome) (v w : WatchFed) (vs ws rv rw2 : List ℕ) → FaceAnswers o v vs rv → FaceAnswers o w ws rw2 → (v ≡ w) × (vs ≡ ws) × (rv ≡ rw2)
@@ -60,6 +70,15 @@ unique-face-build L T v w X Y a b =
     let p = unique-build L T (faceBuilt v X) (faceBuilt w Y) a b in (
       ap {B = WatchBuilt} (λ (o : Building). record { classes = o .classes; parts = o .parts; rows = o .rows; splits = o .splits; refusal = o .refusal }) p,
       ap (λ (o : Building). o .lists) p,
+    )
+
+-- and of preparing
+pub unique-face-prepare : (L S X : List ℕ) (v w : WatchMade) (S₁ X₁ S₂ X₂ : List ℕ) → Prepares L S X (faceMade v S₁ X₁) → Prepares L S X (faceMade w S₂ X₂) → (v ≡ w) × (S₁ ≡ S₂) × (X₁ ≡ X₂)
+unique-face-prepare L S X v w S₁ X₁ S₂ X₂ a b =
+    let p = unique-prepare L S X (faceMade v S₁ X₁) (faceMade w S₂ X₂) a b in (
+      ap {B = WatchMade} (λ (o : Preparing). record { splits = o .splits; index = o .index; refusal = o .refusal }) p,
+      ap (λ (o : Preparing). o .made) p,
+      ap (λ (o : Preparing). o .indexed) p,
     )
 
 -- and of compiling a text of bytes

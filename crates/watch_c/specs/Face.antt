@@ -7,6 +7,7 @@ use Rattle.feeds.specs.Opening.{Opening}
 use Rattle.feeds.specs.declared.Fed.{Fed}
 use Rattle.tables.specs.Table.{Table}
 use Rattle.build.specs.Build.{Building}
+use Rattle.prepares.specs.Prepare.{Preparing}
 use Rattle.compile.specs.declared.Compiled.{Compiled}
 use Rattle.joins.specs.declared.Joined.{Joined}
 use Rattle.folds.specs.declared.Folded.{Folded}
@@ -14,11 +15,13 @@ use Rattle.watch_c.specs.declared.WatchBuilt.{WatchBuilt}
 use Rattle.watch_c.specs.declared.WatchCompiled.{WatchCompiled}
 use Rattle.watch_c.specs.declared.WatchFed.{WatchFed}
 use Rattle.watch_c.specs.declared.WatchJoined.{WatchJoined}
+use Rattle.watch_c.specs.declared.WatchMade.{WatchMade}
 use Rattle.watch_c.specs.declared.WatchOpened.{WatchOpened}
+use Rattle.watch_c.specs.declared.WatchStood.{WatchStood}
 
 -- the version of the face, which rises with each change of a name, a size, a limit or a meaning in it
 abbrev pub version : ℕ
-version = 16
+version = 17
 
 -- the same four values
 pub record Faces (f : Fed) (w : WatchFed) : Type 0 where
@@ -36,6 +39,10 @@ pub record FaceAnswers (o : Outcome) (w : WatchFed) (ws sv : List ℕ) : Type 0 
   pub words : ws ≡ o .words
   pub saved : sv ≡ o .saved
 
+-- what a feed by an index answers as every feed does: all but the split
+abbrev pub stoodFed : WatchStood → WatchFed
+stoodFed w = record { bytes = w .bytes; pairs = w .pairs; refusal = w .refusal; all = w .all }
+
 -- so of an opening
 pub record FaceOpens (o : Opening) (w : WatchOpened) (ws sv : List ℕ) : Type 0 where
   pub pairs : w .pairs ≡ o .pairs
@@ -46,6 +53,10 @@ pub record FaceOpens (o : Opening) (w : WatchOpened) (ws sv : List ℕ) : Type 0
 -- what a caller of the builder holds: the answer, and the four lists at exit
 abbrev pub faceBuilt : WatchBuilt → Table → Building
 faceBuilt w T = record { refusal = w .refusal; classes = w .classes; parts = w .parts; rows = w .rows; splits = w .splits; lists = T }
+
+-- what a caller of the preparation holds: the answer, and the two lists at exit
+abbrev pub faceMade : WatchMade → List ℕ → List ℕ → Preparing
+faceMade w S X = record { refusal = w .refusal; splits = w .splits; index = w .index; made = S; indexed = X }
 
 -- the compiler's answer, as the library gives it
 abbrev pub faceCompiled : WatchCompiled → Compiled

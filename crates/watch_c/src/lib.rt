@@ -1,20 +1,23 @@
-// The C face: the library's twenty-two functions under names of their own, over numbers and slices, and the face's version. Nothing else is here.
+// The C face: the library's twenty-three functions under names of their own, over numbers and slices, and the face's version. Nothing else is here.
 use feeds::Fed;
+use indexed::Stood;
 ghost use mathlib.Core.Path.{_≡_};
+ghost use Prim.Native.Nat.{_≤_};
 ghost use Rattle.lists.specs.List.{listRefusal};
 ghost use Rattle.plain.specs.Plain.{openFlow, plainFeed};
 ghost use Rattle.tables.specs.Table.{table, tableRefusal};
 ghost use Rattle.splits.specs.Split.{splitFeed};
 ghost use Rattle.matrix.specs.Matrix.{Fills, matrixFeed};
-ghost use Rattle.indexes.specs.Index.{FillsIndex};
-ghost use Rattle.prepared.specs.Prepared.{preparedFeed};
+ghost use Rattle.entries.specs.Stand.{standFeed, stoodAt};
+ghost use Rattle.fills.specs.Filled.{FillsIndex};
 ghost use Rattle.build.specs.Build.{Builds};
+ghost use Rattle.prepares.specs.Prepare.{Prepares};
 ghost use Rattle.extended.specs.Machine.{machineRefusal};
 ghost use Rattle.extended.specs.Extended.{extendedOpen, extendedFeed};
 ghost use lib.ListN.{length};
 ghost use Rattle.resends.specs.Resend.{taking, partDue};
 ghost use Rattle.watch_c.specs.Resent.{FaceTakes, FaceFinds};
-ghost use Rattle.watch_c.specs.Face.{version, Faces, FaceAnswers, FaceOpens, faceBuilt, faceCompiled, faceJoined, faceFolded};
+ghost use Rattle.watch_c.specs.Face.{version, Faces, FaceAnswers, FaceOpens, stoodFed, faceBuilt, faceMade, faceCompiled, faceJoined, faceFolded};
 ghost use Rattle.certificates.specs.Certificate.{certificateRefusal};
 ghost use Rattle.compile.specs.Compile.{Compiles};
 ghost use Rattle.joins.specs.Join.{Joins};
@@ -24,7 +27,7 @@ ghost use Rattle.reasons.specs.Reason.{Explains, Finds};
 ghost use Rattle.watch_c.specs.Why.{faceFound};
 
 // The version of the face, by which a caller compares its header with the archive.
-pub const VERSION: u32 = 16;
+pub const VERSION: u32 = 17;
 
 // What a feed answers, as C lays it out.
 #[repr(C)]
@@ -32,6 +35,16 @@ pub struct WatchFed {
     pub bytes: u64,
     pub pairs: u64,
     pub refusal: u32,
+    pub all: bool,
+}
+
+// What a feed by an index answers, as C lays it out: the split where the flow then stands beside the rest.
+#[repr(C)]
+pub struct WatchStood {
+    pub bytes: u64,
+    pub pairs: u64,
+    pub refusal: u32,
+    pub split: u32,
     pub all: bool,
 }
 
@@ -49,6 +62,14 @@ pub struct WatchBuilt {
     pub parts: u64,
     pub rows: u64,
     pub splits: u64,
+    pub refusal: u32,
+}
+
+// What preparing a list answers, as C lays it out: the bytes used of each list.
+#[repr(C)]
+pub struct WatchMade {
+    pub splits: u64,
+    pub index: u64,
     pub refusal: u32,
 }
 
@@ -75,6 +96,21 @@ fn face(f: Fed) -> WatchFed
         bytes: f.bytes as u64,
         pairs: f.pairs as u64,
         refusal: f.refusal,
+        all: f.all,
+    }
+}
+
+// The answer of a feed by an index in C's layout.
+fn face_stood(s: Stood) -> WatchStood
+    requires { ⌜ s .split ≤ 4294967295 ⌝ }
+    ensures { λ r. ⌜ Faces (s .fed) (stoodFed r) × (r .split ≡ s .split) ⌝ }
+{
+    let f = s.fed;
+    WatchStood {
+        bytes: f.bytes as u64,
+        pairs: f.pairs as u64,
+        refusal: f.refusal,
+        split: s.split as u32,
         all: f.all,
     }
 }
@@ -209,25 +245,25 @@ pub extern "C" fn watch_fill_index(
     ensures { λ r. ⌜ FillsIndex (now (list .entry)) bound (table (now (classes .entry)) (now (parts .entry)) (now (rows .entry)) (now (splits .entry)))
         (now (index .entry)) r (now (index .exit)) ⌝ }
 {
-    indexes::fill(list, bound, classes, parts, rows, splits, index)
+    fills::fill(list, bound, classes, parts, rows, splits, index)
 }
 
-// The prepared feed of a piece that begins at `start`.
+// The prepared feed of a piece that begins at `start`, from the split that is handed in where the flow stands there; any number may be.
 #[no_mangle]
 pub extern "C" fn watch_prepared_feed(
-    classes: &[u8],
     splits: &[u8],
     index: &[u8],
+    split: u32,
     flow: &mut [u8],
     start: u64,
     piece: &[u8],
     pairs: &mut [u32],
-) -> WatchFed
-    ensures { λ r. ⌜ FaceAnswers (preparedFeed (now (classes .entry)) (now (splits .entry)) (now (index .entry)) (now (flow .entry)) start
-        (now (piece .entry)) (now (pairs .entry))) r (now (pairs .exit)) (now (flow .exit)) ⌝ }
+) -> WatchStood
+    ensures { λ r. ⌜ FaceAnswers (standFeed (now (splits .entry)) (now (index .entry)) split (now (flow .entry)) start (now (piece .entry)) (now (pairs .entry))) (stoodFed r) (now (pairs .exit)) (now (flow .exit))
+        × (r .split ≡ stoodAt (now (splits .entry)) (now (index .entry)) split (now (flow .entry)) start (now (piece .entry)) (now (pairs .entry))) ⌝ }
 {
-    let f = prepared::feed(classes, splits, index, flow, start, piece, pairs);
-    face(f)
+    let s = indexed::feed(splits, index, split as usize, flow, start, piece, pairs);
+    face_stood(s)
 }
 
 // Builds the table of a list at bound 1 in four lent lists; 16 fills them with zeros, and another refusal leaves them as they are.
@@ -249,6 +285,19 @@ pub extern "C" fn watch_build(
         rows: built.rows as u64,
         splits: built.splits as u64,
         refusal: built.refusal,
+    }
+}
+
+// Splits and an index straight from a list, in two lent lists; 16 fills them with zeros, and another refusal leaves them as they are.
+#[no_mangle]
+pub extern "C" fn watch_prepare(list: &[u8], splits: &mut [u8], index: &mut [u8]) -> WatchMade
+    ensures { λ r. ⌜ Prepares (now (list .entry)) (now (splits .entry)) (now (index .entry)) (faceMade r (now (splits .exit)) (now (index .exit))) ⌝ }
+{
+    let made = prepares::prepare(list, splits, index);
+    WatchMade {
+        splits: made.splits as u64,
+        index: made.index as u64,
+        refusal: made.refusal,
     }
 }
 

@@ -14,7 +14,7 @@ ghost use Rattle.words.specs.Further.{further, Straddles, Strides};
 // ---- the next member
 
 // The place of the lowest 1 of a word that is not 0.
-fn lowest(x: u64) -> usize
+pub fn lowest(x: u64) -> usize
     requires { ⌜ (x ≡ 0 → ⊥) ⌝ }
     ensures { λ r. ⌜ (r < 64) × (holds x r ≡ true) × ((q : ℕ) → q < r → holds x q ≡ false) ⌝ }
 {

@@ -1,13 +1,11 @@
 -- `fill_steps` meets its promise. Assumes nothing.
 use borrow.Author.Needs.{needs}
-use borrow.Author.Tests.{lt-ltb}
-use mathlib.Core.Path.{_≡_, ap, ap₂, _∙_}
+use mathlib.Core.Path.{_≡_, sym, ap, _∙_}
 use mathlib.Core.List.{List}
-use Prim.Native.Nat.{ℕ, _+_, _-_, _*_, _^_, _≤_, _<_}
+use Prim.Native.Nat.{ℕ, _+_, _-_, _*_, _≤_, _<_}
 use native.Mathlib.Omega.{arith}
 use lib.ListN.{length, take, drop}
-use Rattle.sets.specs.Set.{setWords, states, setOf, join}
-use Rattle.sets.proofs.Sets.{insert-join, empty-words, join-empty}
+use Rattle.sets.specs.Set.{setOf, join}
 use Rattle.lists.specs.List.{recordSize, records}
 use Rattle.lists.specs.Automaton.{step}
 use Rattle.rules.proofs.Scanning.{choose}
@@ -18,43 +16,42 @@ use Rattle.classes.proofs.fill_steps.Statement.{statement}
 use Rattle.classes.proofs.fill_steps.Tie as tie
 
 abbrev Inv-loop : tie.InvT-loop
-Inv-loop l s rows₀ f i₀ i-end rows i = (i ≤ i-end) × Filling l rows₀ rows s i
+Inv-loop l f rows₀ base i₀ i-end rows i = (i ≤ i-end) × Filling l rows₀ rows (setOf base) (setOf f) i
 
 abbrev μ-loop : tie.MeasureT-loop
-μ-loop l s rows₀ f i₀ i-end rows i = i-end - i
+μ-loop l f rows₀ base i₀ i-end rows i = i-end - i
 
--- the set of state s alone
-of-one : (c : tie.After-with Inv-loop μ-loop) → setOf (c .with .result) ≡ 2 ^ c .before .before .before .args .s
-of-one c =
-    let s = c .before .before .before in
-    c .with .ensures ∙ insert-join states _ (s .args .s)
-    ∙ rw (lt-ltb (s .args .s) states (s .pre .0)) (ap (λ (x : ℕ). join x (2 ^ s .args .s)) (empty-words setWords) ∙ join-empty (2 ^ s .args .s))
+-- the ways back to the entry, from the loop's head
+abbrev start : tie.At-loop Inv-loop μ-loop → tie.Start Inv-loop μ-loop
+start c = c .before .before .before .before .before .before .before .before
 
 -- the list of sets keeps its length
-kept : (c : tie.At-loop Inv-loop μ-loop) → length (c .loop .rows) ≡ length (c .before .before .before .before .before .before .before .before .args .rows .now)
-kept c = c .loop .inv .1 .long ∙ c .before .before .before .empty-sets .ensures .long
+kept : (c : tie.At-loop Inv-loop μ-loop) → length (c .loop .rows) ≡ length (start c .args .rows .now)
+kept c = c .loop .inv .1 .long ∙ c .before .before .before .put-sets .ensures .long
 
 -- the part that is handed on is record i alone
 part-is : (L : List ℕ) (i : ℕ) → take (recordSize * i + recordSize - recordSize * i) (drop (recordSize * i) L) ≡ alone L i
 part-is L i = ap (λ (n : ℕ). take n (drop (recordSize * i) L)) (let e : recordSize * i + recordSize - recordSize * i ≡ recordSize = omega arith in e)
 
-added : (L : List ℕ) (i F s : ℕ) (X Y : List ℕ) → F ≡ 2 ^ s
+added : (L : List ℕ) (i F : ℕ) (X Y : List ℕ)
     → SetsAre X Y (λ d. join (part X d) (step (take (recordSize * i + recordSize - recordSize * i) (drop (recordSize * i) L)) F d)) byteValues
-    → SetsAre X Y (λ d. join (part X d) (step (alone L i) (2 ^ s) d)) byteValues
-added L i F s X Y e a =
-    record { long = a .long; sets = λ d h. a .sets d h ∙ ap₂ (λ (R : List ℕ) (G : ℕ). join (part X d) (step R G d)) (part-is L i) e; rest = a .rest }
+    → SetsAre X Y (λ d. join (part X d) (step (alone L i) F d)) byteValues
+added L i F X Y a =
+    record { long = a .long; sets = λ d h. a .sets d h ∙ ap (λ (R : List ℕ). join (part X d) (step R F d)) (part-is L i); rest = a .rest }
 
-with-requires : tie.Need-with-requires Inv-loop μ-loop
-with-requires c κs = search needs
+always-requires : tie.Need-always-requires Inv-loop μ-loop
+always-requires c κs = search needs
 
-empty-sets-requires : tie.Need-empty-sets-requires Inv-loop μ-loop
-empty-sets-requires c κs = c .before .before .before .before .pre .1
+put-sets-requires : tie.Need-put-sets-requires Inv-loop μ-loop
+put-sets-requires c κs = (c .before .before .before .before .pre, c .before .always .ensures .0)
 
 loop-holds : tie.Need-loop-holds Inv-loop μ-loop
-loop-holds c = let s = c .before .before .before .before .before .before .before in (omega arith, filling-start (s .args .list .now) (s .args .rows .now) _ (s .args .s) (c .before .before .empty-sets .ensures))
+loop-holds c =
+    let a = c .before .before .before .before .before .before .before .args in
+    (omega arith, filling-start (a .list .now) (a .rows .now) _ (setOf (c .before .before .before .before .always .result)) (setOf (a .f)) (c .before .before .put-sets .ensures))
 
-from-requires : tie.Need-from-requires Inv-loop μ-loop
-from-requires c κs = omega arith
+adds-requires : tie.Need-adds-requires Inv-loop μ-loop
+adds-requires c κs = omega arith
 
 mul-at : tie.Need-mul-at Inv-loop μ-loop
 mul-at c = omega arith
@@ -73,10 +70,11 @@ part-add-steps-end c = omega arith
 
 add-steps-requires : tie.Need-add-steps-requires Inv-loop μ-loop
 add-steps-requires c κs =
-    let s = c .before .before .before .before .before .before .before .before .before .before .before .before .before in
-    let l = c .before .before .before .before .before .loop in
+    let head = c .before .before .before .before .before in
+    let s = start head in
+    let l = head .loop in
     let h : l .i < records (s .args .list .now) = omega arith in (
-      omega (arith, kept (c .before .before .before .before .before), s .pre .1),
+      omega (arith, kept head, s .pre),
       ap (λ (R : List ℕ). records R) (part-is (s .args .list .now) (l .i)) ∙ one-record (s .args .list .now) (l .i) h,
     )
 
@@ -88,22 +86,33 @@ loop-less c = omega arith
 
 loop-again : tie.Need-loop-again Inv-loop μ-loop
 loop-again c =
-    let s = c .before .before .before .before .before .before .before .before .before .before .before in
-    let l = c .before .before .before .loop in
-    let h : l .i < records (s .args .list .now) = omega arith in
+    let head = c .before .before .before in
+    let s = start head in
+    let a = s .args in
+    let base = setOf (head .before .before .before .before .before .always .result) in
+    let l = head .loop in
+    let h : l .i < records (a .list .now) = omega arith in
     choose (c .if1 .came)
     (λ w. (
       omega arith,
-      rw (w .6) (filling-more (s .args .list .now) _ (l .rows) (s .args .s) (l .i) h (l .inv .1) (w .3 .last .1 .1 .0)
-          (added (s .args .list .now) (l .i) _ (s .args .s) (l .rows) (w .3 .last .1 .1 .0) (of-one (c .before .before .before .before .before .before .before .before)) (w .3 .ensures))),
+      rw (w .6) (filling-more (a .list .now) _ (l .rows) base (setOf (a .f)) (l .i) h (l .inv .1) (w .3 .last .1 .1 .0)
+          (added (a .list .now) (l .i) (setOf (a .f)) (l .rows) (w .3 .last .1 .1 .0) (w .3 .ensures))),
     ))
-    (λ w. (omega arith, rw (w .1) (filling-other (s .args .list .now) _ (l .rows) (s .args .s) (l .i) h (l .inv .1) (λ e. w .0 .left (c .before .from .ensures ∙ e)))))
+    (λ w. (
+      omega arith,
+      rw (w .1) (filling-other (a .list .now) _ (l .rows) base (setOf (a .f)) (l .i) h (l .inv .1) (sym (c .before .adds .ensures) ∙ w .0 .left)),
+    ))
 
 same-length : tie.Need-same-length Inv-loop μ-loop
 same-length c = kept (c .before)
 
 returns : tie.Need-returns Inv-loop μ-loop
-returns c = (kept (c .before), filling-end (c .before .before .before .before .before .before .before .before .before .args .list .now) _ (c .before .loop .rows) (c .before .before .before .before .before .before .before .before .before .args .s) (c .before .loop .i) (omega (arith, c .before .loop .inv .0)) (c .before .loop .inv .1))
+returns c =
+    let head = c .before in
+    let a = start head .args in
+    let k = head .before .before .before .before .before .always in
+    let l = head .loop in
+    (kept head, filling-end (a .list .now) _ (l .rows) (setOf (k .result)) (setOf (a .f)) (l .i) (omega (arith, l .inv .0)) (k .ensures .1) (l .inv .1))
 
 pub fill-steps-spec : {M : Type 1} → statement M
 fill-steps-spec =
@@ -111,10 +120,10 @@ fill-steps-spec =
     (tie.spec
     Inv-loop
     μ-loop
-    with-requires
-    empty-sets-requires
+    always-requires
+    put-sets-requires
     loop-holds
-    from-requires
+    adds-requires
     mul-at
     add-end
     sub-add-steps

@@ -1,6 +1,7 @@
 -- `feed_by` meets its promise: that of the feed that it calls. Assumes nothing.
 use borrow.Author.Needs.{needs}
 use borrow.Author.Tests.{ne-eqb}
+use native.Mathlib.Omega.{arith}
 use Rattle.demands.proofs.feed_by.Statement.{statement}
 use Rattle.demands.proofs.feed_by.Tie as tie
 
@@ -49,6 +50,9 @@ returns-3 c =
     let third = feeding .before .before .before in
     rw (third .if3 .taken) (feeding .feed3 .ensures)
 
+sub-feed : tie.Need-sub-feed
+sub-feed c = omega (arith, c .if3 .left, c .before .if2 .left, c .before .before .if1 .left)
+
 feed-requires-4 : tie.Need-feed-requires-4
 feed-requires-4 c κs = search needs
 
@@ -60,11 +64,11 @@ same-length-8 c = search needs
 
 returns-4 : tie.Need-returns-4
 returns-4 c =
-    let feeding = c .before .before .before .before in
+    let feeding = c .before .before .before .before .before in
     let third = feeding .before .before .before in
     let second = third .before in
     let first = second .before in
-    rw (ne-eqb _ 1 (first .if1 .left), ne-eqb _ 2 (second .if2 .left), ne-eqb _ 3 (third .if3 .left)) (feeding .feed4 .ensures)
+    rw (ne-eqb _ 0 (first .if1 .left), ne-eqb _ 1 (second .if2 .left), ne-eqb _ 2 (third .if3 .left)) (feeding .feed4 .ensures .0)
 
 pub feed-by-spec : {M : Type 1} → statement M
 feed-by-spec =
@@ -82,6 +86,7 @@ feed-by-spec =
     same-length-5
     same-length-6
     returns-3
+    sub-feed
     feed-requires-4
     same-length-7
     same-length-8

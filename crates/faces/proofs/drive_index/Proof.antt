@@ -2,7 +2,7 @@
 use borrow.Author.Needs.{needs}
 use mathlib.Core.Path.{_∙_}
 use Rattle.tables.specs.Table.{table}
-use Rattle.prepared.proofs.Ready.{feed-ready}
+use Rattle.fills.proofs.Ready.{feed-ready}
 use Rattle.faces.proofs.Facing.{held-so}
 use Rattle.faces.proofs.drive_index.Statement.{statement}
 use Rattle.faces.proofs.drive_index.Tie as tie
@@ -27,15 +27,18 @@ returns c =
     let feeding = c .before .before .before .before in
     let filling = feeding .before .before .before .before .before .before in
     let a = filling .before .before .before .before .before .before .before .before .before .before .before .args in
-    let fed = held-so _ _ _ _ (feeding .watch-prepared-feed .ensures) in (
+    let fed = held-so _ _ _ _ (feeding .watch-prepared-feed .ensures .0) in (
       filling .watch-fill-index .ensures,
       (
         fed,
-        λ z.
-            fed
-            ∙ feed-ready (a .list .now) (a .bound) (table (a .classes .now) (a .parts .now) (a .rows .now) (a .splits .now)) _ _ _ (filling .watch-fill-index .ensures) z
-            (λ i. filling .before .before .before .before .before .before .shared-slice-known5 .given i .fits) (a .flow .now) (a .start) (a .piece .now) (a .pairs .now)
-            (λ i. filling .before .before .before .shared-slice-known6 .given i .fits),
+        (
+          feeding .watch-prepared-feed .ensures .1,
+          λ z.
+              fed
+              ∙ feed-ready (a .list .now) (a .bound) (table (a .classes .now) (a .parts .now) (a .rows .now) (a .splits .now)) _ _ _ (filling .watch-fill-index .ensures) z
+              (λ i. filling .before .before .before .before .before .before .shared-slice-known5 .given i .fits) (a .split) (a .flow .now) (a .start) (a .piece .now) (a .pairs .now)
+              (λ i. filling .before .before .before .shared-slice-known6 .given i .fits),
+        ),
       ),
     )
 

@@ -1,0 +1,5 @@
+pub mod Entry
+pub mod Stand
+pub mod Right
+pub mod Means
+pub mod Words

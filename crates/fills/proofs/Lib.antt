@@ -1,0 +1,5 @@
+pub mod Reading
+pub mod Made
+pub mod Filling
+pub mod Refusing
+pub mod Ready

@@ -1,4 +1,0 @@
-pub mod Reading
-pub mod Sizes
-pub mod Filling
-pub mod Unique

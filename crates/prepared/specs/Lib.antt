@@ -1,3 +1,0 @@
-pub mod Prepared
-pub mod Means
-pub mod Words

@@ -1,0 +1,4 @@
+pub mod Right
+pub mod Found
+pub mod Ends
+pub mod Words

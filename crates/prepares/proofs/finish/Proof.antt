@@ -1,0 +1,129 @@
+-- `finish` meets its promise. Assumes nothing.
+use borrow.Author.Needs.{needs}
+use mathlib.Core.Path.{_≡_, sym, ap, _∙_}
+use mathlib.Core.List.{List}
+use Prim.Native.Nat.{ℕ, _*_, _≤_}
+use native.Mathlib.Omega.{arith}
+use lib.ListN.{length, take}
+use lib.Seq.{length-take-le}
+use Rattle.sets.proofs.Placing.{length-placed}
+use Rattle.tables.specs.Table.{splitSize}
+use Rattle.build.specs.Build.{over}
+use Rattle.build.specs.Loops.{setsOf}
+use Rattle.fills.specs.Filled.{indexOf}
+use Rattle.prepares.specs.Prepare.{splitsOf, madeIndex}
+use Rattle.prepares.proofs.Found.{over-long, bare-over, bare-length, bare-front, made-length, made-over, fillable}
+use Rattle.prepares.proofs.finish.Statement.{statement}
+use Rattle.prepares.proofs.finish.Tie as tie
+
+-- the ways back: from the splits to the entry, from the zeros behind them to the splits, and from the index to those
+abbrev entry : tie.After-fill-splits → tie.Start
+entry c = c .before .before .before .before .before .before .before .before
+
+abbrev laid : tie.After-clear → tie.After-fill-splits
+laid c = c .before .before .before .before
+
+abbrev cleared : tie.After-fill-entries → tie.After-clear
+cleared c = c .before .before .before .before .before .before
+
+-- the sets
+abbrev sets : tie.Start → List ℕ
+sets s = setsOf (s .args .index .now) (s .args .n)
+
+-- the splits, with zeros behind them
+splits-end : (c : tie.After-clear) → let s = entry (laid c) in c .clear .last .0 ≡ over (splitsOf (sets s)) (s .args .splits .now)
+splits-end c =
+    let f = laid c .fill-splits in
+    let a = entry (laid c) .args in
+    c .clear .ensures ∙ bare-over (a .index .now) (a .n) (f .last .1 .1 .0) (a .splits .now) (f .ensures .0) (f .ensures .1)
+
+splits-long : (c : tie.After-clear) → length (c .clear .last .0) ≡ length (entry (laid c) .args .splits .now)
+splits-long c =
+    let s = entry (laid c) in
+    ap (λ (xs : List ℕ). length xs) (splits-end c) ∙ over-long (splitsOf (sets s)) (s .args .splits .now) (omega (arith, bare-length (s .args .index .now) (s .args .n), s .pre .3, s .pre .5))
+
+-- the part that is handed on
+front : (c : tie.After-clear) → let s = entry (laid c) in take (splitSize * s .args .n) (c .clear .last .0) ≡ splitsOf (sets s)
+front c = let a = entry (laid c) .args in bare-front (a .index .now) (a .n) (c .clear .last .0) (a .splits .now) (splits-end c)
+
+index-long : (c : tie.After-fill-entries) → length (c .fill-entries .last .1 .1 .1 .1 .1 .0) ≡ length (entry (laid (cleared c)) .args .index .now)
+index-long c = ap (λ (xs : List ℕ). length xs) (c .fill-entries .ensures .1) ∙ length-placed (entry (laid (cleared c)) .args .index .now) 0 _
+
+fill-splits-requires : tie.Need-fill-splits-requires
+fill-splits-requires c κs = let s = c .before .before .before .before .before .before .before in (omega (arith, s .pre .4, s .pre .5), s .pre .5, s .pre .3)
+
+mul-end : tie.Need-mul-end
+mul-end c = omega (arith, c .before .before .before .before .before .before .before .before .before .before .pre .5)
+
+clear-requires : tie.Need-clear-requires
+clear-requires c κs = let f = c .before .before .before in omega (arith, f .fill-splits .ensures .0, entry f .pre .3, entry f .pre .5)
+
+slice-reshare-prefix-fill-entries : tie.Need-slice-reshare-prefix-fill-entries
+slice-reshare-prefix-fill-entries c = let k = c .before .before in let s = entry (laid k) in omega (arith, splits-long k, s .pre .3, s .pre .5)
+
+slice-aggregate-fill-entries : tie.Need-slice-aggregate-fill-entries
+slice-aggregate-fill-entries c =
+    let k = c .before .before .before in
+    let s = entry (laid k) in
+    sym (length-take-le (splitSize * s .args .n) (k .clear .last .0) (omega (arith, splits-long k, s .pre .3, s .pre .5)))
+
+fill-entries-requires : tie.Need-fill-entries-requires
+fill-entries-requires c κs =
+    let k = c .before .before .before .before .before in
+    let s = entry (laid k) in
+    let a = s .args in
+    let f = fillable (a .index .now) (a .n) (a .list .now) (a .classes .now) (take (splitSize * a .n) (k .clear .last .0)) (front k) (s .pre .6) (s .pre .5) (s .pre .7) in
+    (omega (arith, f .0, s .pre .5), f .1, s .pre .1, omega arith, omega (arith, f .0, s .pre .4, s .pre .5), s .pre .2, f .2)
+
+mul-clear : tie.Need-mul-clear
+mul-clear c = omega (arith, c .before .before .before .before .before .before .before .before .before .before .before .before .before .before .before .before .before .before .before .before .before .before .before .pre .5)
+
+add-clear : tie.Need-add-clear
+add-clear c = omega (arith, c .before .before .before .before .before .before .before .before .before .before .before .before .before .before .before .before .before .before .before .before .before .before .before .pre .5)
+
+clear-requires-2 : tie.Need-clear-requires-2
+clear-requires-2 c κs = let s = c .before .before .before .before .before .before .before .before .before .before .before .before .before .before .before .before .before .before .before .before .before .before .before in omega (arith, index-long (c .before .before .before .before .before), s .pre .4, s .pre .5)
+
+-- the index, with zeros behind it
+index-end : (c : tie.After-clear2) → let s = entry (laid (cleared (c .before .before .before .before .before .before))) in c .clear2 .last .0 ≡ over (madeIndex (s .args .list .now) (sets s)) (s .args .index .now)
+index-end c =
+    let e = c .before .before .before .before .before .before in
+    let k = cleared e in
+    let s = entry (laid k) in
+    let a = s .args in
+    let f = fillable (a .index .now) (a .n) (a .list .now) (a .classes .now) (take (splitSize * a .n) (k .clear .last .0)) (front k) (s .pre .6) (s .pre .5) (s .pre .7) in
+    c .clear2 .ensures
+    ∙ made-over (a .index .now) (a .n) (a .list .now) (e .fill-entries .last .1 .1 .1 .1 .1 .0) (a .index .now) (take (splitSize * a .n) (k .clear .last .0)) _ (front k) (f .0)
+    (omega (arith, s .pre .4, s .pre .5)) (e .fill-entries .ensures .1)
+
+same-length : tie.Need-same-length
+same-length c = c .before .before .before .before .before .before .before .before .fill-entries .ensures .0
+
+same-length-2 : tie.Need-same-length-2
+same-length-2 c = splits-long (c .before .before .before .before .before .before .before .before .before .before .before .before .before .before)
+
+same-length-3 : tie.Need-same-length-3
+same-length-3 c =
+    let s = c .before .before .before .before .before .before .before .before .before .before .before .before .before .before .before .before .before .before .before .before .before .before .before .before .before .before in
+    ap (λ (xs : List ℕ). length xs) (index-end (c .before .before)) ∙ over-long (madeIndex (s .args .list .now) (sets s)) (s .args .index .now) (omega (arith, made-length (s .args .index .now) (s .args .n) (s .args .list .now), s .pre .4, s .pre .5))
+
+returns : tie.Need-returns
+returns c = (c .before .before .before .before .before .before .before .before .fill-entries .ensures .0, splits-end (c .before .before .before .before .before .before .before .before .before .before .before .before .before .before), index-end (c .before .before))
+
+pub finish-spec : {M : Type 1} → statement M
+finish-spec =
+    tie.close
+    (tie.spec
+    fill-splits-requires
+    mul-end
+    clear-requires
+    slice-reshare-prefix-fill-entries
+    slice-aggregate-fill-entries
+    fill-entries-requires
+    mul-clear
+    add-clear
+    clear-requires-2
+    same-length
+    same-length-2
+    same-length-3
+    returns)
