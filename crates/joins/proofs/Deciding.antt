@@ -17,10 +17,10 @@ use Rattle.rules.specs.Rules.{verdict}
 use Rattle.rules.proofs.Rules.{passes-front, verdict-refused, verdict-then, stop, last, passes}
 use Rattle.lists.specs.List.{mostRecords, records, listRules, listRefusal}
 use Rattle.lists.proofs.Listed.{whole-records}
-use Rattle.joins.specs.Join.{naming, renamedRecord, spare, adds, added, kept, joined, fits, otherRefused, pairRules, tooBig, joinRefusal, Plans}
+use Rattle.joins.specs.Join.{naming, renamedRecord, spare, adds, added, kept, joined, overfull, fits, otherRefused, pairRules, tooBig, joinRefusal, Plans}
 use Rattle.joins.specs.declared.Naming.{Naming}
 use Rattle.joins.specs.declared.Plan.{Plan}
-use Rattle.joins.proofs.Places.{kept-most, kept-in, kept-out, added-length}
+use Rattle.joins.proofs.Places.{kept-in, kept-out, added-length}
 use Rattle.joins.proofs.Fields.{joined-length}
 use Rattle.joins.proofs.Fitting.{joined-passes}
 
@@ -173,7 +173,7 @@ not-over x m = go (ltb m x) refl
     go false e = le-leb x m (ltb-false m x e)
 
 module _ (A : List ℕ) (used lent : ℕ) (B : List ℕ) (a : listRefusal A ≡ 0) (b : listRefusal B ≡ 0) (n : Naming) (e : n ≡ naming A B) (l f : Bool)
-    (u : l ≡ (ltb lent (length A + 8 * kept n B (records B)) || ltb mostRecords (records A + kept n B (records B)))) (v : f ≡ every (records B) (fits n B)) where
+    (u : l ≡ overfull A lent (kept n B (records B))) (v : f ≡ every (records B) (fits n B)) where
   pub big-as : tooBig A used lent B ≡ (ltb lent used || l || not f)
   big-as =
       big-test A used lent B a b ∙ over-as (naming A B) ∙ big-parts (ltb lent used) (ltb lent (length A + 8 * kept (naming A B) B (records B))) (every (records B) (fits (naming A B) B)) (ltb mostRecords (records A + kept (naming A B) B (records B))) ∙ sym code-as
@@ -186,9 +186,8 @@ module _ (A : List ℕ) (used lent : ℕ) (B : List ℕ) (a : listRefusal A ≡ 
           ≡ (ltb lent used || (ltb lent (length A + 8 * kept (naming A B) B (records B)) || ltb mostRecords (records A + kept (naming A B) B (records B))) || not (every (records B) (fits (naming A B) B)))
       code-as = rw (u, v, e)
 
--- where all of B has room, what it adds has
-pub all-room : (A : List ℕ) (lent : ℕ) (n : Naming) (B : List ℕ) → listRefusal B ≡ 0 → records A + records B ≤ mostRecords → length A + length B ≤ lent
-    → (ltb lent (length A + 8 * kept n B (records B)) || ltb mostRecords (records A + kept n B (records B))) ≡ false
-all-room A lent n B b h l =
-    let k = kept-most n B (records B) in
-    rw (le-ltb lent (length A + 8 * kept n B (records B)) (omega (arith, k)), le-ltb mostRecords (records A + kept n B (records B)) (omega (arith, k)))
+-- where k records have room, fewer have
+pub less-room : (A : List ℕ) (lent k j : ℕ) → j ≤ k → overfull A lent k ≡ false → overfull A lent j ≡ false
+less-room A lent k j h e =
+    let t = neither (ltb lent (length A + 8 * k)) (ltb mostRecords (records A + k)) e in
+    rw (le-ltb lent (length A + 8 * j) (omega (arith, ltb-false lent (length A + 8 * k) (t .0))), le-ltb mostRecords (records A + j) (omega (arith, ltb-false mostRecords (records A + k) (t .1))))

@@ -42,15 +42,19 @@ module _ (n : Naming) (B : List ℕ) where
       go true e ih = rw (added-out m e, kept-out m e) ih
       go false e ih = rw (added-in m e, kept-in m e, length-append) (omega (arith, ih, record-long m))
 
-  -- more records, more kept
+  -- of m records no more are kept than of the first i, and all the others
+  pub kept-rest : (i m : ℕ) → i ≤ m → kept n B m + i ≤ kept n B i + m
+  kept-rest i zero h = let z : i ≡ 0 = omega arith in rw z (omega arith)
+  kept-rest i (suc m) h = choose (below-suc i (suc m) (omega arith)) (λ l. go (spare n B m) refl (kept-rest i m (omega arith))) (λ e. rw e (omega arith))
+    where
+      go : (b : Bool) → spare n B m ≡ b → kept n B m + i ≤ kept n B i + m → kept n B (suc m) + i ≤ kept n B i + suc m
+      go true e ih = rw (kept-out m e) (omega (arith, ih))
+      go false e ih = rw (kept-in m e) (omega (arith, ih))
+
+  -- no more are kept than there are
   pub kept-most : (m : ℕ) → kept n B m ≤ m
   unfolding kept
-  kept-most zero = omega arith
-  kept-most (suc m) = go (spare n B m) refl (kept-most m)
-    where
-      go : (b : Bool) → spare n B m ≡ b → kept n B m ≤ m → kept n B (suc m) ≤ suc m
-      go true e ih = rw (kept-out m e) (omega arith)
-      go false e ih = rw (kept-in m e) (omega arith)
+  kept-most m = let z : kept n B 0 ≡ 0 = refl in omega (arith, z, kept-rest 0 m (omega arith))
 
   -- record i, if it is kept, stands behind those kept before it
   pub added-at : (m i : ℕ) → i < m → spare n B i ≡ false → (kept n B i < kept n B m) × ((k : ℕ) → k < 8 → getD (added n B m) (8 * kept n B i + k) 0 ≡ getD (renamedRecord n B i) k 0)

@@ -1,5 +1,5 @@
 -- Two lists joined into one: which state they share, how the second's states are renamed, the joined list, and the rules.
-use Prim.Native.Nat.{ℕ, zero, suc, _+_, _-_, _≤_, _<_}
+use Prim.Native.Nat.{ℕ, zero, suc, _+_, _-_, _*_, _≤_, _<_}
 use mathlib.Core.Path.{_≡_}
 use mathlib.Core.Bool.{Bool, true, false, _&&_, _||_, not, cond}
 use mathlib.Core.List.{List, [], _∷_, _++_}
@@ -8,7 +8,7 @@ use lib.Dec.{ltb, eqb}
 use Rattle.sets.specs.Set.{states, setOf, holds}
 use Rattle.rules.specs.Scan.{first, gather, stack}
 use Rattle.rules.specs.Rules.{Rule, verdict}
-use Rattle.lists.specs.List.{records, isEdge, isStart, low, high, from, target, recordWith, listRules, listRefusal}
+use Rattle.lists.specs.List.{mostRecords, records, isEdge, isStart, low, high, from, target, recordWith, listRules, listRefusal}
 use Rattle.lists.specs.Automaton.{start, reached, namesFrom, namesTarget, highest}
 use Rattle.joins.specs.declared.Naming.{Naming}
 use Rattle.joins.specs.declared.Outline.{Outline}
@@ -104,6 +104,10 @@ kept n B (suc i) = cond (spare n B i) (kept n B i) (suc (kept n B i))
 -- the first list, and behind it what the second adds
 unfoldable pub joined : List ℕ → List ℕ → List ℕ
 joined A B = A ++ added (naming A B) B (records B)
+
+-- k records more behind A pass the lent list, or are more than a list may have
+abbrev pub overfull : List ℕ → ℕ → ℕ → Bool
+overfull A lent k = ltb lent (length A + 8 * k) || ltb mostRecords (records A + k)
 
 -- what record i adds names states alone
 unfoldable pub fits : Naming → List ℕ → ℕ → Bool

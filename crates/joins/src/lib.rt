@@ -3,15 +3,14 @@
 // then what the second adds is measured, and only then is anything written, by a table of the new numbers.
 use sets::StateSet;
 ghost use mathlib.Core.Path.{_≡_};
-ghost use mathlib.Core.Bool.{true, false, _||_, not, cond};
+ghost use mathlib.Core.Bool.{true, false, not, cond};
 ghost use Prim.Native.Nat.{suc, _+_, _*_, _<_, _≤_};
 ghost use lib.ListN.{length};
-ghost use lib.Dec.{ltb};
 ghost use Rattle.sets.specs.Set.{states, setOf, num, holds, insert, placed};
 ghost use Rattle.rules.specs.Scan.{every};
 ghost use Rattle.lists.specs.List.{mostRecords, records, isEdge, isStart, target, goodRecord, listRefusal};
 ghost use Rattle.lists.specs.Automaton.{higher, highest};
-ghost use Rattle.joins.specs.Join.{stays, lowest, nameBy, renamed, newFrom, newTarget, spare, adds, added, kept, fits};
+ghost use Rattle.joins.specs.Join.{stays, lowest, nameBy, renamed, newFrom, newTarget, spare, adds, added, kept, overfull, fits};
 ghost use Rattle.joins.specs.Join.{Outlines, Narrow, Numbers, Plans, Joins};
 
 // How the states of the second list are named in the joined one: `next` is the first number that is free; where a state is shared, the second list's
@@ -254,32 +253,34 @@ fn fits(n: Naming, b: &[u8], i: usize) -> bool
     spare(n, b, i) | (new_from(n, b, i) < sets::STATES) & (new_target(n, b, i) < sets::STATES)
 }
 
-// How many records b adds.
-fn kept(n: Naming, b: &[u8]) -> usize
-    ensures { λ r. ⌜ r ≡ kept n (now (b .entry)) (records (now (b .entry))) ⌝ }
+// Says whether k records more behind a pass the lent list, or are more than a list may have.
+fn overfull(a: &[u8], lent: usize, k: usize) -> bool
+    requires { ⌜ (listRefusal (now a) ≡ 0) × (k ≤ mostRecords) ⌝ }
+    ensures { λ r. ⌜ r ≡ overfull (now (a .entry)) lent k ⌝ }
 {
-    let m = lists::records(b);
-    let mut count = 0usize;
-    for i in 0..m {
-        if !spare(n, b, i) {
-            count = count + 1;
-        }
-    }
-    count
+    (lent < a.len() + lists::RECORD_SIZE * k) | (lists::MOST_RECORDS < lists::records(a) + k)
 }
 
-// Says whether what b adds behind a passes the lent list, or makes more records than a list may have. Where all of b has room nothing is counted.
+// Says whether what b adds behind a passes the lent list, or makes more records than a list may have. Of all of b's records the spare ones are taken off
+// until the others have room, so that where all of b has room nothing is read.
 fn too_long(a: &[u8], lent: usize, n: Naming, b: &[u8]) -> bool
     requires { ⌜ (listRefusal (now a) ≡ 0) × (listRefusal (now b) ≡ 0) ⌝ }
-    ensures { λ r. ⌜ r ≡ (ltb lent (length (now (a .entry)) + 8 * kept n (now (b .entry)) (records (now (b .entry))))
-        || ltb mostRecords (records (now (a .entry)) + kept n (now (b .entry)) (records (now (b .entry))))) ⌝ }
+    ensures { λ r. ⌜ r ≡ overfull (now (a .entry)) lent (kept n (now (b .entry)) (records (now (b .entry)))) ⌝ }
 {
-    let most = lists::records(a) + lists::records(b);
-    if (most <= lists::MOST_RECORDS) & (a.len() + b.len() <= lent) {
+    let m = lists::records(b);
+    if !overfull(a, lent, m) {
         return false;
     }
-    let k = kept(n, b);
-    (lent < a.len() + lists::RECORD_SIZE * k) | (lists::MOST_RECORDS < lists::records(a) + k)
+    let mut left = m;
+    for i in 0..m {
+        if spare(n, b, i) {
+            left = left - 1;
+            if !overfull(a, lent, left) {
+                return false;
+            }
+        }
+    }
+    true
 }
 
 // Says whether all that b adds names states alone. Where b's highest state gets such a number nothing is read.

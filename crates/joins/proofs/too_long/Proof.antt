@@ -1,70 +1,111 @@
--- `too_long` counts only where not all of the second list has room. Assumes nothing.
-use mathlib.Core.Path.{sym}
-use Prim.Native.Nat.{_+_}
-use lib.ListN.{length}
-use lib.Dec.{leb}
-use borrow.Author.Tests.{leb-true}
-use Rattle.rules.proofs.Scanning.{both}
-use Rattle.lists.specs.List.{mostRecords, records}
+-- `too_long` takes off spare records while what is left has no room. Assumes nothing.
+use Prim.Native.Nat.{_+_, _-_, _≤_}
+use mathlib.Core.Path.{_≡_, refl, sym, _∙_}
+use mathlib.Core.Bool.{true}
+use native.Mathlib.Numerals.{add-one}
+use borrow.Author.Tests.{not-true, not-false}
+use Rattle.rules.proofs.Scanning.{choose}
+use Rattle.lists.specs.List.{records}
 use Rattle.lists.proofs.Listed.{short-list}
-use Rattle.joins.proofs.Places.{kept-most}
-use Rattle.joins.proofs.Deciding.{all-room}
+use Rattle.joins.specs.Join.{kept, overfull}
+use Rattle.joins.proofs.Places.{kept-in, kept-out, kept-most, kept-rest}
+use Rattle.joins.proofs.Deciding.{less-room}
 use native.Mathlib.Omega.{arith}
 use borrow.Author.Needs.{needs}
 use Rattle.joins.proofs.too_long.Statement.{statement}
 use Rattle.joins.proofs.too_long.Tie as tie
 
-records-requires : tie.Need-records-requires
+abbrev Inv-loop : tie.InvT-loop
+Inv-loop a lent n b m left₀ i₀ left i = (i ≤ m) × (left + i ≡ kept n b i + m) × (overfull a lent left ≡ true)
+
+abbrev μ-loop : tie.MeasureT-loop
+μ-loop a lent n b m left₀ i₀ left i = m - i
+
+records-requires : tie.Need-records-requires Inv-loop μ-loop
 records-requires c κs = search needs
 
-records-requires-2 : tie.Need-records-requires-2
-records-requires-2 c κs = search needs
+overfull-requires : tie.Need-overfull-requires Inv-loop μ-loop
+overfull-requires c κs = let s = c .before .before .before in (s .pre .0, omega (arith, c .records .ensures, short-list (s .args .b .now) (s .pre .1)))
 
-add-most : tie.Need-add-most
-add-most c = let s = c .before .before .before .before in let a = s .args in omega (arith, short-list (a .b .now) (s .pre .1), short-list (a .a .now) (s .pre .0), c .before .records .ensures, c .records2 .ensures)
-
-add-if1 : tie.Need-add-if1
-add-if1 c = let s = c .before .before .before .before in let a = s .args in omega (arith, short-list (a .b .now) (s .pre .1), short-list (a .a .now) (s .pre .0))
-
-returns : tie.Need-returns
+returns : tie.Need-returns Inv-loop μ-loop
 returns c =
-    let s = c .before .before .before .before .before in
+    let a = c .before .before .before .before .before .args in
+    let k = kept (a .n) (a .b .now) (records (a .b .now)) in
+    let m = c .before .before .records in
+    sym (less-room (a .a .now) (a .lent) (m .result) k (omega (arith, kept-most (a .n) (a .b .now) (records (a .b .now)), m .ensures)) (sym (c .before .overfull .ensures) ∙ not-true _ (c .if1 .taken)))
+
+loop-holds : tie.Need-loop-holds Inv-loop μ-loop
+unfolding kept
+loop-holds c =
+    let a = c .before .before .before .before .before .args in
+    let z : kept (a .n) (a .b .now) 0 ≡ 0 = refl in
+    (search needs, omega (arith, z), sym (c .before .overfull .ensures) ∙ not-false _ (c .if1 .left))
+
+spare-requires : tie.Need-spare-requires Inv-loop μ-loop
+spare-requires c κs = search needs
+
+sub-left : tie.Need-sub-left Inv-loop μ-loop
+sub-left c = let l = c .before .before .before .loop in omega (arith, l .inv .1)
+
+overfull-requires-2 : tie.Need-overfull-requires-2 Inv-loop μ-loop
+overfull-requires-2 c κs =
+    let l = c .before .before .before .loop in
+    let s = c .before .before .before .before .before .before .before .before .before in
     let a = s .args in
-    let m = c .before .before .records .result + c .before .records2 .result in
-    let n = length (a .a .now) + length (a .b .now) in
-    let t = both (leb m mostRecords) (leb n (a .lent)) (c .if1 .taken) in
-    sym (all-room (a .a .now) (a .lent) (a .n) (a .b .now) (s .pre .1) (omega (arith, leb-true m mostRecords (t .0), c .before .before .records .ensures, c .before .records2 .ensures)) (omega (arith, leb-true n (a .lent) (t .1))))
+    (s .pre .0, omega (arith, l .inv .1, kept-most (a .n) (a .b .now) (l .i), c .before .before .before .before .before .before .records .ensures, short-list (a .b .now) (s .pre .1)))
 
-kept-requires : tie.Need-kept-requires
-kept-requires c κs = search needs
+returns-2 : tie.Need-returns-2 Inv-loop μ-loop
+returns-2 c =
+    let p = c .before .before .before in
+    let l = p .before .before .loop in
+    let a = p .before .before .before .before .before .before .before .before .args in
+    let m = p .before .before .before .before .before .records .ensures in
+    let k = kept (a .n) (a .b .now) (records (a .b .now)) in
+    let o = kept-out (a .n) (a .b .now) (l .i) (sym (p .spare .ensures) ∙ c .before .before .if2 .taken) in
+    let r = kept-rest (a .n) (a .b .now) (l .i + 1) (records (a .b .now)) (omega (arith, m)) in
+    sym (less-room (a .a .now) (a .lent) (l .left - 1) k (omega (arith, l .inv .1, m, rw (add-one, o) at r)) (sym (c .before .overfull2 .ensures) ∙ not-true _ (c .if3 .taken)))
 
-mul-result : tie.Need-mul-result
-mul-result c = let s = c .before .before .before .before .before .before in let a = s .args in omega (arith, c .kept .ensures, kept-most (a .n) (a .b .now) (records (a .b .now)), short-list (a .b .now) (s .pre .1))
+add-i : tie.Need-add-i Inv-loop μ-loop
+add-i c = search needs
 
-add-result : tie.Need-add-result
-add-result c = let s = c .before .before .before .before .before .before in let a = s .args in omega (arith, c .kept .ensures, kept-most (a .n) (a .b .now) (records (a .b .now)), short-list (a .b .now) (s .pre .1), short-list (a .a .now) (s .pre .0))
+loop-less : tie.Need-loop-less Inv-loop μ-loop
+loop-less c = search needs
 
-records-requires-3 : tie.Need-records-requires-3
-records-requires-3 c κs = search needs
+loop-again : tie.Need-loop-again Inv-loop μ-loop
+loop-again c =
+    let l = c .before .before .before .loop in
+    let s = c .before .spare .ensures in
+    let a = c .before .before .before .before .before .before .before .before .before .args in
+    let m = c .before .before .before .before .before .before .records .result in
+    let q : (c .if2 .left + (l .i + 1) ≡ kept (a .n) (a .b .now) (l .i + 1) + m) × (overfull (a .a .now) (a .lent) (c .if2 .left) ≡ true) = rw add-one (choose (c .if2 .came)
+    (λ w. (omega (arith, l .inv .1, w .3, kept-out (a .n) (a .b .now) (l .i) (sym s ∙ w .0 .taken)), rw (w .3) (sym (w .1 .ensures) ∙ not-false _ (w .2 .left))))
+    (λ w. (omega (arith, l .inv .1, w .1, kept-in (a .n) (a .b .now) (l .i) (sym s ∙ w .0 .left)), rw (w .1) (l .inv .2)))) in
+    (search needs, q .0, q .1)
 
-add-result-2 : tie.Need-add-result-2
-add-result-2 c = let s = c .before .before .before .before .before .before .before in let a = s .args in omega (arith, c .before .kept .ensures, kept-most (a .n) (a .b .now) (records (a .b .now)), short-list (a .b .now) (s .pre .1), short-list (a .a .now) (s .pre .0), c .records3 .ensures)
-
-returns-2 : tie.Need-returns-2
-returns-2 c = rw (← c .before .kept .ensures, ← c .records3 .ensures)
+returns-3 : tie.Need-returns-3 Inv-loop μ-loop
+returns-3 c =
+    let l = c .before .loop in
+    let a = c .before .before .before .before .before .before .before .args in
+    let m = c .before .before .before .before .records .ensures in
+    let e : l .i ≡ records (a .b .now) = omega (arith, m) in
+    let k : l .left ≡ kept (a .n) (a .b .now) (records (a .b .now)) = rw (← e) (omega (arith, l .inv .1)) in
+    sym (rw (← k) (l .inv .2))
 
 pub too-long-spec : {M : Type 1} → statement M
 too-long-spec =
     tie.close
     (tie.spec
+    Inv-loop
+    μ-loop
     records-requires
-    records-requires-2
-    add-most
-    add-if1
+    overfull-requires
     returns
-    kept-requires
-    mul-result
-    add-result
-    records-requires-3
-    add-result-2
-    returns-2)
+    loop-holds
+    spare-requires
+    sub-left
+    overfull-requires-2
+    returns-2
+    add-i
+    loop-less
+    loop-again
+    returns-3)
