@@ -1,13 +1,15 @@
 -- Where the records that the second list adds stand: each that is not spare at the place of those kept before it, and nothing else. Assumes nothing.
 use Prim.Native.Nat.{ℕ, zero, suc, _+_, _*_, _≤_, _<_}
 use mathlib.Core.Path.{_≡_, refl, sym, _∙_}
-use mathlib.Core.Bool.{Bool, true, false}
+use mathlib.Core.Bool.{Bool, true, false, and-false}
 use mathlib.Core.List.{List, _++_, append-nil}
 use native.Mathlib.Omega.{arith}
 use lib.ListN.{length, getD, length-append, List·getD-append}
 use lib.Seq.{getD-append-add}
+use borrow.Author.Tests.{ne-eqb}
 use Rattle.rules.specs.Scan.{stack}
 use Rattle.rules.proofs.Scanning.{below-suc, choose}
+use Rattle.lists.specs.List.{target}
 use Rattle.lists.proofs.Copied.{copied-long}
 use Rattle.joins.specs.Join.{newFrom, newTarget, renamedRecord, spare, added, kept}
 use Rattle.joins.specs.declared.Naming.{Naming}
@@ -16,6 +18,11 @@ module _ (n : Naming) (B : List ℕ) where
   pub record-long : (i : ℕ) → length (renamedRecord n B i) ≡ 8
   unfolding renamedRecord
   record-long i = copied-long B i (newFrom n B i) (newTarget n B i)
+
+  -- a record that does not lead to the shared state is not spare
+  pub spare-elsewhere : (i : ℕ) → (target B i ≡ n .own → ⊥) → spare n B i ≡ false
+  unfolding spare
+  spare-elsewhere i h = rw (ne-eqb (target B i) (n .own) h, and-false (n .shared)) refl
 
   pub kept-in : (i : ℕ) → spare n B i ≡ false → kept n B (suc i) ≡ suc (kept n B i)
   unfolding kept

@@ -3,8 +3,8 @@
 // then what the second adds is measured, and only then is anything written, by a table of the new numbers.
 use sets::StateSet;
 ghost use mathlib.Core.Path.{_≡_};
-ghost use mathlib.Core.Bool.{true, false, not, cond};
-ghost use Prim.Native.Nat.{suc, _+_, _*_, _<_, _≤_};
+ghost use mathlib.Core.Bool.{true, false, _&&_, not, cond};
+ghost use Prim.Native.Nat.{ℕ, suc, _+_, _*_, _<_, _≤_};
 ghost use lib.ListN.{length};
 ghost use Rattle.sets.specs.Set.{states, setOf, num, holds, insert, placed};
 ghost use Rattle.rules.specs.Scan.{every};
@@ -109,13 +109,15 @@ fn find_outline(list: &[u8]) -> Outline
     let mut staying = none.words;
     let mut reached = none.words;
     let mut top = 0usize;
+    let mut started = false;
     for i in 0..n {
         if !lists::good_record(list, i) {
             return refused(2);
         }
+        started = started | lists::is_start(list, i);
         top = note(list, i, top, &mut starts, &mut staying, &mut reached);
     }
-    if lists::no_start(list) {
+    if !started {
         return refused(3);
     }
     Outline {
@@ -127,26 +129,37 @@ fn find_outline(list: &[u8]) -> Outline
     }
 }
 
-// Says whether a state is in a set, or whether it is not, as is asked.
-fn agrees(y: StateSet, s: usize, inside: bool) -> bool
-    ensures { λ r. ⌜ r ≡ cond inside (holds (setOf y) s) (not (holds (setOf y) s)) ⌝ }
+// A word of ones.
+const ALL: u64 = 18446744073709551615;
+
+// The bits of a word that another has, or that it has not, as is asked.
+fn agree(x: u64, y: u64, inside: bool) -> u64
+    ensures { λ r. ⌜ ((s : ℕ) → s < 64 → holds r s ≡ (holds x s && cond inside (holds y s) (not (holds y s)))) ⌝ }
 {
-    let has = y.has(s);
-    if inside { has } else { !has }
+    if inside {
+        return x & y;
+    }
+    x & (y ^ ALL)
+}
+
+// The states of the first set that are in the second, or that are not, as is asked.
+fn agreeing(x: StateSet, y: StateSet, inside: bool) -> StateSet
+    ensures { λ r. ⌜ ((s : ℕ) → s < states → holds (setOf r) s ≡ (holds (setOf x) s && cond inside (holds (setOf y) s) (not (holds (setOf y) s)))) ⌝ }
+{
+    let a = x.words;
+    let b = y.words;
+    let mut w = a;
+    for i in 0..sets::WORDS {
+        w[i] = agree(a[i], b[i], inside);
+    }
+    StateSet::of_words(w)
 }
 
 // The lowest state of the first set that is in the second, or that is not, as is asked; the number of states where there is none.
 fn lowest(x: StateSet, y: StateSet, inside: bool) -> usize
     ensures { λ r. ⌜ r ≡ lowest (setOf x) (setOf y) inside ⌝ }
 {
-    let mut s = words::next_state(x, 0, sets::STATES);
-    while s < sets::STATES {
-        if agrees(y, s, inside) {
-            return s;
-        }
-        s = words::next_state(x, s + 1, sets::STATES);
-    }
-    s
+    words::next_state(agreeing(x, y, inside), 0, sets::STATES)
 }
 
 // The naming, by the first new number, two states that are always there and two that are there once.
@@ -261,6 +274,25 @@ fn overfull(a: &[u8], lent: usize, k: usize) -> bool
     (lent < a.len() + lists::RECORD_SIZE * k) | (lists::MOST_RECORDS < lists::records(a) + k)
 }
 
+// The next record from i on that leads to the shared state, two looked at in a turn; it may stop at one that does not, but passes none that is spare.
+fn next_spare(n: Naming, b: &[u8], from: usize) -> usize
+    requires { ⌜ (listRefusal (now b) ≡ 0) × (from ≤ records (now b)) ⌝ }
+    ensures { λ r. ⌜ (from ≤ r) × (r ≤ records (now (b .entry))) × (kept n (now (b .entry)) r + from ≡ kept n (now (b .entry)) from + r) ⌝ }
+{
+    let m = lists::records(b);
+    let mut i = from;
+    while i + 1 < m {
+        if lists::target(b, i) == n.own {
+            return i;
+        }
+        if lists::target(b, i + 1) == n.own {
+            return i + 1;
+        }
+        i = i + 2;
+    }
+    i
+}
+
 // Says whether what b adds behind a passes the lent list, or makes more records than a list may have. Of all of b's records the spare ones are taken off
 // until the others have room, so that where all of b has room nothing is read.
 fn too_long(a: &[u8], lent: usize, n: Naming, b: &[u8]) -> bool
@@ -272,13 +304,15 @@ fn too_long(a: &[u8], lent: usize, n: Naming, b: &[u8]) -> bool
         return false;
     }
     let mut left = m;
-    for i in 0..m {
+    let mut i = next_spare(n, b, 0);
+    while i < m {
         if spare(n, b, i) {
             left = left - 1;
             if !overfull(a, lent, left) {
                 return false;
             }
         }
+        i = next_spare(n, b, i + 1);
     }
     true
 }

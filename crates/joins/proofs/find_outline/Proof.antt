@@ -1,13 +1,13 @@
 -- `find_outline` goes through the records; the invariant is each definition for the records passed. Assumes nothing.
-use mathlib.Core.Path.{refl, sym, _∙_, _≡_}
-use mathlib.Core.Bool.{Bool, true, false}
+use mathlib.Core.Path.{refl, sym, ap, _∙_, _≡_}
+use mathlib.Core.Bool.{Bool, true, false, not}
 use Prim.Native.Nat.{ℕ, _≤_, _-_}
 use native.Mathlib.Numerals.{add-one}
 use lib.ListN.{length}
 use Rattle.sets.specs.Set.{states, setWords, num}
 use Rattle.sets.proofs.Sets.{empty-words}
-use Rattle.rules.specs.Scan.{every, gather}
-use Rattle.lists.specs.List.{records, isEdge, isStart, target, goodRecord}
+use Rattle.rules.specs.Scan.{some, every, gather}
+use Rattle.lists.specs.List.{records, isEdge, isStart, target, goodRecord, noStart}
 use Rattle.lists.specs.Automaton.{highestBy, start, reached}
 use Rattle.joins.specs.Join.{stays, staying}
 use Rattle.joins.proofs.Outlining.{refused-as, by-length, by-record, by-start, by-none}
@@ -18,14 +18,14 @@ use Rattle.joins.proofs.find_outline.Statement.{statement}
 use Rattle.joins.proofs.find_outline.Tie as tie
 
 abbrev Inv-loop : tie.InvT-loop
-Inv-loop list n starts₀ staying₀ reached₀ top₀ i₀ starts staying reached top i =
+Inv-loop list n starts₀ staying₀ reached₀ top₀ started₀ i₀ starts staying reached top started i =
     (i ≤ n) × (every i (goodRecord list) ≡ true) × (top ≡ highestBy list i)
     × ((length starts ≡ setWords) × (num 64 starts ≡ gather states (isStart list) (target list) i))
     × ((length staying ≡ setWords) × (num 64 staying ≡ gather states (stays list) (target list) i))
-    × ((length reached ≡ setWords) × (num 64 reached ≡ gather states (isEdge list) (target list) i))
+    × ((length reached ≡ setWords) × (num 64 reached ≡ gather states (isEdge list) (target list) i)) × (started ≡ some i (isStart list))
 
 abbrev μ-loop : tie.MeasureT-loop
-μ-loop list n starts₀ staying₀ reached₀ top₀ i₀ starts staying reached top i = n - i
+μ-loop list n starts₀ staying₀ reached₀ top₀ started₀ i₀ starts staying reached top started i = n - i
 
 bad-length-requires : tie.Need-bad-length-requires Inv-loop μ-loop
 bad-length-requires c κs = search needs
@@ -42,8 +42,8 @@ records-requires : tie.Need-records-requires Inv-loop μ-loop
 records-requires c κs = search needs
 
 loop-holds : tie.Need-loop-holds Inv-loop μ-loop
-unfolding every gather highestBy
-loop-holds c = (search needs, refl, refl, (search needs, empty-words setWords), (search needs, empty-words setWords), (search needs, empty-words setWords))
+unfolding every some gather highestBy
+loop-holds c = (search needs, refl, refl, (search needs, empty-words setWords), (search needs, empty-words setWords), (search needs, empty-words setWords), refl)
 
 good-record-requires : tie.Need-good-record-requires Inv-loop μ-loop
 good-record-requires c κs = search needs
@@ -58,6 +58,9 @@ returns-2 c =
     let l = sym (c .before .before .before .before .before .before .before .before .before .before .bad-length .ensures) ∙ c .before .before .before .before .before .before .before .before .before .if1 .left in
     let g = sym (c .before .before .good-record .ensures) ∙ not-true _ (c .before .if2 .taken) in
     refused-as L _ 2 (by-record L l i (omega (arith, c .before .before .before .before .before .before .before .before .records .ensures)) g) (c .refused2 .ensures) (λ e. absurd (omega (arith, e)))
+
+is-start-requires : tie.Need-is-start-requires Inv-loop μ-loop
+is-start-requires c κs = search needs
 
 slice-aggregate-note : tie.Need-slice-aggregate-note Inv-loop μ-loop
 slice-aggregate-note c = search needs
@@ -78,32 +81,32 @@ loop-less : tie.Need-loop-less Inv-loop μ-loop
 loop-less c = search needs
 
 loop-again : tie.Need-loop-again Inv-loop μ-loop
-unfolding every gather highestBy
+unfolding every some gather highestBy
 loop-again c =
-    let v = c .before .before .before .before .before .before .before .before .before .before .loop .inv in
+    let v = c .before .before .before .before .before .before .before .before .before .before .before .loop .inv in
     let n = c .before .before .before .note .ensures in
-    let g = sym (c .before .before .before .before .before .before .before .before .good-record .ensures) ∙ not-false _ (c .before .before .before .before .before .before .before .if2 .left) in (
+    let s = c .before .before .before .before .before .before .before .is-start .ensures in
+    let g = sym (c .before .before .before .before .before .before .before .before .before .good-record .ensures) ∙ not-false _ (c .before .before .before .before .before .before .before .before .if2 .left) in (
       search needs,
       rw (add-one, v .1, g) refl,
       rw add-one (n .0 ∙ rw (v .2)),
       (search needs, rw (add-one, n .1, v .3 .0, v .3 .1) refl),
       (search needs, rw (add-one, n .2, v .4 .0, v .4 .1) refl),
       (search needs, rw (add-one, n .3, v .5 .0, v .5 .1) refl),
+      rw (add-one, v .6, s) refl,
     )
-
-no-start-requires : tie.Need-no-start-requires Inv-loop μ-loop
-no-start-requires c κs = search needs
 
 refused-requires-3 : tie.Need-refused-requires-3 Inv-loop μ-loop
 refused-requires-3 c κs = search needs
 
 returns-3 : tie.Need-returns-3 Inv-loop μ-loop
+unfolding noStart
 returns-3 c =
-    let L = c .before .before .before .before .before .before .before .before .before .before .before .before .args .list .now in
-    let v = c .before .before .before .before .loop .inv in
-    let e : c .before .before .before .before .loop .i ≡ records L = omega (arith, c .before .before .before .before .before .before .before .before .records .ensures) in
-    let l = sym (c .before .before .before .before .before .before .before .before .before .before .bad-length .ensures) ∙ c .before .before .before .before .before .before .before .before .before .if1 .left in
-    let s = sym (c .before .before .no-start .ensures) ∙ c .before .if3 .taken in
+    let L = c .before .before .before .before .before .before .before .before .before .before .before .args .list .now in
+    let v = c .before .before .before .loop .inv in
+    let e : c .before .before .before .loop .i ≡ records L = omega (arith, c .before .before .before .before .before .before .before .records .ensures) in
+    let l = sym (c .before .before .before .before .before .before .before .before .before .bad-length .ensures) ∙ c .before .before .before .before .before .before .before .before .if1 .left in
+    let s : noStart L ≡ true = ap not (sym (rw e at (v .6))) ∙ c .before .if3 .taken in
     refused-as L _ 3 (by-start L l (rw e at (v .1)) s) (c .refused3 .ensures) (λ z. absurd (omega (arith, z)))
 
 of-words-requires : tie.Need-of-words-requires Inv-loop μ-loop
@@ -116,13 +119,13 @@ of-words-requires-3 : tie.Need-of-words-requires-3 Inv-loop μ-loop
 of-words-requires-3 c κs = search needs
 
 returns-4 : tie.Need-returns-4 Inv-loop μ-loop
-unfolding start staying reached
+unfolding start staying reached noStart
 returns-4 c =
-    let L = c .before .before .before .before .before .before .before .before .before .before .before .before .before .before .args .list .now in
-    let v = c .before .before .before .before .before .before .loop .inv in
-    let e : c .before .before .before .before .before .before .loop .i ≡ records L = omega (arith, c .before .before .before .before .before .before .before .before .before .before .records .ensures) in
-    let l = sym (c .before .before .before .before .before .before .before .before .before .before .before .before .bad-length .ensures) ∙ c .before .before .before .before .before .before .before .before .before .before .before .if1 .left in
-    let s = sym (c .before .before .before .before .no-start .ensures) ∙ c .before .before .before .if3 .left in
+    let L = c .before .before .before .before .before .before .before .before .before .before .before .before .before .args .list .now in
+    let v = c .before .before .before .before .before .loop .inv in
+    let e : c .before .before .before .before .before .loop .i ≡ records L = omega (arith, c .before .before .before .before .before .before .before .before .before .records .ensures) in
+    let l = sym (c .before .before .before .before .before .before .before .before .before .before .before .bad-length .ensures) ∙ c .before .before .before .before .before .before .before .before .before .before .if1 .left in
+    let s : noStart L ≡ false = ap not (sym (rw e at (v .6))) ∙ c .before .before .before .if3 .left in
     record {
       refusal = sym (by-none L l (rw e at (v .1)) s);
       top = λ _. rw e at (v .2);
@@ -145,6 +148,7 @@ find-outline-spec =
     good-record-requires
     refused-requires-2
     returns-2
+    is-start-requires
     slice-aggregate-note
     slice-aggregate-note-2
     slice-aggregate-note-3
@@ -152,7 +156,6 @@ find-outline-spec =
     add-i
     loop-less
     loop-again
-    no-start-requires
     refused-requires-3
     returns-3
     of-words-requires

@@ -34,12 +34,16 @@ returns c =
     let m = c .before .before .records in
     sym (less-room (a .a .now) (a .lent) (m .result) k (omega (arith, kept-most (a .n) (a .b .now) (records (a .b .now)), m .ensures)) (sym (c .before .overfull .ensures) ∙ not-true _ (c .if1 .taken)))
 
+next-spare-requires : tie.Need-next-spare-requires Inv-loop μ-loop
+next-spare-requires c κs = let s = c .before .before .before .before .before in (s .pre .1, omega arith)
+
 loop-holds : tie.Need-loop-holds Inv-loop μ-loop
 unfolding kept
 loop-holds c =
-    let a = c .before .before .before .before .before .args in
+    let a = c .before .before .before .before .before .before .args in
     let z : kept (a .n) (a .b .now) 0 ≡ 0 = refl in
-    (search needs, omega (arith, z), sym (c .before .overfull .ensures) ∙ not-false _ (c .if1 .left))
+    let p = c .next-spare .ensures in
+    (omega (arith, p .1, c .before .before .before .records .ensures), omega (arith, z, p .2), sym (c .before .before .overfull .ensures) ∙ not-false _ (c .before .if1 .left))
 
 spare-requires : tie.Need-spare-requires Inv-loop μ-loop
 spare-requires c κs = search needs
@@ -50,43 +54,50 @@ sub-left c = let l = c .before .before .before .loop in omega (arith, l .inv .1)
 overfull-requires-2 : tie.Need-overfull-requires-2 Inv-loop μ-loop
 overfull-requires-2 c κs =
     let l = c .before .before .before .loop in
-    let s = c .before .before .before .before .before .before .before .before .before in
+    let s = c .before .before .before .before .before .before .before .before .before .before in
     let a = s .args in
-    (s .pre .0, omega (arith, l .inv .1, kept-most (a .n) (a .b .now) (l .i), c .before .before .before .before .before .before .records .ensures, short-list (a .b .now) (s .pre .1)))
+    (s .pre .0, omega (arith, l .inv .1, kept-most (a .n) (a .b .now) (l .i), c .before .before .before .before .before .before .before .records .ensures, short-list (a .b .now) (s .pre .1)))
 
 returns-2 : tie.Need-returns-2 Inv-loop μ-loop
 returns-2 c =
     let p = c .before .before .before in
     let l = p .before .before .loop in
-    let a = p .before .before .before .before .before .before .before .before .args in
-    let m = p .before .before .before .before .before .records .ensures in
+    let a = p .before .before .before .before .before .before .before .before .before .args in
+    let m = p .before .before .before .before .before .before .records .ensures in
     let k = kept (a .n) (a .b .now) (records (a .b .now)) in
     let o = kept-out (a .n) (a .b .now) (l .i) (sym (p .spare .ensures) ∙ c .before .before .if2 .taken) in
     let r = kept-rest (a .n) (a .b .now) (l .i + 1) (records (a .b .now)) (omega (arith, m)) in
     sym (less-room (a .a .now) (a .lent) (l .left - 1) k (omega (arith, l .inv .1, m, rw (add-one, o) at r)) (sym (c .before .overfull2 .ensures) ∙ not-true _ (c .if3 .taken)))
 
-add-i : tie.Need-add-i Inv-loop μ-loop
-add-i c = search needs
+add-next-spare : tie.Need-add-next-spare Inv-loop μ-loop
+add-next-spare c = search needs
+
+next-spare-requires-2 : tie.Need-next-spare-requires-2 Inv-loop μ-loop
+next-spare-requires-2 c κs =
+    let s = c .before .before .before .before .before .before .before .before .before .before in
+    (s .pre .1, omega (arith, c .before .before .before .before .before .before .before .records .ensures))
 
 loop-less : tie.Need-loop-less Inv-loop μ-loop
-loop-less c = search needs
+loop-less c = let p = c .next-spare2 .ensures in omega (arith, p .0)
 
 loop-again : tie.Need-loop-again Inv-loop μ-loop
 loop-again c =
-    let l = c .before .before .before .loop in
-    let s = c .before .spare .ensures in
-    let a = c .before .before .before .before .before .before .before .before .before .args in
-    let m = c .before .before .before .before .before .before .records .result in
-    let q : (c .if2 .left + (l .i + 1) ≡ kept (a .n) (a .b .now) (l .i + 1) + m) × (overfull (a .a .now) (a .lent) (c .if2 .left) ≡ true) = rw add-one (choose (c .if2 .came)
+    let j = c .before in
+    let l = j .before .before .before .loop in
+    let s = j .before .spare .ensures in
+    let a = j .before .before .before .before .before .before .before .before .before .before .args in
+    let m = j .before .before .before .before .before .before .before .records in
+    let p = c .next-spare2 .ensures in
+    let q : (j .if2 .left + (l .i + 1) ≡ kept (a .n) (a .b .now) (l .i + 1) + m .result) × (overfull (a .a .now) (a .lent) (j .if2 .left) ≡ true) = rw add-one (choose (j .if2 .came)
     (λ w. (omega (arith, l .inv .1, w .3, kept-out (a .n) (a .b .now) (l .i) (sym s ∙ w .0 .taken)), rw (w .3) (sym (w .1 .ensures) ∙ not-false _ (w .2 .left))))
     (λ w. (omega (arith, l .inv .1, w .1, kept-in (a .n) (a .b .now) (l .i) (sym s ∙ w .0 .left)), rw (w .1) (l .inv .2)))) in
-    (search needs, q .0, q .1)
+    (omega (arith, p .1, m .ensures), omega (arith, p .2, q .0), q .1)
 
 returns-3 : tie.Need-returns-3 Inv-loop μ-loop
 returns-3 c =
     let l = c .before .loop in
-    let a = c .before .before .before .before .before .before .before .args in
-    let m = c .before .before .before .before .records .ensures in
+    let a = c .before .before .before .before .before .before .before .before .args in
+    let m = c .before .before .before .before .before .records .ensures in
     let e : l .i ≡ records (a .b .now) = omega (arith, m) in
     let k : l .left ≡ kept (a .n) (a .b .now) (records (a .b .now)) = rw (← e) (omega (arith, l .inv .1)) in
     sym (rw (← k) (l .inv .2))
@@ -100,12 +111,14 @@ too-long-spec =
     records-requires
     overfull-requires
     returns
+    next-spare-requires
     loop-holds
     spare-requires
     sub-left
     overfull-requires-2
     returns-2
-    add-i
+    add-next-spare
+    next-spare-requires-2
     loop-less
     loop-again
     returns-3)
