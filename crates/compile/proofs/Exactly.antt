@@ -1,21 +1,24 @@
--- When compiling refuses, where, and that its answer and the list are determined.
-use Prim.Native.Nat.{ℕ, suc}
+-- Compiling in words: from the acceptor's verdict; when it refuses, where, and that its answer and the list are determined.
+use Prim.Native.Nat.{ℕ, zero, suc, _+_, _-_, _≤_, _<_}
 use mathlib.Core.Path.{_≡_, refl, sym, ap, subst, _∙_}
 use mathlib.Core.Bool.{Bool, true, false, cond}
-use mathlib.Core.List.{List, [], _∷_, _++_}
+use mathlib.Core.List.{List, [], _∷_, _++_, append-assoc}
 use mathlib.Core.Logic.{_⊎_, inl, inr, _↔_}
 use native.Mathlib.Omega.{arith}
-use lib.Dec.{eqb}
-use lib.ListN.{length, drop}
-use borrow.Author.Tests.{eqb-true, eqb-false}
-use Rattle.texts.specs.Grammar.{Text, Bytes, Fits, TooDeep}
+use native.Mathlib.Decide.{decLt}
+use lib.ListN.{length, take, drop}
+use lib.Seq.{take-add}
+use Rattle.texts.specs.Grammar.{Text, Bytes, Fits, Viable, TooDeep}
 use Rattle.texts.specs.Acceptor.{State, begin, live, step, good, isDead, deep, verdict}
 use Rattle.texts.specs.Records.{listOf, tooBig}
-use Rattle.texts.proofs.Place.{place-19}
+use Rattle.texts.proofs.Viable.{bytes-none, bytes-more}
+use Rattle.texts.proofs.Place.{bytes-drop, place-19}
 use Rattle.texts.proofs.Deep.{deep-20, good-0}
 use Rattle.compile.specs.declared.Compiled.{Compiled}
-use Rattle.compile.specs.Compile.{Outcome, refused, written, made, Gives, Compiles}
-use Rattle.compile.specs.Words.{Reading, FirstBad, CompileExactly}
+use Rattle.compile.specs.Compile.{Outcome, refused, written, made, Gives, Judged, Reading, FirstBad, answer, Compiles}
+use Rattle.compile.specs.Words.{CompileExactly}
+
+-- ---- the acceptor's verdict
 
 -- a verdict is 0, 19 or 20
 abbrev Three : ℕ × ℕ → Type 0
@@ -55,6 +58,19 @@ deep-place (c ∷ w) s i = go (deep s) (isDead (step s c)) (verdict (step s c) (
     go false true v h = λ e. absurd (omega (arith, e))
     go false false v h = h
 
+-- a text is too deep, or does not fit, or has a reading
+pub text-cases : (T : List ℕ) → Bytes T → TooDeep T ⊎ (((TooDeep T → ⊥) × (Fits T → ⊥)) ⊎ ((TooDeep T → ⊥) × Fits T))
+text-cases T bytes = go (three T (live 0 begin) 0)
+  where
+    go : Three (verdict (live 0 begin) 0 T) → TooDeep T ⊎ (((TooDeep T → ⊥) × (Fits T → ⊥)) ⊎ ((TooDeep T → ⊥) × Fits T))
+    go (inl z) = let (f, d) = good-0 T bytes .0 z in inr (inr (d, f))
+    go (inr (inl z)) =
+        let d : TooDeep T → ⊥ = λ k. let y = deep-20 T .1 k in omega (arith, y, z) in
+        inr (inl (d, λ f. let y = good-0 T bytes .1 (f, d) in omega (arith, y, z)))
+    go (inr (inr z)) = inl (deep-20 T .0 z)
+
+-- ---- the promise, from the verdict
+
 -- what a good text's outcome is
 made-big : (x : Text) (g : ℕ) (A : List ℕ) → tooBig (length A) x g ≡ true → made x g A ≡ refused 21 0 A
 made-big x g A h = ap (λ z. cond z (refused 21 0 A) (written (listOf x g) A)) h
@@ -62,128 +78,167 @@ made-big x g A h = ap (λ z. cond z (refused 21 0 A) (written (listOf x g) A)) h
 made-fits : (x : Text) (g : ℕ) (A : List ℕ) → tooBig (length A) x g ≡ false → made x g A ≡ written (listOf x g) A
 made-fits x g A h = ap (λ z. cond z (refused 21 0 A) (written (listOf x g) A)) h
 
+-- the answer by its three numbers
+answered : (r : Compiled) (n p l : ℕ) → r .refusal ≡ n → r .place ≡ p → r .length ≡ l → r ≡ answer n p l
+answered r n p l a b c = rw (← a, ← b, ← c) refl
+
+gives-answer : (o : Outcome) (r : Compiled) (B : List ℕ) → Gives o r B → (r ≡ answer (o .refusal) (o .place) (o .length)) × (B ≡ o .list)
+gives-answer o r B k = (answered r (o .refusal) (o .place) (o .length) (k .refusal) (k .place) (k .length), k .list)
+
+pub judged-compiles : (T : List ℕ) (g : ℕ) (A : List ℕ) (r : Compiled) (B : List ℕ) → Bytes T → Judged T g A r B → Compiles T g A r B
+judged-compiles T g A r B bytes c =
+    record {
+      deep = λ d.
+          let e = deep-20 T .1 d in
+          let k = c .bad (λ z. omega (arith, e, z)) in
+          (answered r 20 0 0 (k .refusal ∙ e) (k .place ∙ deep-place T (live 0 begin) 0 e) (k .length), k .list);
+      bad = λ d f. at-19 (is-19 d f (three T (live 0 begin) 0));
+      big = λ d x y t. gives-answer (refused 21 0 A) r B (subst (λ o. Gives o r B) (made-big x g A t) (by d x y));
+      good = λ d x y t. gives-answer (written (listOf x g) A) r B (subst (λ o. Gives o r B) (made-fits x g A t) (by d x y));
+    }
+  where
+    by : (TooDeep T → ⊥) → (x : Text) → Reading T x → Gives (made x g A) r B
+    by d x (ok, e) = c .good (good-0 T bytes .1 ((x, ok, e), d)) x ok e
+
+    is-19 : (TooDeep T → ⊥) → (Fits T → ⊥) → Three (verdict (live 0 begin) 0 T) → verdict (live 0 begin) 0 T .0 ≡ 19
+    is-19 d f (inl z) = absurd (f (good-0 T bytes .0 z .0))
+    is-19 d f (inr (inl z)) = z
+    is-19 d f (inr (inr z)) = absurd (d (deep-20 T .0 z))
+
+    at-19 : verdict (live 0 begin) 0 T .0 ≡ 19 → (r ≡ answer 19 (r .place) 0) × FirstBad T (r .place) × (B ≡ A)
+    at-19 z =
+        let k = c .bad (λ y. omega (arith, y, z)) in
+        let (p, q, a, b) = place-19 T bytes z in
+        (answered r 19 (r .place) 0 (k .refusal ∙ z) refl (k .length), subst (FirstBad T) (sym (k .place ∙ q)) (a, b), k .list)
+
+-- ---- there is one first bad place
+
+bytes-take : (j : ℕ) (w : List ℕ) → Bytes w → Bytes (take j w)
+bytes-take zero w b = bytes-none
+bytes-take (suc j) [] b = bytes-none
+bytes-take (suc j) (c ∷ w) b = bytes-more c (take j w) (b 0) (bytes-take j w (λ i. b (suc i)))
+
+bytes-both : (v x : List ℕ) → Bytes v → Bytes x → Bytes (v ++ x)
+bytes-both [] x b l = l
+bytes-both (c ∷ v) x b l = bytes-more c (v ++ x) (b 0) (bytes-both v x (λ i. b (suc i)) l)
+
+-- a shorter front of what has a continuation that fits has one
+viable-front : (T : List ℕ) (p q : ℕ) → Bytes T → p ≤ q → Viable (take q T) → Viable (take p T)
+viable-front T p q bytes l (v, b, f) =
+    let w = take (q - p) (drop p T) in
+    let z : p + (q - p) ≡ q = omega arith in
+    let e : take q T ≡ take p T ++ w = ap (λ (k : ℕ). take k T) (sym z) ∙ take-add p (q - p) T in
+    (w ++ v, bytes-both w v (bytes-take (q - p) (drop p T) (bytes-drop p T bytes)) b, subst Fits (ap (λ u. u ++ v) e ∙ append-assoc (take p T) w v) f)
+
+not-before : (T : List ℕ) (p q : ℕ) → Bytes T → FirstBad T p → FirstBad T q → p < q → ⊥
+not-before T p q bytes (a, inl (e, f)) (b, inl (g, h)) l = omega (arith, e, g)
+not-before T p q bytes (a, inl (e, f)) (b, inr (g, h)) l = omega (arith, e, g)
+not-before T p q bytes (a, inr (e, f)) (b, h) l = f (viable-front T (suc p) q bytes l b)
+
+pub first-bad-alone : (T : List ℕ) (p q : ℕ) → Bytes T → FirstBad T p → FirstBad T q → p ≡ q
+first-bad-alone T p q bytes a b = elim (decLt p q) [ yes l ↦ absurd (not-before T p q bytes a b l) | no n ↦ elim (decLt q p) [ yes l ↦ absurd (not-before T q p bytes b a l) | no m ↦ omega (arith, n, m) ] ]
+
+-- ---- each refusal exactly
+
 module _ (T : List ℕ) (g : ℕ) (A : List ℕ) (r : Compiled) (B : List ℕ) (bytes : Bytes T) (c : Compiles T g A r B) where
-  abbrev v : ℕ
-  v = verdict (live 0 begin) 0 T .0
+  -- without a refusal the text has a reading that fits, and what is left is its list, and the lent one behind it
+  abbrev Wrote : Type 0
+  Wrote = (x : Text) × Reading T x × (tooBig (length A) x g ≡ false) × (r .length ≡ length (listOf x g)) × (B ≡ listOf x g ++ drop (length (listOf x g)) A)
 
-  -- a text that fits and is not too deep, with its reading
-  module _ (z : verdict (live 0 begin) 0 T .0 ≡ 0) where
-    fit : Fits T
-    fit = good-0 T bytes .0 z .0
+  -- the four ways to end, by the refusal
+  abbrev Ways : Type 0
+  Ways =
+      (TooDeep T × (r ≡ answer 20 0 0) × (B ≡ A))
+      ⊎ (((TooDeep T → ⊥) × (Fits T → ⊥) × (r ≡ answer 19 (r .place) 0) × (B ≡ A))
+      ⊎ (((TooDeep T → ⊥) × ((x : Text) × Reading T x × (tooBig (length A) x g ≡ true)) × (r ≡ answer 21 0 0) × (B ≡ A))
+      ⊎ ((TooDeep T → ⊥) × Wrote × (r .refusal ≡ 0) × (r .place ≡ 0))))
 
-    gives : Gives (made (fit .0) g A) r B
-    gives = c .good z (fit .0) (fit .1) (fit .2)
+  ways : Ways
+  ways = go (text-cases T bytes)
+    where
+      fits : (TooDeep T → ⊥) → (x : Text) → Reading T x → (b : Bool) → tooBig (length A) x g ≡ b → Ways
+      fits d x y true t = let (e, q) = c .big d x y t in inr (inr (inl (d, (x, y, t), e, q)))
+      fits d x y false t = let (e, q) = c .good d x y t in inr (inr (inr (d, (x, y, t, ap (λ (z : Compiled). z .length) e, q), ap (λ (z : Compiled). z .refusal) e, ap (λ (z : Compiled). z .place) e)))
 
-    good-cases : ((tooBig (length A) (fit .0) g ≡ true) × (r .refusal ≡ 21)) ⊎ ((tooBig (length A) (fit .0) g ≡ false) × (r .refusal ≡ 0))
-    good-cases = go (tooBig (length A) (fit .0) g) refl
-      where
-        go : (b : Bool) → tooBig (length A) (fit .0) g ≡ b → ((tooBig (length A) (fit .0) g ≡ true) × (r .refusal ≡ 21)) ⊎ ((tooBig (length A) (fit .0) g ≡ false) × (r .refusal ≡ 0))
-        go true e = inl (e, gives .refusal ∙ ap (λ (o : Outcome). o .refusal) (made-big (fit .0) g A e))
-        go false e = inr (e, gives .refusal ∙ ap (λ (o : Outcome). o .refusal) (made-fits (fit .0) g A e))
+      go : TooDeep T ⊎ (((TooDeep T → ⊥) × (Fits T → ⊥)) ⊎ ((TooDeep T → ⊥) × Fits T)) → Ways
+      go (inl d) = let (e, q) = c .deep d in inl (d, e, q)
+      go (inr (inl (d, f))) = let (e, p, q) = c .bad d f in inr (inl (d, f, e, q))
+      go (inr (inr (d, (x, ok, e)))) = fits d x (ok, e) (tooBig (length A) x g) refl
 
-  bad-refusal : (v ≡ 0 → ⊥) → r .refusal ≡ v
-  bad-refusal n = c .bad n .refusal
+  number : (n p l : ℕ) → r ≡ answer n p l → r .refusal ≡ n
+  number n p l e = ap (λ (z : Compiled). z .refusal) e
 
   -- 20 exactly when a seventeenth bracket opens inside the others, before any place where the text is bad, or at all
   pub compile-20 : (r .refusal ≡ 20) ↔ TooDeep T
-  compile-20 = (λ e. deep-20 T .0 (there e (three T (live 0 begin) 0)), λ d. let e = deep-20 T .1 d in bad-refusal (λ z. omega (arith, e, z)) ∙ e)
+  compile-20 = (λ e. there e ways, λ d. number 20 0 0 (c .deep d .0))
     where
-      there : r .refusal ≡ 20 → (v ≡ 0) ⊎ ((v ≡ 19) ⊎ (v ≡ 20)) → v ≡ 20
-      there e (inl z) = go (good-cases z)
-        where
-          go : ((tooBig (length A) (fit z .0) g ≡ true) × (r .refusal ≡ 21)) ⊎ ((tooBig (length A) (fit z .0) g ≡ false) × (r .refusal ≡ 0)) → v ≡ 20
-          go (inl (a, b)) = absurd (omega (arith, e, b))
-          go (inr (a, b)) = absurd (omega (arith, e, b))
-      there e (inr (inl z)) = let b = bad-refusal (λ y. omega (arith, y, z)) in absurd (omega (arith, e, b, z))
-      there e (inr (inr z)) = z
-
-  is-19 : r .refusal ≡ 19 → v ≡ 19
-  is-19 e = there (three T (live 0 begin) 0)
-    where
-      there : (v ≡ 0) ⊎ ((v ≡ 19) ⊎ (v ≡ 20)) → v ≡ 19
-      there (inl z) = go (good-cases z)
-        where
-          go : ((tooBig (length A) (fit z .0) g ≡ true) × (r .refusal ≡ 21)) ⊎ ((tooBig (length A) (fit z .0) g ≡ false) × (r .refusal ≡ 0)) → v ≡ 19
-          go (inl (a, b)) = absurd (omega (arith, e, b))
-          go (inr (a, b)) = absurd (omega (arith, e, b))
-      there (inr (inl z)) = z
-      there (inr (inr z)) = let b = bad-refusal (λ y. omega (arith, y, z)) in absurd (omega (arith, e, b, z))
+      there : r .refusal ≡ 20 → Ways → TooDeep T
+      there e (inl (d, q, s)) = d
+      there e (inr (inl (d, f, q, s))) = absurd (omega (arith, e, number 19 (r .place) 0 q))
+      there e (inr (inr (inl (d, f, q, s)))) = absurd (omega (arith, e, number 21 0 0 q))
+      there e (inr (inr (inr (d, f, q, s)))) = absurd (omega (arith, e, q))
 
   -- 19 exactly when it is not too deep and does not fit
   pub compile-19 : (r .refusal ≡ 19) ↔ ((TooDeep T → ⊥) × (Fits T → ⊥))
-  compile-19 = (there, λ k. back k (three T (live 0 begin) 0))
+  compile-19 = (λ e. there e ways, λ k. number 19 (r .place) 0 (c .bad (k .0) (k .1) .0))
     where
-      there : r .refusal ≡ 19 → (TooDeep T → ⊥) × (Fits T → ⊥)
-      there e =
-          let z = is-19 e in
-          let d : TooDeep T → ⊥ = λ k. let y = deep-20 T .1 k in omega (arith, y, z) in
-          (d, λ f. let y = good-0 T bytes .1 (f, d) in omega (arith, y, z))
-
-      back : (TooDeep T → ⊥) × (Fits T → ⊥) → (v ≡ 0) ⊎ ((v ≡ 19) ⊎ (v ≡ 20)) → r .refusal ≡ 19
-      back (d, f) (inl z) = absurd (f (fit z))
-      back (d, f) (inr (inl z)) = bad-refusal (λ y. omega (arith, y, z)) ∙ z
-      back (d, f) (inr (inr z)) = absurd (d (deep-20 T .0 z))
+      there : r .refusal ≡ 19 → Ways → (TooDeep T → ⊥) × (Fits T → ⊥)
+      there e (inl (d, q, s)) = absurd (omega (arith, e, number 20 0 0 q))
+      there e (inr (inl (d, f, q, s))) = (d, f)
+      there e (inr (inr (inl (d, f, q, s)))) = absurd (omega (arith, e, number 21 0 0 q))
+      there e (inr (inr (inr (d, f, q, s)))) = absurd (omega (arith, e, q))
 
   -- and where: the first place where no continuation fits
   pub compile-place : r .refusal ≡ 19 → FirstBad T (r .place)
-  compile-place e =
-      let z = is-19 e in
-      let (p, q, a, b) = place-19 T bytes z in
-      let w : r .place ≡ p = c .bad (λ y. omega (arith, y, z)) .place ∙ q in
-      subst (FirstBad T) (sym w) (a, b)
+  compile-place e = let (d, f) = compile-19 .0 e in c .bad d f .1
 
   -- with any other answer the place is 0
   pub compile-placeless : (r .refusal ≡ 19 → ⊥) → r .place ≡ 0
-  compile-placeless n = go (three T (live 0 begin) 0)
+  compile-placeless n = go ways
     where
-      big : (z : v ≡ 0) (b : Bool) → tooBig (length A) (fit z .0) g ≡ b → r .place ≡ 0
-      big z true e = gives z .place ∙ ap (λ (o : Outcome). o .place) (made-big (fit z .0) g A e)
-      big z false e = gives z .place ∙ ap (λ (o : Outcome). o .place) (made-fits (fit z .0) g A e)
-
-      go : (v ≡ 0) ⊎ ((v ≡ 19) ⊎ (v ≡ 20)) → r .place ≡ 0
-      go (inl z) = big z (tooBig (length A) (fit z .0) g) refl
-      go (inr (inl z)) = absurd (n (bad-refusal (λ y. omega (arith, y, z)) ∙ z))
-      go (inr (inr z)) = c .bad (λ y. omega (arith, y, z)) .place ∙ deep-place T (live 0 begin) 0 z
+      go : Ways → r .place ≡ 0
+      go (inl (d, q, s)) = ap (λ (z : Compiled). z .place) q
+      go (inr (inl (d, f, q, s))) = absurd (n (number 19 (r .place) 0 q))
+      go (inr (inr (inl (d, f, q, s)))) = ap (λ (z : Compiled). z .place) q
+      go (inr (inr (inr (d, f, q, s)))) = s
 
   -- 21 exactly when it fits, is not too deep, and passes the limits or the lent list
   pub compile-21 : (r .refusal ≡ 21) ↔ ((TooDeep T → ⊥) × ((x : Text) × Reading T x × (tooBig (length A) x g ≡ true)))
-  compile-21 = (λ e. there e (three T (live 0 begin) 0), back)
+  compile-21 = (λ e. there e ways, back)
     where
-      there : r .refusal ≡ 21 → (v ≡ 0) ⊎ ((v ≡ 19) ⊎ (v ≡ 20)) → (TooDeep T → ⊥) × ((x : Text) × Reading T x × (tooBig (length A) x g ≡ true))
-      there e (inl z) = go (good-cases z)
-        where
-          go : ((tooBig (length A) (fit z .0) g ≡ true) × (r .refusal ≡ 21)) ⊎ ((tooBig (length A) (fit z .0) g ≡ false) × (r .refusal ≡ 0)) → (TooDeep T → ⊥) × ((x : Text) × Reading T x × (tooBig (length A) x g ≡ true))
-          go (inl (a, b)) = (good-0 T bytes .0 z .1, (fit z .0, (fit z .1, fit z .2), a))
-          go (inr (a, b)) = absurd (omega (arith, e, b))
-      there e (inr (inl z)) = let b = bad-refusal (λ y. omega (arith, y, z)) in absurd (omega (arith, e, b, z))
-      there e (inr (inr z)) = let b = bad-refusal (λ y. omega (arith, y, z)) in absurd (omega (arith, e, b, z))
+      there : r .refusal ≡ 21 → Ways → (TooDeep T → ⊥) × ((x : Text) × Reading T x × (tooBig (length A) x g ≡ true))
+      there e (inl (d, q, s)) = absurd (omega (arith, e, number 20 0 0 q))
+      there e (inr (inl (d, f, q, s))) = absurd (omega (arith, e, number 19 (r .place) 0 q))
+      there e (inr (inr (inl (d, f, q, s)))) = (d, f)
+      there e (inr (inr (inr (d, f, q, s)))) = absurd (omega (arith, e, q))
 
       back : (TooDeep T → ⊥) × ((x : Text) × Reading T x × (tooBig (length A) x g ≡ true)) → r .refusal ≡ 21
-      back (d, (x, (ok, e), t)) =
-          let z = good-0 T bytes .1 ((x, ok, e), d) in
-          c .good z x ok e .refusal ∙ ap (λ (o : Outcome). o .refusal) (made-big x g A t)
+      back (d, (x, y, t)) = number 21 0 0 (c .big d x y t .0)
 
   -- else its length is answered, its list stands in the front, and later bytes stay
   pub compile-0 : (x : Text) → Reading T x → (TooDeep T → ⊥) → tooBig (length A) x g ≡ false
       → (r .refusal ≡ 0) × (r .length ≡ length (listOf x g)) × (B ≡ listOf x g ++ drop (length (listOf x g)) A)
-  compile-0 x (ok, e) d t =
-      let z = good-0 T bytes .1 ((x, ok, e), d) in
-      let k = c .good z x ok e in
-      let m = made-fits x g A t in
-      (k .refusal ∙ ap (λ (o : Outcome). o .refusal) m, k .length ∙ ap (λ (o : Outcome). o .length) m, k .list ∙ ap (λ (o : Outcome). o .list) m)
+  compile-0 x y d t = let (e, q) = c .good d x y t in (ap (λ (z : Compiled). z .refusal) e, ap (λ (z : Compiled). z .length) e, q)
+
+  -- so without a refusal there is such a reading
+  pub compile-wrote : r .refusal ≡ 0 → Wrote
+  compile-wrote e = go ways
+    where
+      go : Ways → Wrote
+      go (inl (d, q, s)) = absurd (omega (arith, e, number 20 0 0 q))
+      go (inr (inl (d, f, q, s))) = absurd (omega (arith, e, number 19 (r .place) 0 q))
+      go (inr (inr (inl (d, f, q, s)))) = absurd (omega (arith, e, number 21 0 0 q))
+      go (inr (inr (inr (d, f, q, s)))) = f
 
   -- a refusal leaves the list, and answers no length
   pub compile-refused : (r .refusal ≡ 0 → ⊥) → (B ≡ A) × (r .length ≡ 0)
-  compile-refused n = go (three T (live 0 begin) 0)
+  compile-refused n = go ways
     where
-      big : (z : v ≡ 0) → ((tooBig (length A) (fit z .0) g ≡ true) × (r .refusal ≡ 21)) ⊎ ((tooBig (length A) (fit z .0) g ≡ false) × (r .refusal ≡ 0)) → (B ≡ A) × (r .length ≡ 0)
-      big z (inl (a, b)) = let m = made-big (fit z .0) g A a in (gives z .list ∙ ap (λ (o : Outcome). o .list) m, gives z .length ∙ ap (λ (o : Outcome). o .length) m)
-      big z (inr (a, b)) = absurd (n b)
-
-      go : (v ≡ 0) ⊎ ((v ≡ 19) ⊎ (v ≡ 20)) → (B ≡ A) × (r .length ≡ 0)
-      go (inl z) = big z (good-cases z)
-      go (inr (inl z)) = let k = c .bad (λ y. omega (arith, y, z)) in (k .list, k .length)
-      go (inr (inr z)) = let k = c .bad (λ y. omega (arith, y, z)) in (k .list, k .length)
+      go : Ways → (B ≡ A) × (r .length ≡ 0)
+      go (inl (d, q, s)) = (s, ap (λ (z : Compiled). z .length) q)
+      go (inr (inl (d, f, q, s))) = (s, ap (λ (z : Compiled). z .length) q)
+      go (inr (inr (inl (d, f, q, s)))) = (s, ap (λ (z : Compiled). z .length) q)
+      go (inr (inr (inr (d, f, q, s)))) = absurd (n q)
 
 -- all of it
 pub compile-exactly : CompileExactly
@@ -201,16 +256,20 @@ compile-exactly T g A r B bytes c =
 -- two outcomes that the promise allows are the same
 pub unique-compile : (T : List ℕ) (g : ℕ) (A : List ℕ) (r s : Compiled) (B C : List ℕ) → Bytes T → Compiles T g A r B → Compiles T g A s C
     → (r .refusal ≡ s .refusal) × (r .place ≡ s .place) × (r .length ≡ s .length) × (B ≡ C)
-unique-compile T g A r s B C bytes c d = go (eqb (verdict (live 0 begin) 0 T .0) 0) refl
+unique-compile T g A r s B C bytes c d = go (text-cases T bytes)
   where
-    same : (o : Outcome) → Gives o r B → Gives o s C → (r .refusal ≡ s .refusal) × (r .place ≡ s .place) × (r .length ≡ s .length) × (B ≡ C)
-    same o a b = (a .refusal ∙ sym (b .refusal), a .place ∙ sym (b .place), a .length ∙ sym (b .length), a .list ∙ sym (b .list))
+    same : (a b : Compiled) → r ≡ a → s ≡ b → a ≡ b → B ≡ C → (r .refusal ≡ s .refusal) × (r .place ≡ s .place) × (r .length ≡ s .length) × (B ≡ C)
+    same a b e f q l = let h = e ∙ q ∙ sym f in (ap (λ (z : Compiled). z .refusal) h, ap (λ (z : Compiled). z .place) h, ap (λ (z : Compiled). z .length) h, l)
 
-    go : (x : Bool) → eqb (verdict (live 0 begin) 0 T .0) 0 ≡ x → (r .refusal ≡ s .refusal) × (r .place ≡ s .place) × (r .length ≡ s .length) × (B ≡ C)
-    go true e =
-        let z = eqb-true (verdict (live 0 begin) 0 T .0) 0 e in
-        let f = good-0 T bytes .0 z .0 in
-        same (made (f .0) g A) (c .good z (f .0) (f .1) (f .2)) (d .good z (f .0) (f .1) (f .2))
-    go false e =
-        let n = eqb-false (verdict (live 0 begin) 0 T .0) 0 e in
-        same (refused (verdict (live 0 begin) 0 T .0) (verdict (live 0 begin) 0 T .1) A) (c .bad n) (d .bad n)
+    fits : (TooDeep T → ⊥) → (x : Text) → Reading T x → (b : Bool) → tooBig (length A) x g ≡ b
+        → (r .refusal ≡ s .refusal) × (r .place ≡ s .place) × (r .length ≡ s .length) × (B ≡ C)
+    fits n x y true t = let (e, p) = c .big n x y t in let (f, q) = d .big n x y t in same _ _ e f refl (p ∙ sym q)
+    fits n x y false t = let (e, p) = c .good n x y t in let (f, q) = d .good n x y t in same _ _ e f refl (p ∙ sym q)
+
+    go : TooDeep T ⊎ (((TooDeep T → ⊥) × (Fits T → ⊥)) ⊎ ((TooDeep T → ⊥) × Fits T)) → (r .refusal ≡ s .refusal) × (r .place ≡ s .place) × (r .length ≡ s .length) × (B ≡ C)
+    go (inl z) = let (e, p) = c .deep z in let (f, q) = d .deep z in same _ _ e f refl (p ∙ sym q)
+    go (inr (inl (z, n))) =
+        let (e, a, p) = c .bad z n in
+        let (f, b, q) = d .bad z n in
+        same _ _ e f (ap (λ (k : ℕ). answer 19 k 0) (first-bad-alone T (r .place) (s .place) bytes a b)) (p ∙ sym q)
+    go (inr (inr (n, (x, ok, e)))) = fits n x (ok, e) (tooBig (length A) x g) refl

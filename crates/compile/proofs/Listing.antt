@@ -25,7 +25,7 @@ use Rattle.records.specs.Front.{recsOf, Wrote, Writes, Sorts, Below, arrowsFrom
 use Rattle.records.proofs.Writing.{writes-more, each-length, edges-length}
 use Rattle.compile.specs.declared.Compiled.{Compiled}
 use Rattle.texts.specs.Acceptor.{begin, live, verdict}
-use Rattle.compile.specs.Compile.{expOf, freeOf, Arrive, Ends, refused, written, made, Gives, Compiles}
+use Rattle.compile.specs.Compile.{expOf, freeOf, Arrive, Ends, refused, written, made, Gives, Judged}
 
 -- ---- `^`
 
@@ -317,16 +317,16 @@ size-most e r R s h = go (ltb (size e) states) refl
 
 -- ---- the whole
 
-pub compiles-good : (T : List ℕ) (g : ℕ) (A : List ℕ) (r : Compiled) (B : List ℕ) → (0, 0) ≡ verdict (live 0 begin) 0 T
-    → ((x : Text) → okBody (x .body) ≡ true → textReads x ≡ T → Gives (made x g A) r B) → Compiles T g A r B
-compiles-good T g A r B v f = record {
+pub judged-good : (T : List ℕ) (g : ℕ) (A : List ℕ) (r : Compiled) (B : List ℕ) → (0, 0) ≡ verdict (live 0 begin) 0 T
+    → ((x : Text) → okBody (x .body) ≡ true → textReads x ≡ T → Gives (made x g A) r B) → Judged T g A r B
+judged-good T g A r B v f = record {
   bad = λ n. absurd (n (sym (ap (λ (z : ℕ × ℕ). z .0) v)));
   good = λ z x ok e. f x ok e;
 }
 
-pub compiles-bad : (T : List ℕ) (g : ℕ) (A : List ℕ) (r : Compiled) (n p : ℕ) → (suc n, p) ≡ verdict (live 0 begin) 0 T
-    → r .refusal ≡ suc n → r .place ≡ p → r .length ≡ 0 → Compiles T g A r A
-compiles-bad T g A r n p v a b c = record {
+pub judged-bad : (T : List ℕ) (g : ℕ) (A : List ℕ) (r : Compiled) (n p : ℕ) → (suc n, p) ≡ verdict (live 0 begin) 0 T
+    → r .refusal ≡ suc n → r .place ≡ p → r .length ≡ 0 → Judged T g A r A
+judged-bad T g A r n p v a b c = record {
   bad = λ z. record { refusal = a ∙ ap (λ (z : ℕ × ℕ). z .0) v; place = b ∙ ap (λ (z : ℕ × ℕ). z .1) v; length = c; list = refl };
   good = λ z. absurd (no z);
 }

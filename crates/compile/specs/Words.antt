@@ -1,22 +1,15 @@
 -- Compiling in words: when each refusal is given, its place, and what is answered and left.
-use Prim.Native.Nat.{ℕ, suc, _<_}
+use Prim.Native.Nat.{ℕ}
 use mathlib.Core.Path.{_≡_}
 use mathlib.Core.Bool.{true, false}
 use mathlib.Core.List.{List, _++_}
-use mathlib.Core.Logic.{_⊎_, _↔_}
-use lib.ListN.{length, take, drop}
-use Rattle.texts.specs.Grammar.{Text, textReads, okBody, Bytes, Fits, Viable, TooDeep}
+use mathlib.Core.Logic.{_↔_}
+use lib.ListN.{length, drop}
+use Rattle.texts.specs.Grammar.{Text, Bytes, Fits, TooDeep}
 use Rattle.texts.specs.Records.{listOf, tooBig}
 use Rattle.compile.specs.declared.Compiled.{Compiled}
-use Rattle.compile.specs.Compile.{Compiles}
-
--- the text fits, and this is its reading
-abbrev pub Reading : List ℕ → Text → Type 0
-Reading T x = (okBody (x .body) ≡ true) × (textReads x ≡ T)
-
--- the first place where no continuation fits, or the end of a text cut short
-abbrev pub FirstBad : List ℕ → ℕ → Type 0
-FirstBad T p = Viable (take p T) × (((p ≡ length T) × (Fits T → ⊥)) ⊎ ((p < length T) × (Viable (take (suc p) T) → ⊥)))
+pub use Rattle.compile.specs.Compile.{Reading}
+use Rattle.compile.specs.Compile.{FirstBad, Compiles}
 
 -- the text T under the signature g, with the lent list A, is answered r and leaves B
 pub record CompiledSaid (T : List ℕ) (g : ℕ) (A : List ℕ) (r : Compiled) (B : List ℕ) : Type 0 where

@@ -27,13 +27,11 @@ use Rattle.demands.specs.Demands.{Swaps}
 use Rattle.demands.proofs.Demand1.{demand-1}
 use Rattle.demands.proofs.Swapping.{swapped}
 use Rattle.texts.specs.Grammar.{Text, okBody, textReads}
-use Rattle.texts.specs.Acceptor.{begin, live, verdict}
 use Rattle.texts.specs.Records.{listOf, tooBig}
-use Rattle.texts.proofs.Deep.{good-0}
 use Rattle.compile.specs.declared.Compiled.{Compiled}
-use Rattle.compile.specs.Compile.{Outcome, refused, written, made, Gives, Compiles}
+use Rattle.compile.specs.Compile.{Compiles}
 use Rattle.compile.specs.Words.{Reading}
-use Rattle.compile.proofs.Exactly.{compile-0}
+use Rattle.compile.proofs.Exactly.{compile-wrote}
 use Rattle.languages.specs.Language.{EndsIn, RecordsRise}
 use Rattle.languages.specs.Flows.{front, Past, PassesAll, Tells, Serves, CompiledServes}
 use Rattle.segments.specs.Ways.{plainWay, splitWay}
@@ -133,27 +131,9 @@ module _ (x : Text) (g room : ℕ) (ok : okBody (x .body) ≡ true) (small : g <
 -- ---- what compiling wrote
 
 module _ (T : List ℕ) (g : ℕ) (A : List ℕ) (r : Compiled) (B : List ℕ) (bytes : Bytes T) (small : g < 256) (c : Compiles T g A r B) (z : r .refusal ≡ 0) where
-  no-verdict : verdict (live 0 begin) 0 T .0 ≡ 0
-  no-verdict = elim (ℕ-discrete (verdict (live 0 begin) 0 T .0) 0) [
-    | yes v ↦ v
-    | no v ↦ absurd (v (sym (c .bad v .refusal) ∙ z))
-  ]
-
-  fit : (x : Text) × Reading T x × (tooBig (length A) x g ≡ false)
-  fit =
-      let (x, ok, e) = good-0 T bytes .0 no-verdict .0 in
-      (x, (ok, e), go x (c .good no-verdict x ok e .refusal) (tooBig (length A) x g) refl)
-    where
-      go : (x : Text) → r .refusal ≡ made x g A .refusal → (b : Bool) → tooBig (length A) x g ≡ b → tooBig (length A) x g ≡ false
-      go x e true q = absurd (let w : r .refusal ≡ 21 = rw q at e in omega (arith, w, z))
-      go x e false q = q
-
   -- without a refusal the text has a reading that fits, and what is left is its list, and the lent one behind it
   wrote : (x : Text) × Reading T x × (tooBig (length A) x g ≡ false) × (r .length ≡ length (listOf x g)) × (B ≡ listOf x g ++ drop (length (listOf x g)) A)
-  wrote =
-      let (x, (ok, e), small-enough) = fit in
-      let (a, n, b) = compile-0 T g A r B bytes c x (ok, e) (good-0 T bytes .0 no-verdict .1) small-enough in
-      (x, (ok, e), small-enough, n, b)
+  wrote = compile-wrote T g A r B bytes c z
 
   pub written-front : (x : Text) × (r .length ≡ length (listOf x g)) × (B ≡ listOf x g ++ drop (length (listOf x g)) A)
   written-front = let (x, ok, s, n, b) = wrote in (x, n, b)

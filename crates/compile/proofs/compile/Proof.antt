@@ -2,7 +2,8 @@
 use borrow.Author.Needs.{needs}
 use mathlib.Core.Path.{sym, _∙_, ap}
 use Rattle.parser.specs.Went.{answer}
-use Rattle.compile.proofs.Listing.{compiles-good, compiles-bad}
+use Rattle.compile.proofs.Listing.{judged-good, judged-bad}
+use Rattle.compile.proofs.Exactly.{judged-compiles}
 use Rattle.compile.proofs.compile.Statement.{statement}
 use Rattle.compile.proofs.compile.Tie as tie
 
@@ -34,19 +35,22 @@ returns : tie.Need-returns
 returns c =
     let a = c .before .before .before .before .before .before .before .before .before .args in
     let b = c .before .before .build in
-    compiles-good (a .text .now) (a .signature) (a .list .now) (b .result) (b .last .1 .1 .0) (sym (ap answer (c .before .before .before .before .enum-told .given .1)) ∙ c .before .before .before .before .before .before .check-text .ensures) (b .ensures)
+    judged-compiles (a .text .now) (a .signature) (a .list .now) (b .result) (b .last .1 .1 .0) (λ j. c .before .before .before .before .before .before .before .before .shared-slice-known .given j .fits)
+    (judged-good (a .text .now) (a .signature) (a .list .now) (b .result) (b .last .1 .1 .0) (sym (ap answer (c .before .before .before .before .enum-told .given .1)) ∙ c .before .before .before .before .before .before .check-text .ensures) (b .ensures))
 
 returns-2 : tie.Need-returns-2
 returns-2 c =
     let a = c .before .before .before .before .before .before .before .args in
     let r = c .refused in
-    compiles-bad (a .text .now) (a .signature) (a .list .now) (r .result) 18 (c .before .before .parsed .given .0 .0) (sym (ap answer (c .before .before .parsed .given .1)) ∙ c .before .before .before .before .check-text .ensures) (r .ensures .0) (r .ensures .1) (r .ensures .2)
+    judged-compiles (a .text .now) (a .signature) (a .list .now) (r .result) (a .list .now) (λ j. c .before .before .before .before .before .before .shared-slice-known .given j .fits)
+    (judged-bad (a .text .now) (a .signature) (a .list .now) (r .result) 18 (c .before .before .parsed .given .0 .0) (sym (ap answer (c .before .before .parsed .given .1)) ∙ c .before .before .before .before .check-text .ensures) (r .ensures .0) (r .ensures .1) (r .ensures .2))
 
 returns-3 : tie.Need-returns-3
 returns-3 c =
     let a = c .before .before .before .before .before .before .args in
     let r = c .refused2 in
-    compiles-bad (a .text .now) (a .signature) (a .list .now) (r .result) 19 0 (sym (ap answer (c .before .enum-told2 .given .1)) ∙ c .before .before .before .check-text .ensures) (r .ensures .0) (r .ensures .1) (r .ensures .2)
+    judged-compiles (a .text .now) (a .signature) (a .list .now) (r .result) (a .list .now) (λ j. c .before .before .before .before .before .shared-slice-known .given j .fits)
+    (judged-bad (a .text .now) (a .signature) (a .list .now) (r .result) 19 0 (sym (ap answer (c .before .enum-told2 .given .1)) ∙ c .before .before .before .check-text .ensures) (r .ensures .0) (r .ensures .1) (r .ensures .2))
 
 pub compile-spec : {M : Type 1} → statement M
 compile-spec =
