@@ -2,12 +2,15 @@
 """Takes the code away from a copy of a crate: every function of src/ with its comment, what it brings in of other crates' functions, and every
 function's folder of proofs/. What is left are types, constants, definitions and laws, which prove by themselves, since no law cites a function.
 
-  python3 tools/bare.py CRATE-FOLDER..
+usage: tools/bare.py CRATE-FOLDER..
 """
 import re
 import shutil
 import sys
 from pathlib import Path
+
+sys.dont_write_bytecode = True
+import command  # noqa: E402
 
 FUNCTION = re.compile(r'( *)(pub )?(extern "C" )?fn ')
 BROUGHT = re.compile(r"use \w+::[a-z]\w*;")
@@ -37,6 +40,15 @@ def take_away(crate):
             shutil.rmtree(part)
 
 
-if __name__ == "__main__":
-    for word in sys.argv[1:]:
+def main(words):
+    if command.answered(__doc__, words):
+        return 0
+    if not words or not all(Path(word, "src").is_dir() for word in words):
+        return command.usage(__doc__)
+    for word in words:
         take_away(Path(word))
+    return 0
+
+
+if __name__ == "__main__":
+    sys.exit(main(sys.argv[1:]))

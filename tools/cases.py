@@ -1,13 +1,18 @@
 #!/usr/bin/env python3
 """Writes what each program crate is run on and compared with: data/rules.bin, stdin and stdout.
 
-  python3 tools/cases.py            writes the files under crates/
-  python3 tools/cases.py --check    writes nothing; exit status 1 if a file differs
+usage: tools/cases.py [--check]
+
+It writes the files under crates/; with --check it writes nothing, and the exit status is 1 where a
+file differs.
 
 The expected output comes from the definitions of the matcher alone: a frontier is a Python set, and the whole input is one piece.
 """
 import os
 import sys
+
+sys.dont_write_bytecode = True
+import command  # noqa: E402
 
 CRATES = os.path.join(os.path.dirname(os.path.abspath(__file__)), "..", "crates")
 
@@ -132,7 +137,11 @@ cases = {
 }
 
 
-def main():
+def main(words):
+    if command.answered(__doc__, words):
+        return 0
+    if words not in ([], ["--check"]):
+        return command.usage(__doc__)
     differs = False
     for name, (records, data) in cases.items():
         rules = None if records is None else b"".join(records)
@@ -143,16 +152,15 @@ def main():
             if old == content:
                 continue
             differs = True
-            print("differs" if "--check" in sys.argv else "writes", os.path.relpath(path))
-            if "--check" not in sys.argv:
+            print("differs" if words else "writes", os.path.relpath(path))
+            if not words:
                 if content is None:
                     os.remove(path)
                     continue
                 os.makedirs(os.path.dirname(path), exist_ok=True)
-                with open(path, "wb") as f:
-                    f.write(content)
-    return 1 if differs and "--check" in sys.argv else 0
+                command.write_whole(os.path.dirname(path), {os.path.basename(path): content})
+    return 1 if differs and words else 0
 
 
 if __name__ == "__main__":
-    sys.exit(main())
+    sys.exit(main(sys.argv[1:]))

@@ -1,11 +1,15 @@
 #!/usr/bin/env python3
 """Writes the recorded lines with resends of the example: examples/two-breakfasts/resent and resent-once, and the input of their cases.
 
-  python3 tools/lines.py
+usage: tools/lines.py
 
 A segment is recorded as the number of its first byte, 4 bytes, its length, 2 bytes, low byte first, and its bytes.
 """
+import sys
 from pathlib import Path
+
+sys.dont_write_bytecode = True
+import command  # noqa: E402
 
 ROOT = Path(__file__).resolve().parent.parent
 EXAMPLE = ROOT / "examples" / "two-breakfasts"
@@ -20,7 +24,11 @@ def line(flow, first, segments):
     return out
 
 
-def main():
+def main(words):
+    if command.answered(__doc__, words):
+        return 0
+    if words:
+        return command.usage(__doc__)
     twice = (EXAMPLE / "twice").read_bytes()
     once = (EXAMPLE / "once").read_bytes()
     # the second order comes before the bytes in front of it, then again with them, and once more; the numbers wrap in between
@@ -34,6 +42,7 @@ def main():
         (EXAMPLE / name).write_bytes(data)
         (ROOT / "crates" / case / "stdin").write_bytes(data)
         (ROOT / "crates" / case / "stdout").write_text(said)
+    return 0
 
 
-main()
+sys.exit(main(sys.argv[1:]))
