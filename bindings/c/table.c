@@ -8,20 +8,25 @@
  *
  * Usage: table RULES [FLOW [FOLDER]]. How many sets can be reached, how many classes there are and how many bytes each list and the index take goes to
  * standard error. With a flow it writes a line for each pair, signature and offset, and last `end` and the offset, as the program does; or `refused` and
- * the number. With a folder it writes the four lists there, as classes.bin, parts.bin, rows.bin and splits.bin; an empty FLOW is passed over.
+ * the number. With a folder it writes the four lists there, as classes.bin, parts.bin, rows.bin and splits.bin, each whole in place of the old one; an
+ * empty FLOW is passed over. Where there are more sets or classes than a table has, it counts those that are needed.
  *
  * The table that was built needs no check: the filler of the index makes it all the same, and passes. List, classes, parts and rows are not looked at once
  * the index is there. The exit status is 0 where the table was built and the flow ended, 1 where one was refused, 2 where a file could not be read or
  * written or the archive is not the header's.
  */
+#define _POSIX_C_SOURCE 200809L
+
 #include <inttypes.h>
 #include <stdio.h>
 #include <stdlib.h>
+#include <string.h>
 
 #include "watch.h"
+#include "whole.h"
 
-/* Bytes of a piece. */
-enum { PIECE = 4096 };
+/* Bytes of a piece, and the most sets that are counted where there are too many. */
+enum { PIECE = 4096, MOST_COUNTED = 16384, PLACES = 4 * MOST_COUNTED };
 
 /* The list, with one byte more than the longest has: that shows that a list is too long. */
 static uint8_t list[WATCH_MOST_LIST + 1];
@@ -57,14 +62,102 @@ static int refused(uint32_t refusal)
     return 1;
 }
 
+/* What a table needs, counted where there is too much of it: the matrix of the list, the first byte of each class, and the sets. */
+static uint8_t *matrix, firsts[WATCH_BYTE_VALUES], (*sets)[WATCH_SET_SIZE];
+static size_t states, class_count, set_count;
+static uint32_t places[PLACES];
+
+static unsigned get(const uint8_t *at) { return at[0] + 256u * at[1]; }
+
+/* Whether every state steps alike on two bytes. */
+static bool alike(unsigned one, unsigned other)
+{
+    for (size_t s = 0; s < states; s++)
+        if (memcmp(matrix + s * WATCH_ROW_SIZE + one * WATCH_SET_SIZE, matrix + s * WATCH_ROW_SIZE + other * WATCH_SET_SIZE, WATCH_SET_SIZE) != 0)
+            return false;
+    return true;
+}
+
+static void count_classes(void)
+{
+    for (unsigned byte = 0; byte < WATCH_BYTE_VALUES; byte++) {
+        size_t k = 0;
+        while (k < class_count && !alike(firsts[k], byte))
+            k++;
+        if (k == class_count)
+            firsts[class_count++] = (uint8_t)byte;
+    }
+}
+
+/* Puts a set with those that are reached, where it is new. */
+static void reach(const uint8_t *set)
+{
+    uint32_t at = 2166136261u;
+    for (int i = 0; i < WATCH_SET_SIZE; i++)
+        at = (at ^ set[i]) * 16777619u;
+    for (at %= PLACES; places[at] != 0; at = (at + 1) % PLACES)
+        if (memcmp(sets[places[at] - 1], set, WATCH_SET_SIZE) == 0)
+            return;
+    memcpy(sets[set_count], set, WATCH_SET_SIZE);
+    places[at] = (uint32_t)++set_count;
+}
+
+/* The automaton's step of a set on a byte. */
+static void step(const uint8_t *set, uint8_t byte, uint8_t *next)
+{
+    memset(next, 0, WATCH_SET_SIZE);
+    for (size_t s = 0; s < states; s++)
+        if (set[s / 8] >> s % 8 & 1)
+            for (int i = 0; i < WATCH_SET_SIZE; i++)
+                next[i] |= matrix[s * WATCH_ROW_SIZE + byte * WATCH_SET_SIZE + (size_t)i];
+}
+
+static void count_sets(void)
+{
+    uint8_t set[WATCH_SET_SIZE] = { 0 };
+    for (const uint8_t *at = list; at < list + list_len; at += WATCH_RECORD_SIZE)
+        if (at[0] == 2)
+            set[get(at + 6) / 8] |= (uint8_t)(1 << get(at + 6) % 8);
+    reach(set);
+    for (size_t done = 0; done < set_count; done++)
+        for (size_t k = 0; k < class_count && set_count < MOST_COUNTED; k++) {
+            step(sets[done], firsts[k], set);
+            reach(set);
+        }
+}
+
+/* Says how many sets and classes a list needs that has too many for a table, and what to try. */
+static void say_needs(void)
+{
+    states = 1;
+    for (const uint8_t *at = list; at < list + list_len; at += WATCH_RECORD_SIZE) {
+        size_t source = at[0] == 2 ? 0 : get(at + 4), target = at[0] == 3 ? 0 : get(at + 6);
+        states = source >= states ? source + 1 : states;
+        states = target >= states ? target + 1 : states;
+    }
+    matrix = malloc(states * WATCH_ROW_SIZE);
+    sets = malloc(MOST_COUNTED * sizeof *sets);
+    if (matrix == NULL || sets == NULL || watch_fill_matrix(list, list_len, matrix, states * WATCH_ROW_SIZE) != WATCH_PASSED)
+        return;
+    count_classes();
+    count_sets();
+    fprintf(stderr, "table: %s%zu sets can be reached and %zu classes are needed, and a table has at most %d and %d\n",
+            set_count < MOST_COUNTED ? "" : "at least ", set_count, class_count, WATCH_MOST_PARTS, WATCH_MOST_CLASS + 1);
+    fprintf(stderr, "table: fewer signatures in a list need fewer sets, and so do words without long gaps of any bytes between them; the plain feed and the\n"
+                    "       matrix need no table (docs/ENGINES.md)\n");
+}
+
 /* Writes one list of the table to a file of the folder. */
 static void keep(const char *folder, const char *name, const uint8_t *bytes, uint64_t length)
 {
     char path[4096];
     if (snprintf(path, sizeof path, "%s/%s.bin", folder, name) >= (int)sizeof path)
         fail("name a file in", folder);
-    FILE *file = opened(path, "wb");
-    if (fwrite(bytes, 1, length, file) != length || fclose(file) != 0)
+    FILE *file = whole_begin(path);
+    if (file == NULL)
+        fail("write", path);
+    fwrite(bytes, 1, length, file);
+    if (!whole_end(file, path) || !whole_put(path))
         fail("write", path);
 }
 
@@ -130,12 +223,14 @@ int main(int argc, char **argv)
     fclose(file);
 
     built = watch_build(list, list_len, classes, sizeof classes, parts, sizeof parts, rows, sizeof rows, splits, sizeof splits);
+    if (built.refusal == WATCH_REFUSED_TOO_MANY)
+        say_needs();
     if (built.refusal != WATCH_PASSED)
         return refused(built.refusal);
-    uint64_t sets = built.parts / WATCH_SET_SIZE;
-    index_len = WATCH_INDEX_SIZE(sets);
+    uint64_t parts_count = built.parts / WATCH_SET_SIZE;
+    index_len = WATCH_INDEX_SIZE(parts_count);
     fprintf(stderr, "table: %" PRIu64 " sets, %" PRIu64 " classes; classes %" PRIu64 ", parts %" PRIu64 ", rows %" PRIu64 ", splits %" PRIu64 ", index %zu bytes\n",
-            sets, built.rows / WATCH_SET_SIZE / sets, built.classes, built.parts, built.rows, built.splits, index_len);
+            parts_count, built.rows / WATCH_SET_SIZE / parts_count, built.classes, built.parts, built.rows, built.splits, index_len);
     uint32_t refusal = watch_fill_index(list, list_len, 1, classes, built.classes, parts, built.parts, rows, built.rows, splits, built.splits,
                                         table_index, index_len);
     if (refusal != WATCH_PASSED)
