@@ -9,8 +9,9 @@ from pathlib import Path
 
 HERE = Path(__file__).resolve().parent
 sys.dont_write_bytecode = True
-sys.path.insert(0, str(HERE.parent))
+sys.path[:0] = [str(HERE.parent), str(HERE.parent.parent / "tools")]
 
+import command  # noqa: E402
 from by_steps import front, rules  # noqa: E402
 
 CALF = b"#9"
@@ -38,7 +39,7 @@ def told(here):
 
 def main():
     others = b"#4 in 120 ml, #2 in 80 ml, #5 in 140 ml, #7 in 90 ml, "
-    (HERE / "rules.bin").write_bytes(rules((0, 0, 0), step, told))
+    command.write_whole(HERE, {"rules.bin": rules((0, 0, 0), step, told)})
     # The second mark of calf 9 ends with the 300th byte after the first one; and with the 301st.
     # More comes in the same line.
     (HERE / "soon").write_bytes(b"#4 in\n#9" + (others * 9)[:298] + b"#9 in 60 ml, #4 in\n#9 in\n")

@@ -5,8 +5,14 @@ files, as README.md says.
   python3 examples/long-line/make.py
 """
 import os
+import sys
 
+sys.dont_write_bytecode = True
 HERE = os.path.dirname(os.path.abspath(__file__))
+sys.path.insert(0, os.path.join(HERE, "..", "..", "tools"))
+
+import command  # noqa: E402
+
 WORD = b"milk "
 LIMIT = 300
 SIGNATURE = 5
@@ -47,11 +53,8 @@ def rules():
 
 
 def main():
-    files = {"rules.bin": rules(), "long": b"calf 9\nmilk " + b"x" * 301 + b"\ndone\n",
-             "short": b"calf 9\nmilk " + b"x" * 300 + b"\ndone\n"}
-    for name, data in files.items():
-        with open(os.path.join(HERE, name), "wb") as file:
-            file.write(data)
+    command.write_whole(HERE, {"rules.bin": rules(), "long": b"calf 9\nmilk " + b"x" * 301 + b"\ndone\n",
+                               "short": b"calf 9\nmilk " + b"x" * 300 + b"\ndone\n"})
 
 
 main()

@@ -9,8 +9,9 @@ from pathlib import Path
 
 HERE = Path(__file__).resolve().parent
 sys.dont_write_bytecode = True
-sys.path.insert(0, str(HERE.parent))
+sys.path[:0] = [str(HERE.parent), str(HERE.parent.parent / "tools")]
 
+import command  # noqa: E402
 from by_steps import front, rules  # noqa: E402
 
 ORDER, ANSWER = b"feed ", b"done"
@@ -34,7 +35,7 @@ def told(here):
 
 def main():
     quiet = b"calf 4 drinks 120 ml\n" * 9
-    (HERE / "rules.bin").write_bytes(rules(("order", 0), step, told))
+    command.write_whole(HERE, {"rules.bin": rules(("order", 0), step, told)})
     # 196 bytes stand between the order and its answer, which ends with the 200th byte; and one more.
     (HERE / "answered").write_bytes(b"feed " + (b"9\n" + quiet)[:190] + b"....\n\ndone 9\nfeed 4\ndone 4\n")
     (HERE / "late").write_bytes(b"feed " + (b"9\n" + quiet)[:190] + b".....\n\ndone 9\nfeed 4\ndone 4\n")

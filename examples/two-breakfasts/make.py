@@ -4,8 +4,14 @@
   python3 examples/two-breakfasts/make.py
 """
 import os
+import sys
 
+sys.dont_write_bytecode = True
 HERE = os.path.dirname(os.path.abspath(__file__))
+sys.path.insert(0, os.path.join(HERE, "..", "..", "tools"))
+
+import command  # noqa: E402
+
 ORDER = b"feed 9\n"
 
 
@@ -35,7 +41,6 @@ records.append(edge(0, 255, 0, first, first, "any byte: the first order has gone
 records += order(first, "repeated")
 records.append(accept(2 * first, 9, "the repeated order has gone by: signature 9"))
 
-with open(os.path.join(HERE, "rules.bin"), "wb") as f:
-    f.write(b"".join(r for r, _ in records))
+command.write_whole(HERE, {"rules.bin": b"".join(r for r, _ in records)})
 for r, why in records:
     print(" ".join("%02X" % b for b in r) + "   " + why)
