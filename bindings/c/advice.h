@@ -331,14 +331,15 @@ static unsigned advice_number(void)
     return number;
 }
 
-/* An item so many times, the first of which has been read; it begins at a place, and had the positions behind a number. */
-static advice_part advice_repeat(advice_part part, size_t begin, unsigned before)
+/* An item so many times, the first of which has been read: where it begins, the last position before it, and whether these were too many. */
+static advice_part advice_repeat(advice_part part, size_t begin, unsigned before, bool over)
 {
     unsigned least = advice_number(), most = advice_number();
     size_t behind = ++advice.at;
     uint64_t positions = advice_times(part.positions, most);
     if (most == 0) {
         advice.count = before;
+        advice.over = over;
         return (advice_part){ .empty = true };
     }
     bool many = part.positions != 0 && before + positions >= WATCH_STATES;
@@ -369,9 +370,10 @@ static advice_part advice_item(void)
 {
     size_t begin = advice.at;
     unsigned before = advice.count;
+    bool over = advice.over;
     advice_part part = advice_atom();
     switch (advice.at < advice.length ? advice.text[advice.at] : 0) {
-    case '{': return advice_repeat(part, begin, before);
+    case '{': return advice_repeat(part, begin, before, over);
     case '*': part.empty = true; /* fall through */
     case '+': advice_link(&part.last, &part.first); advice.at++; break;
     case '?': part.empty = true; advice.at++; break;
