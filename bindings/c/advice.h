@@ -18,7 +18,9 @@ enum { ADVICE_DEPTH = 16, ADVICE_TIMES = 300, ADVICE_DIGITS = 3 };
 
 /* Where a reading stands: outside a class before or behind an item, or behind its mark; in an escape; in a class at its beginning, behind a
  * single byte, which may begin a range, behind another member, or behind the - of a range; in the first or the second number of a repeat. */
-typedef enum { BEFORE_ITEM, BEHIND_ITEM, BEHIND_MARK, IN_ESCAPE, IN_HEX, IN_HEX_2, IN_CLASS, BEHIND_SINGLE, BEHIND_MEMBER, IN_RANGE, IN_LEAST, IN_MOST } advice_where;
+typedef enum {
+    BEFORE_ITEM, BEHIND_ITEM, BEHIND_MARK, IN_ESCAPE, IN_HEX, IN_HEX_2, IN_CLASS, BEHIND_SINGLE, BEHIND_MEMBER, IN_RANGE, IN_LEAST, IN_MOST
+} advice_where;
 
 typedef struct {
     advice_where where;

@@ -290,8 +290,9 @@ static void take_line(size_t number, const uint8_t *line, size_t length)
         size_t records = list_len / WATCH_RECORD_SIZE;
         uint32_t refusal = add(part, answer.length);
         if (refusal != WATCH_PASSED) {
-            fprintf(stderr, "signatures: line %zu: refused %" PRIu32 ": the texts before it take %s states and %s records, and this one %s and %s; a list has at most %s and %s: take fewer texts for a list\n",
-                    number, refusal, advice_number_words(before), advice_number_words(records), advice_number_words(states(part, answer.length)),
+            fprintf(stderr, "signatures: line %zu: refused %" PRIu32 ": the texts before it take %s states and %s records, and this one %s and %s; "
+                    "a list has at most %s and %s: take fewer texts for a list\n", number, refusal,
+                    advice_number_words(before), advice_number_words(records), advice_number_words(states(part, answer.length)),
                     advice_number_words(answer.length / WATCH_RECORD_SIZE), advice_number_words(WATCH_STATES), advice_number_words(WATCH_MOST_RECORDS));
             bad_lines++;
         }
