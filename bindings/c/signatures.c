@@ -29,6 +29,9 @@
 #include "watch.h"
 #include "whole.h"
 
+/* Bytes of a line that are shown, and before the place; lines that are said to be refused. */
+enum { MOST_SHOWN = 100, SHOWN_BEFORE = 60, MOST_SAID = 20 };
+
 static uint8_t *file;
 static size_t file_len, text_count, bad_lines;
 
@@ -77,13 +80,20 @@ static void read_file(const char *name)
     fclose(from);
 }
 
-/* Shows a line, and a caret under one of its bytes. Bytes that are no printing ASCII are shown as '?', each in a column. */
+/* Shows a line, or of a long one the part around a place, and a caret under that byte. Bytes that are no printing ASCII are shown as '?', each in a column. */
 static void show(const uint8_t *line, size_t length, size_t place)
 {
+    size_t begin = place > SHOWN_BEFORE ? place - SHOWN_BEFORE : 0;
     fputs("    ", stderr);
-    for (size_t i = 0; i < length; i++)
+    for (size_t i = begin; i < length && i < begin + MOST_SHOWN; i++)
         fputc(line[i] < 32 || line[i] > 126 ? '?' : line[i], stderr);
-    fprintf(stderr, "\n    %*s^\n", (int)place, "");
+    fprintf(stderr, "\n    %*s^\n", (int)(place - begin), "");
+}
+
+/* Whether one more line that is refused is said: the first ones are. */
+static bool is_said(void)
+{
+    return ++bad_lines <= MOST_SAID;
 }
 
 /* Whether a byte may stand in a name. */
@@ -116,9 +126,10 @@ static size_t read_number(const uint8_t *line, size_t length, unsigned *number, 
 /* Says what is wrong with a line, and shows it with a caret under a place. */
 static void refuse(size_t number, const uint8_t *line, size_t length, size_t place, const char *why)
 {
+    if (!is_said())
+        return;
     fprintf(stderr, "signatures: line %zu: %s\n", number, why);
     show(line, length, place);
-    bad_lines++;
 }
 
 /* Gives a signature its name; answers whether it has no other. */
@@ -223,6 +234,8 @@ static void refuse_text(size_t number, const uint8_t *line, size_t length, size_
 {
     const uint8_t *text = line + begins;
     size_t text_len = length - begins, place = answer.place;
+    if (!is_said())
+        return;
     fprintf(stderr, "signatures: line %zu: refused %" PRIu32 ": ", number, answer.refusal);
     if (answer.refusal == WATCH_REFUSED_TOO_BIG) {
         uint64_t need_states, need_records;
@@ -240,7 +253,6 @@ static void refuse_text(size_t number, const uint8_t *line, size_t length, size_
         fprintf(stderr, "%s%s\n", place == text_len ? "the text ends too soon: " : "", advice_fits(text, text_len, place));
     if (answer.refusal != WATCH_REFUSED_TOO_BIG)
         show(line, length, begins + place);
-    bad_lines++;
 }
 
 /* Joins the list of a text to that of the texts before it, and folds the whole; answers the refusal. */
@@ -353,7 +365,13 @@ int main(int argc, char **argv)
         return 2;
     }
     read_file(argv[1]);
+    if (watch_check_list(file, file_len) == WATCH_PASSED) {
+        fprintf(stderr, "signatures: %s is a list, and no file of texts: tools/show says what it holds\n", argv[1]);
+        return 1;
+    }
     take_lines();
+    if (bad_lines > MOST_SAID)
+        fprintf(stderr, "signatures: %zu more lines are refused\n", bad_lines - MOST_SAID);
     if (bad_lines == 0 && text_count == 0)
         fprintf(stderr, "signatures: no text in %s\n", argv[1]);
     if (bad_lines != 0 || text_count == 0)

@@ -143,8 +143,11 @@ static void say_needs(void)
     count_sets();
     fprintf(stderr, "table: %s%zu sets can be reached and %zu classes are needed, and a table has at most %d and %d\n",
             set_count < MOST_COUNTED ? "" : "at least ", set_count, class_count, WATCH_MOST_PARTS, WATCH_MOST_CLASS + 1);
-    fprintf(stderr, "table: fewer signatures in a list need fewer sets, and so do words without long gaps of any bytes between them; the plain feed and the\n"
-                    "       matrix need no table (docs/ENGINES.md)\n");
+    if (set_count > WATCH_MOST_PARTS)
+        fprintf(stderr, "table: fewer signatures in a list need fewer sets, and so do shorter gaps of any bytes between words\n");
+    if (class_count > WATCH_MOST_CLASS + 1)
+        fprintf(stderr, "table: fewer bytes that lead apart need fewer classes, as a range of all digits in place of some\n");
+    fprintf(stderr, "table: the plain feed and the matrix need no table (docs/ENGINES.md)\n");
 }
 
 /* Writes one list of the table to a file of the folder. */
