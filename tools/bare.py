@@ -1,6 +1,7 @@
 #!/usr/bin/env python3
-"""Takes the code away from a copy of a crate: every function of src/ with its comment, what it brings in of other crates' functions, and every
-function's folder of proofs/. What is left are types, constants, definitions and laws, which prove by themselves, since no law cites a function.
+"""Takes the code away from a copy of a crate: every function of src/ with its comment, what it
+brings in of other crates' functions, and every function's folder of proofs/. What is left are
+types, constants, definitions and laws, which prove by themselves, since no law cites a function.
 
 usage: tools/bare.py CRATE-FOLDER..
 """

@@ -6,7 +6,8 @@ usage: tools/cases.py [--check]
 It writes the files under crates/; with --check it writes nothing, and the exit status is 1 where a
 file differs.
 
-The expected output comes from the definitions of the matcher alone: a frontier is a Python set, and the whole input is one piece.
+The expected output comes from the definitions of the matcher alone: a frontier is a Python set,
+and the whole input is one piece.
 """
 import os
 import sys

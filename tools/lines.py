@@ -1,9 +1,11 @@
 #!/usr/bin/env python3
-"""Writes the recorded lines with resends of the example: examples/two-breakfasts/resent and resent-once, and the input of their cases.
+"""Writes the recorded lines with resends of the example: examples/two-breakfasts/resent and
+resent-once, and the input of their cases.
 
 usage: tools/lines.py
 
-A segment is recorded as the number of its first byte, 4 bytes, its length, 2 bytes, low byte first, and its bytes.
+A segment is recorded as the number of its first byte, 4 bytes, its length, 2 bytes, low byte
+first, and its bytes.
 """
 import sys
 from pathlib import Path
