@@ -391,7 +391,7 @@ pub fn proved(work: &Work, record: &mut [u8], pairs: &mut [u32]) -> Fed {
 /// The two lists of so many states, with the target of each state and byte, and the programs of some states.
 pub fn machine(
     states: usize,
-    lead: fn(usize, usize) -> usize,
+    lead: impl Fn(usize, usize) -> usize + Copy,
     programs: &[(usize, &[(u8, u8, u16)])],
 ) -> (Vec<u8>, Vec<u8>) {
     let moves = (0..states)

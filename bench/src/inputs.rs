@@ -639,13 +639,14 @@ pub fn largest_small_list() -> (Vec<u8>, Table) {
 }
 
 /// A list of n records from whose start 2 to the power of `places` sets can be reached, with 64 classes where the records suffice: state 0 stays for
-/// ever and leads to state 1 on one class, each of the places leads to the next on every byte, and the other edges leave other states. A class is four bytes.
-pub fn reaching_list(n: usize, places: u16) -> Vec<u8> {
+/// ever and leads to state 1 on one class, each of the places leads to the next on every byte, and the other edges leave other states. A class is four bytes;
+/// where the other edges have fewer than 64 ranges, the bytes outside them are one class more, and those that lead to state 1 another.
+pub fn reaching_list(n: usize, places: u16, ranges: u8) -> Vec<u8> {
     let mut dice = Dice(n as u64 * 100 + u64::from(places));
     let mut list = vec![start(0), edge(0, 255, 0, 0), edge(96, 99, 0, 1)];
     list.extend((1..places).map(|s| edge(0, 255, s, s + 1)));
     list.push(accept(places, 7));
-    for class in 0..CLASSES as u8 {
+    for class in 0..ranges {
         list.push(edge(
             4 * class,
             4 * class + 3,
@@ -654,7 +655,7 @@ pub fn reaching_list(n: usize, places: u16) -> Vec<u8> {
         ));
     }
     while list.len() < n {
-        let class = dice.below(CLASSES as u64) as u8;
+        let class = dice.below(u64::from(ranges)) as u8;
         let (from, to) = (dice.state_from(IDLE_PLACES), dice.state());
         list.push(edge(4 * class, 4 * class + 3, from, to));
     }

@@ -705,8 +705,8 @@ fn rows() -> Vec<Row> {
     let prepared: [(&str, fn() -> Vec<u8>); 4] = [
         ("64 texts joined", joined::joined),
         ("64 texts joined and folded", joined::folded),
-        ("1,024 sets, 300 records", || inputs::reaching_list(300, 10)),
-        ("4,096 sets, 300 records", || inputs::reaching_list(300, 12)),
+        ("1,024 sets, 300 records", || inputs::reaching_list(300, 10, 64)),
+        ("4,096 sets, 300 records", || inputs::reaching_list(300, 12, 64)),
     ];
     for (what, list) in prepared {
         row(
@@ -870,7 +870,7 @@ fn rows() -> Vec<Row> {
     for records in [300, MOST_RECORDS] {
         for places in [4u16, 8, 10] {
             let sets = number(1 << places);
-            let list = move || inputs::reaching_list(records, places);
+            let list = move || inputs::reaching_list(records, places, 64);
             row(
                 format!("building, {sets} sets, {} records", number(records)),
                 1,
@@ -890,6 +890,15 @@ fn rows() -> Vec<Row> {
             );
         }
     }
+    row(
+        format!("table check, 1,024 sets, {full} records, 24 classes"),
+        1,
+        Box::new(|| {
+            let (list, bound) = (inputs::reaching_list(MOST_RECORDS, 10, 22), 1);
+            let table = inputs::built_table(&list);
+            (list, Call::CheckTable { bound, table })
+        }),
+    );
     for (name, turn, make) in extended::rows() {
         row(
             name.to_string(),

@@ -4,6 +4,7 @@ pub mod Entries
 pub mod Slots
 pub mod Turns
 pub mod Found
+pub mod Lowers
 pub mod Halving
 pub mod Verdict
 pub mod Checked

@@ -4,12 +4,13 @@ ghost use mathlib.Core.Path.{_≡_};
 ghost use mathlib.Core.Bool.{true, false, _&&_, cond};
 ghost use Prim.Native.Nat.{_+_, _*_, _^_, _<_, _≤_, max};
 ghost use lib.ListN.{length, getD};
-ghost use lib.Dec.{eqb};
+ghost use lib.Dec.{ltb, eqb};
 ghost use Rattle.sets.specs.Set.{setSize, setOf, join};
 ghost use Rattle.rules.specs.Scan.{every};
 ghost use Rattle.rules.specs.Rules.{verdict};
 ghost use Rattle.lists.specs.List.{listRefusal};
 ghost use Rattle.lists.specs.Automaton.{step};
+ghost use Rattle.alike.specs.Alike.{Alikes};
 ghost use Rattle.tables.specs.Table.{table, byteValues, mostParts, largest, classCount, partCount, splitCount, part, rowAt, row, splitSet};
 ghost use Rattle.tables.specs.Table.{slots, unusedSlot, usedSlots, allBelow, joined, isSplit, splitOf};
 ghost use Rattle.tables.specs.Table.{badClasses, badCount, badRowsLength, badLengths, goodSlots, inOrder, sizeRules, risingRules, tableRefusal};
@@ -249,17 +250,68 @@ fn splits_good(splits: &[u8], n: usize, bound: u64) -> bool
     }
 }
 
-// Says whether rule 10 passes the rows of part p, whose set is f.
-fn rows_at(list: &[u8], classes: &[u8], rows: &[u8], k: usize, p: usize, f: StateSet) -> bool
-    requires { ⌜ (k ≡ classCount (now classes)) × (p < mostParts) ⌝ }
+// Says whether the byte that a list has for c is lower and of c's class.
+fn same_as_lower(classes: &[u8], lowers: &[u8], c: u8) -> bool
+    ensures { λ r. ⌜ r ≡ (ltb (getD (now (lowers .entry)) c 0) c && eqb (getD (now (classes .entry)) (getD (now (lowers .entry)) c 0) 0) (getD (now (classes .entry)) c 0)) ⌝ }
+{
+    let d = lists::byte_at(lowers, c as usize);
+    if d < c {
+        lists::byte_at(classes, d as usize) == lists::byte_at(classes, c as usize)
+    } else {
+        false
+    }
+}
+
+// Says whether rule 10 passes the rows of part p, whose set is f. A byte that is of the class of a lower one, on which the list steps alike, is not stepped again.
+fn rows_at(
+    list: &[u8],
+    classes: &[u8],
+    rows: &[u8],
+    alikes: &[u8],
+    k: usize,
+    p: usize,
+    f: StateSet,
+) -> bool
+    requires { ⌜ (k ≡ classCount (now classes)) × (p < mostParts) × Alikes (now list) (now alikes) ⌝ }
     ensures { λ r. ⌜ r ≡ every byteValues (λ c. eqb (row (now (classes .entry)) (now (rows .entry)) p c) (step (now (list .entry)) (setOf f) c)) ⌝ }
 {
     for c in 0..BYTE_VALUES {
-        if !row_set(classes, rows, k, p, c as u8).same(lists::step(list, f, c as u8)) {
+        if !same_as_lower(classes, alikes, c as u8) {
+            if !row_set(classes, rows, k, p, c as u8).same(lists::step(list, f, c as u8)) {
+                return false;
+            }
+        }
+    }
+    true
+}
+
+// Says whether rule 10 passes the rows, by bytes that step alike.
+fn parts_good(
+    list: &[u8],
+    classes: &[u8],
+    parts: &[u8],
+    rows: &[u8],
+    alikes: &[u8],
+    k: usize,
+) -> bool
+    requires { ⌜ (k ≡ classCount (now classes)) × (partCount (now parts) ≤ mostParts) × Alikes (now list) (now alikes) ⌝ }
+    ensures { λ r. ⌜ r ≡ every (partCount (now (parts .entry))) (λ p. every byteValues (λ c.
+        eqb (row (now (classes .entry)) (now (rows .entry)) p c) (step (now (list .entry)) (part (now (parts .entry)) p) c))) ⌝ }
+{
+    let n = part_count(parts);
+    for p in 0..n {
+        if !rows_at(list, classes, rows, alikes, k, p, part_set(parts, p)) {
             return false;
         }
     }
     true
+}
+
+// Mixes into the key of each byte its class.
+fn mix_classes(classes: &[u8], keys: &mut [u64]) {
+    for c in 0..BYTE_VALUES {
+        alike::mix_key(keys, c, lists::byte_at(classes, c) as u64);
+    }
 }
 
 // Says whether rule 10 passes the rows.
@@ -268,13 +320,11 @@ fn rows_good(list: &[u8], classes: &[u8], parts: &[u8], rows: &[u8], k: usize) -
     ensures { λ r. ⌜ r ≡ every (partCount (now (parts .entry))) (λ p. every byteValues (λ c.
         eqb (row (now (classes .entry)) (now (rows .entry)) p c) (step (now (list .entry)) (part (now (parts .entry)) p) c))) ⌝ }
 {
-    let n = part_count(parts);
-    for p in 0..n {
-        if !rows_at(list, classes, rows, k, p, part_set(parts, p)) {
-            return false;
-        }
-    }
-    true
+    let mut keys = [0u64; BYTE_VALUES];
+    mix_classes(classes, &mut keys);
+    let mut alikes = [0u8; BYTE_VALUES];
+    alike::fill_alikes(list, &mut keys, &mut alikes);
+    parts_good(list, classes, parts, rows, &alikes, k)
 }
 
 // The set with part x, where the slot that names it is in use.
@@ -361,8 +411,8 @@ fn rows_of(classes: &[u8], rows: &[u8], splits: &[u8], k: usize, i: usize, c: u8
     all
 }
 
-// Says whether each byte leads from split i to a split, through the rows.
-fn leads_at(classes: &[u8], rows: &[u8], splits: &[u8], k: usize, i: usize) -> bool
+// Says whether each byte leads from split i to a split, through the rows. A byte that is of the class of a lower one is not looked at again.
+fn leads_at(classes: &[u8], rows: &[u8], splits: &[u8], lowers: &[u8], k: usize, i: usize) -> bool
     requires { ⌜ (k ≡ classCount (now classes)) × (allBelow mostParts (usedSlots (slots (now splits) i)) ≡ true)
         × (every (splitCount (now splits)) (inOrder (now splits)) ≡ true) × (i < splitCount (now splits)) ⌝ }
     ensures { λ r. ⌜ r ≡ every byteValues (λ c.
@@ -370,11 +420,39 @@ fn leads_at(classes: &[u8], rows: &[u8], splits: &[u8], k: usize, i: usize) -> b
 {
     let n = split_count(splits);
     for d in 0..BYTE_VALUES {
-        if n <= find_sorted(splits, rows_of(classes, rows, splits, k, i, d as u8)) {
+        if !same_as_lower(classes, lowers, d as u8) {
+            if n <= find_sorted(splits, rows_of(classes, rows, splits, k, i, d as u8)) {
+                return false;
+            }
+        }
+    }
+    true
+}
+
+// Says whether each byte leads from each split to a split, through the rows, by bytes of one class.
+fn splits_lead(classes: &[u8], rows: &[u8], splits: &[u8], lowers: &[u8], k: usize) -> bool
+    requires { ⌜ (k ≡ classCount (now classes)) × (every (splitCount (now splits)) (λ i. allBelow mostParts (usedSlots (slots (now splits) i))) ≡ true)
+        × (every (splitCount (now splits)) (inOrder (now splits)) ≡ true) ⌝ }
+    ensures { λ r. ⌜ r ≡ every (splitCount (now (splits .entry))) (λ i. every byteValues (λ c.
+        isSplit (now (splits .entry)) (joined (λ p. row (now (classes .entry)) (now (rows .entry)) p c) (usedSlots (slots (now (splits .entry)) i))))) ⌝ }
+{
+    let n = split_count(splits);
+    for i in 0..n {
+        if !leads_at(classes, rows, splits, lowers, k, i) {
             return false;
         }
     }
     true
+}
+
+// Gives each byte the one before it of its class; where there is none, 0.
+fn fill_lowers(classes: &[u8], lowers: &mut [u8]) {
+    let mut last = [0u8; BYTE_VALUES];
+    for c in 0..BYTE_VALUES {
+        let q = lists::byte_at(classes, c) as usize;
+        alike::put_byte(lowers, c, lists::byte_at(&last, q));
+        alike::put_byte(&mut last, q, c as u8);
+    }
 }
 
 // Says whether each byte leads from each split to a split, through the rows.
@@ -384,13 +462,9 @@ fn leads(classes: &[u8], rows: &[u8], splits: &[u8], k: usize) -> bool
     ensures { λ r. ⌜ r ≡ every (splitCount (now (splits .entry))) (λ i. every byteValues (λ c.
         isSplit (now (splits .entry)) (joined (λ p. row (now (classes .entry)) (now (rows .entry)) p c) (usedSlots (slots (now (splits .entry)) i))))) ⌝ }
 {
-    let n = split_count(splits);
-    for i in 0..n {
-        if !leads_at(classes, rows, splits, k, i) {
-            return false;
-        }
-    }
-    true
+    let mut lowers = [0u8; BYTE_VALUES];
+    fill_lowers(classes, &mut lowers);
+    splits_lead(classes, rows, splits, &lowers, k)
 }
 
 // Rules 9 to 13, for a table that the rules before them pass.

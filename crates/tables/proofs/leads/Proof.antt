@@ -1,81 +1,29 @@
--- `leads` goes through the splits; from those passed every byte leads to a split. Assumes nothing.
+-- `leads` finds the bytes of one class, and goes through the splits with them. Assumes nothing.
 use borrow.Author.Needs.{needs}
-use borrow.Author.Tests.{not-true, not-false}
-use mathlib.Core.Path.{_≡_, sym, _∙_}
-use mathlib.Core.Bool.{Bool, true}
-use mathlib.Core.List.{List}
-use Prim.Native.Nat.{ℕ, _-_, _≤_}
-use native.Mathlib.Omega.{arith}
-use Rattle.sets.specs.Set.{before}
-use Rattle.rules.specs.Scan.{every}
-use Rattle.rules.proofs.Scanning.{every-at}
-use Rattle.tables.specs.Table.{byteValues, mostParts, splitCount, row, slots, usedSlots, allBelow, joined, isSplit}
-use Rattle.tables.proofs.Turns.{every-none, every-more, every-stops, every-ends}
 use Rattle.tables.proofs.leads.Statement.{statement}
 use Rattle.tables.proofs.leads.Tie as tie
 
--- from split i every byte leads to a split, through the rows
-abbrev closed : List ℕ → List ℕ → List ℕ → ℕ → Bool
-closed classes rows splits i = every byteValues (λ d. isSplit splits (joined (λ p. row classes rows p d) (usedSlots (slots splits i))))
+slice-aggregate-fill-lowers : tie.Need-slice-aggregate-fill-lowers
+slice-aggregate-fill-lowers c = search needs
 
-abbrev Inv-loop : tie.InvT-loop
-Inv-loop classes rows splits k n i₀ i = (i ≤ n) × (every i (closed classes rows splits) ≡ true)
+fill-lowers-requires : tie.Need-fill-lowers-requires
+fill-lowers-requires c κs = search needs
 
-abbrev μ-loop : tie.MeasureT-loop
-μ-loop classes rows splits k n i₀ i = n - i
+slice-aggregate-splits-lead : tie.Need-slice-aggregate-splits-lead
+slice-aggregate-splits-lead c = search needs
 
--- the way back from the loop's head to the entry
-abbrev entry : tie.At-loop Inv-loop μ-loop → tie.Start Inv-loop μ-loop
-entry c = c .before .before .before .before .before
+splits-lead-requires : tie.Need-splits-lead-requires
+splits-lead-requires c κs = let s = c .before .before .before .before .before .before .before in (s .pre .0, s .pre .1, s .pre .2)
 
--- what the test says
-said : (c : tie.After-leads-at Inv-loop μ-loop)
-    → let s = entry (c .before .before) in
-    c .leads-at .result ≡ closed (s .args .classes .now) (s .args .rows .now) (s .args .splits .now) (c .before .before .loop .i)
-said c = c .leads-at .ensures
-
-split-count-requires : tie.Need-split-count-requires Inv-loop μ-loop
-split-count-requires c κs = search needs
-
-loop-holds : tie.Need-loop-holds Inv-loop μ-loop
-loop-holds c = (search needs, every-none _)
-
-leads-at-requires : tie.Need-leads-at-requires Inv-loop μ-loop
-leads-at-requires c κs =
-    let s = entry (c .before) in
-    let l = every-at (splitCount (s .args .splits .now)) (λ j. allBelow mostParts (usedSlots (slots (s .args .splits .now) j))) (s .pre .1) (c .before .loop .i) (omega arith) in
-    (s .pre .0, l, s .pre .2, omega arith)
-
-returns : tie.Need-returns Inv-loop μ-loop
-returns c =
-    let h = c .before .before .before in
-    every-stops (splitCount (entry h .args .splits .now)) _ (h .loop .i) (omega arith) (sym (said (c .before)) ∙ not-true _ (c .if1 .taken))
-
-add-i : tie.Need-add-i Inv-loop μ-loop
-add-i c = search needs
-
-loop-less : tie.Need-loop-less Inv-loop μ-loop
-loop-less c = search needs
-
-loop-again : tie.Need-loop-again Inv-loop μ-loop
-loop-again c =
-    let l = c .before .before .before .loop in
-    (search needs, every-more _ (l .i) (l .inv .1) (sym (said (c .before)) ∙ not-false _ (c .if1 .left)))
-
-returns-2 : tie.Need-returns-2 Inv-loop μ-loop
-returns-2 c = every-ends (splitCount (entry (c .before) .args .splits .now)) _ (c .before .loop .i) (omega arith) (c .before .loop .inv .1)
+returns : tie.Need-returns
+returns c = c .splits-lead .ensures
 
 pub leads-spec : {M : Type 1} → statement M
 leads-spec =
     tie.close
     (tie.spec
-    Inv-loop
-    μ-loop
-    split-count-requires
-    loop-holds
-    leads-at-requires
-    returns
-    add-i
-    loop-less
-    loop-again
-    returns-2)
+    slice-aggregate-fill-lowers
+    fill-lowers-requires
+    slice-aggregate-splits-lead
+    splits-lead-requires
+    returns)
