@@ -123,11 +123,30 @@
  *
  * One segment that comes too early is held: WATCH_HELD_SIZE bytes of the caller's, the held buffer, and the held place, the number of the first
  * byte held and how many are. At the beginning none are: length 0. Each look at a segment is watch_take, then watch_due, then a feed of what is
- * due; look again with the same segment until nothing is due, also after an 18, and keep the place that watch_take answers each time. Four looks
- * are enough where each feed consumes all that it is given. Bytes first consumed or held count: what a resend brings for their places is dropped.
+ * due; look again with the same segment until nothing is due, also after an 18, and keep the place that watch_take answers each time. Do not
+ * look again after a feed that is refused, as with 6: its bytes would stay due. Four looks are enough where each feed consumes all that it is
+ * given. Bytes first consumed or held count: what a resend brings for their places is dropped.
+ *
+ * watch_feed_segment and watch_split_feed_segment make all looks at a segment themselves: hand in the
+ * segment and the held place, keep the place that is answered, and hand in the same segment again
+ * while there is neither a refusal nor `all`, after taking the pairs.
  *
  * To go on after being killed, save the held buffer, then the held place, then feed, hand over the pairs, and save the record, in this order, at
  * each look; or save all three in one write. Then nothing is lost, and no pair of an offset up to the saved one is told again.
+ *
+ *
+ * RENEWING
+ *
+ * A flow ends at WATCH_MOST_OFFSET with 6. To go on past it, renew the record of a list's flow: the
+ * frontier stays, offset and rows become 0, and the pairs of offset 0 are not told again. Keep the
+ * bytes before the last renewal beside the record, as 64 bits, and add them to each offset told:
+ * these are then the pairs of one flow without a largest offset. With `first` the number of the
+ * flow's first byte, segments go on too:
+ *
+ *     uint64_t offset = watch_offset(flow, WATCH_FLOW_SIZE);
+ *     if (watch_renew(flow, WATCH_FLOW_SIZE) == WATCH_PASSED) { before += offset; first += (uint32_t)offset; }
+ *
+ * Save `before` and `first` with the record, in one write.
  *
  *
  * REFUSALS
@@ -186,10 +205,12 @@
  *
  * The list check gives 1 to 3; opening 1 to 4 and 15; the plain feed 1 to 6; the table check 1 to 3 and 7 to 13; the split feed 1 to 9,
  * and 14 per byte; the filler of a matrix 1 to 3 and 8; the matrix feed 1 to 6 and 8; the filler of an index 1 to 3 and 7 to 13; the prepared
- * feed 4 to 6 and 8, and 14 per byte; building and preparing 1 to 3, then 17, then 16; taking a segment 18; the watch_x_ functions 24, their opening then
+ * feed 4 to 6 and 8, and 14 per byte; building and preparing 1 to 3, then 17, then 16; taking a segment 18; feeding one 18 for the sizes, then what the feed of
+ * no bytes from the flow's offset gives, and then 6, 14 or 18 of a look; renewing 4; the watch_x_ functions 24, their opening then
  * 4 and 15, their feed 4, 5 and 6; the check of a certificate 1 to 3, then 24, then 22; compiling 20, 19 and 21; joining
  * 1 to 3, 27 and 28; folding 1 to 3 and 28; watch_why and watch_why_state 1 to 6, then 25, then 26; watch_edge 1 to 3 and
- * 26. A refusal other than 14 and 16 changes no buffer; 16, of building and of preparing alike, fills the lent lists with zeros.
+ * 26. A refusal other than 14 and 16 changes no buffer, and 16, of building and of preparing alike, fills the lent lists with zeros; but one that a look at a segment meets keeps what the looks before it did, and the
+ * bytes, pairs, flow and held place answered are those after them.
  *
  *
  * WHAT THE CALLER OWES
@@ -198,12 +219,12 @@
  * caller's, and a call that breaks it has no promise at all:
  *
  *   - Each pointer is good for its length, as C means it: x_len bytes can be read at x, and the flow_len bytes, the pairs_len words, the
- *     bytes of a matrix or an index that is filled, the lists that watch_build, watch_prepare and watch_compile are lent and the held buffer of watch_take can
- *     also be written, and so can run and work. pairs is aligned as a uint32_t, run as a uint16_t; nothing else has to be aligned.
+ *     bytes of a matrix or an index that is filled, the lists that watch_build, watch_prepare and watch_compile are lent and the held buffer of watch_take and of
+ *     the segment feeds can also be written, and so can run and work. pairs is aligned as a uint32_t, run as a uint16_t; nothing else has to be aligned.
  *   - Through a pointer with length 0 nothing is read or written, so it may point anywhere. Give one that is not NULL, as the
  *     address of any object: the code takes NULL with length 0 today, and that is tested, but it is no part of what is proved. NULL
  *     with another length is an error.
- *   - flow and pairs are written, by a filler its matrix or index, by watch_build its four lists, by watch_prepare its two, by watch_compile its list, and by watch_take the held buffer, so none
+ *   - flow and pairs are written, by a filler its matrix or index, by watch_build its four lists, by watch_prepare its two, by watch_compile its list, and by watch_take and the segment feeds the held buffer, so none
  *     overlaps another buffer of the call. The buffers that are only read may overlap one another, or be the same.
  *   - Nobody else writes any buffer of a call, or reads flow or pairs, while the call runs. Calls in several threads may share lists and
  *     tables; each has its own flow and pairs.
@@ -215,7 +236,7 @@
  *   - Stack: WATCH_MOST_STACK bytes below the caller's frame at most, whatever the input, return addresses and red zone counted; that is for
  *     watch_prepare and watch_fill_index, which keep the sets that the bytes lead to from a split there. watch_fold, which keeps numbers of
  *     states and records, takes 23,040, watch_check_certificate, which keeps the places of the records, 9,920, watch_join, which keeps the
- *     new numbers of states, 5,448, and all others but one 1,600 at most: watch_compile keeps a row for each state, 160
+ *     new numbers of states, 5,448, and all others but one 2,000 at most: watch_compile keeps a row for each state, 160
  *     KiB, goes as deep as the brackets do, and takes WATCH_COMPILE_STACK. tools/stack reads the number off the archive for each function, and
  *     tools/test-outside holds these to it.
  *   - No heap, no statics, no locks, no system calls: the archive has no data that can be written, and calls nothing outside itself but C's
@@ -230,6 +251,7 @@
  *   - The watch_x_ functions check both lists at every call, 360 instructions a state, 369,000 at 1,024 states; a byte whose state has a program of nothing
  *     then costs 19 instructions.
  *   - A look at a segment, watch_take and then watch_due, costs some 200 instructions, and a quarter of one for each byte that is held.
+ *     watch_feed_segment checks the list once more than its feed, at the door, and costs some 600 instructions beside for a segment that is due.
  *   - C++: the declarations have C linkage, no exception leaves a function, and the header compiles from C++98 on, where <stdint.h> and
  *     <stdbool.h> are there.
  *
@@ -251,7 +273,7 @@ extern "C" {
 #endif
 
 /* The version of the face that this header describes. */
-#define WATCH_VERSION 17
+#define WATCH_VERSION 18
 
 /* Bytes of stack that a call takes at most, and that one of watch_compile does. */
 #define WATCH_MOST_STACK 35008
@@ -435,10 +457,29 @@ typedef struct watch_held watch_held;
 struct watch_part {
     uint64_t at;     /* where it begins in the buffer that has it, */
     uint64_t length; /* and how many bytes it has; 0 where nothing is due */
-    uint32_t where;  /* 0 nothing is due, 1 it is in the held buffer, 2 in the segment */
+    uint32_t where;  /* one of enum watch_where */
 };
 
 typedef struct watch_part watch_part;
+
+/* Where the part is that is due: nothing is due, it is in the held buffer, or in the segment. */
+enum watch_where {
+    WATCH_DUE_NOWHERE = 0,
+    WATCH_DUE_HELD = 1,
+    WATCH_DUE_SEGMENT = 2
+};
+
+/* What feeding a segment answers. */
+struct watch_heard {
+    uint64_t bytes;       /* bytes passed down to the flow */
+    uint64_t pairs;       /* pairs written: twice as many words */
+    uint32_t refusal;     /* WATCH_PASSED, 0, or the number of the refusal */
+    uint32_t held_start;  /* the held place: the number of the first byte held, */
+    uint32_t held_length; /* and how many bytes are held; keep both for the next call */
+    bool all;             /* whether nothing is due any more; false with every refusal */
+};
+
+typedef struct watch_heard watch_heard;
 
 /* What compiling a text answers. */
 struct watch_compiled {
@@ -676,6 +717,41 @@ watch_part watch_due(uint32_t next,
                      uint32_t segment_start,
                      const uint8_t *segment, size_t segment_len);
 
+/* Feeds a segment to a flow by its list: at most four looks, each of which takes the segment and feeds
+ * what is due, until nothing is due, the pairs have no room, or a look is refused. The flow's first
+ * byte has number `first`, the segment's number `start`. Refusals at the door, 18 for the sizes first
+ * and then 1 to 6 of a feed of no bytes, answer 0 bytes, 0 pairs and the held place as it was handed
+ * in, and change nothing. 6 or 18 that a look meets keeps what the looks before it did: bytes, pairs,
+ * flow and held place are those after them, and the same segment would be refused again. The segment
+ * is to be sent again after an 18; after a 6 the flow is to be renewed. Where there is neither a
+ * refusal nor `all`, the pairs had no room: take them, and hand in the same segment again. With
+ * WATCH_ENOUGH_WORDS words each call then passes down at least one byte. flow, held and pairs are
+ * written, and none overlaps another buffer of the call. */
+watch_heard watch_feed_segment(const uint8_t *list, size_t list_len,
+                               uint8_t *flow, size_t flow_len,
+                               uint32_t first,
+                               uint8_t *held, size_t held_len,
+                               uint32_t held_start, uint32_t held_length,
+                               uint32_t start,
+                               const uint8_t *segment, size_t segment_len,
+                               uint32_t *pairs, size_t pairs_len);
+
+/* The same by a table: 1 to 9 after 18 at the door, and 14 of a look too, which keeps the bytes before
+ * it. */
+watch_heard watch_split_feed_segment(const uint8_t *list, size_t list_len,
+                                     uint64_t bound,
+                                     const uint8_t *classes, size_t classes_len,
+                                     const uint8_t *parts, size_t parts_len,
+                                     const uint8_t *rows, size_t rows_len,
+                                     const uint8_t *splits, size_t splits_len,
+                                     uint8_t *flow, size_t flow_len,
+                                     uint32_t first,
+                                     uint8_t *held, size_t held_len,
+                                     uint32_t held_start, uint32_t held_length,
+                                     uint32_t start,
+                                     const uint8_t *segment, size_t segment_len,
+                                     uint32_t *pairs, size_t pairs_len);
+
 /* The check of a certificate that an automaton with bits and counters is a list's: 0, or 1 to 3, then 24, then 22. It makes a step of the list and
  * of the automaton for each record and byte. */
 uint32_t watch_check_certificate(const uint8_t *list, size_t list_len,
@@ -739,6 +815,15 @@ uint32_t watch_why_state(const uint8_t *list, size_t list_len,
 /* The edge that a step of a run takes: the first record of the list that leads from one state to another on a byte. Refusals 1 to 3; 26 where no
  * record does, and for a byte over 255. */
 watch_found watch_edge(const uint8_t *list, size_t list_len, uint32_t from, uint32_t byte, uint32_t to);
+
+/* Renews the record of a list's flow: its frontier stays, offset and rows become 0. 4 where the
+ * record is not WATCH_FLOW_SIZE bytes long, its reserved bytes are not zero, or its rows read are more
+ * than WATCH_STATES x offset; no list is looked at. 4 changes nothing. */
+uint32_t watch_renew(uint8_t *flow, size_t flow_len);
+
+/* The offset of a record of WATCH_FLOW_SIZE or of WATCH_X_FLOW_SIZE bytes; of bytes of another length
+ * 18446744073709551615. Nothing else of the record is looked at. */
+uint64_t watch_offset(const uint8_t *flow, size_t flow_len);
 
 /* A size as text within a sentence. */
 #define WATCH_TEXT_OF(tokens) #tokens

@@ -1,4 +1,4 @@
-/* Watches a recorded line with resends over the C face: each look at a segment is watch_take, watch_due and watch_feed.
+/* Watches a recorded line with resends over the C face, by watch_feed_segment.
  *
  *     tools/build-c
  *     gcc -std=c11 -Wall -Wextra -Werror -Iinclude bindings/c/segments.c target/staticlib/libwatch_c.a -o target/segments
@@ -21,8 +21,7 @@
 static uint8_t list[WATCH_MOST_LIST + 1], flow[WATCH_FLOW_SIZE], held[WATCH_HELD_SIZE], segment[WATCH_MOST_SEGMENT];
 static uint32_t pairs[WATCH_ENOUGH_WORDS];
 static size_t list_len;
-static uint32_t first;
-static watch_held place;
+static uint32_t first, held_start, held_length;
 
 static FILE *opened(const char *name)
 {
@@ -34,35 +33,23 @@ static FILE *opened(const char *name)
     return file;
 }
 
-/* The offset of the record: the bytes that it has consumed. */
-static uint32_t offset(void)
-{
-    uint32_t value = 0;
-    for (int i = 3; i >= 0; i--)
-        value = value << 8 | flow[WATCH_OFFSET_AT + i];
-    return value;
-}
-
 static void tell(uint64_t count)
 {
     for (uint64_t i = 0; i < count; i++)
         printf("%" PRIu32 " %" PRIu32 "\n", pairs[2 * i], pairs[2 * i + 1]);
 }
 
-/* Looks at a segment until nothing is due; answers the refusal of the last look. */
+/* Hands in a segment until nothing is due any more, as often as its pairs have no room; answers the refusal. */
 static uint32_t hear(uint32_t start, size_t len)
 {
     for (;;) {
-        uint32_t next = first + offset();
-        place = watch_take(next, held, sizeof held, place.start, place.length, start, segment, len);
-        watch_part due = watch_due(next, held, sizeof held, place.start, place.length, start, segment, len);
-        if (due.where == 0)
-            return place.refusal;
-        const uint8_t *from = due.where == 1 ? held : segment;
-        watch_fed fed = watch_feed(list, list_len, flow, sizeof flow, offset(), from + due.at, due.length, pairs, WATCH_ENOUGH_WORDS);
-        if (fed.refusal != WATCH_PASSED)
-            return fed.refusal;
-        tell(fed.pairs);
+        watch_heard heard = watch_feed_segment(list, list_len, flow, sizeof flow, first, held, sizeof held, held_start, held_length, start, segment,
+                                               len, pairs, WATCH_ENOUGH_WORDS);
+        held_start = heard.held_start;
+        held_length = heard.held_length;
+        tell(heard.pairs);
+        if (heard.refusal != WATCH_PASSED || heard.all)
+            return heard.refusal;
     }
 }
 
@@ -100,6 +87,6 @@ int main(int argc, char **argv)
         fprintf(stderr, "segments: %s\n", watch_refusal_text(refusal));
         return 1;
     }
-    printf("end %" PRIu32 "\n", offset());
+    printf("end %" PRIu64 "\n", watch_offset(flow, sizeof flow));
     return 0;
 }

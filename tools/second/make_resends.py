@@ -18,7 +18,7 @@ from tape import block, digest, digest_words, u32
 
 SEED = 20261116
 MOST_WORDS = 600
-NEEDED = {"t": [0, 18], "o": [0], "g": [0, 1, 2, 3, 4, 6, 7, 8, 9, 14, 18]}
+NEEDED = {"t": [0, 18], "o": [0], "g": [0, 1, 2, 3, 4, 6, 7, 8, 9, 14, 18], "n": [0, 4]}
 
 
 def sown(count, seed):
@@ -46,7 +46,7 @@ class Tape:
     def _say(self, letter, values):
         self.lines.append("%s %s\n" % (letter, " ".join(str(int(value)) for value in values)))
         self.groups[-1][1] += 1
-        if letter != "d":
+        if letter not in "dz":
             key = letter, int(values[0])
             self.counts[key] = self.counts.get(key, 0) + 1
 
@@ -113,6 +113,16 @@ class Tape:
                         heard.held.length, digest_words(heard.words), digest(heard.record),
                         digest(heard.held.buffer)])
         return heard
+
+    def renew(self):
+        self.commands.append(b"n")
+        refusal, self.first, self.record = resends.renew(self.first, self.record)
+        self._say("n", [refusal, self.first, digest(self.record)])
+        return refusal
+
+    def offset(self):
+        self.commands.append(b"z")
+        self._say("z", [resends.offset(self.record)])
 
 
 def at(after, step):
@@ -327,8 +337,101 @@ def still_due(tape, dice):
         send(0, a_piece(dice, sample, ahead), MOST_WORDS)
 
 
+def any_record(dice):
+    """A record of any states, good but where `spoilt` makes it bad."""
+    offset = dice.pick([0, 1, 2, 255, 256, 65536, MOST_OFFSET - 1, MOST_OFFSET, dice.below(MOST_OFFSET)])
+    rows = dice.pick([0, 1, offset, STATES * offset - 1, STATES * offset])
+    return pack_flow(Flow(dice.subset(range(STATES), dice.pick([0, 1, 50, 100])), offset,
+                          max(0, min(rows, STATES * offset))))
+
+
+def spoilt(dice, record):
+    """A row too many; a reserved byte; another length."""
+    kind = dice.below(3)
+    if kind == 0:
+        flow = unpack_flow(record)
+        return pack_flow(flow._replace(rows=dice.pick([STATES * flow.offset + 1, 2 ** 64 - 1])))
+    if kind == 1:
+        place = RESERVED + dice.below(4)
+        return record[:place] + bytes([dice.pick([1, 255])]) + record[place + 1:]
+    size = dice.pick([0, 1, 48, 80, FLOW_SIZE - 1, FLOW_SIZE + 1, 2 * FLOW_SIZE])
+    return (record + dice.bytes(FLOW_SIZE))[:size]
+
+
+def renewals(tape, dice):
+    """Records of any states, the most rows and one more, reserved bytes, other lengths; each renewed twice."""
+    for turn in range(300):
+        record = any_record(dice)
+        tape.load_record(spoilt(dice, record) if turn % 2 else record)
+        tape.offset()
+        assert tape.renew() == (4 if turn % 2 else 0)
+        tape.renew()
+        tape.offset()
+
+
+def offsets(tape, dice):
+    """Any bytes, of either size of a record, one byte more and less, and others."""
+    for turn in range(60):
+        for size in (0, 4, 8, 79, 80, 81, FLOW_SIZE - 1, FLOW_SIZE, FLOW_SIZE + 1, 2 * FLOW_SIZE):
+            tape.load_record(dice.pick([dice.bytes(size), b"\xff" * size, bytes(size)]))
+            tape.offset()
+
+
+def renewed_flows(tape, dice):
+    """Flows that are renewed between segments. Here is checked that the pairs, with the bytes before
+    the last renewal added to each offset, are those of one plain feed of all that was passed down."""
+    for turn in range(70):
+        sample = any_list(dice)
+        if len(sample.data) > 4300:
+            continue
+        tape.sow_held(HELD_SIZE, turn)
+        tape.load_record(bytes(FLOW_SIZE))
+        tape.load_list(sample.data)
+        first = a_next(dice)
+        tape.open(first)
+        stream, down, told, before = a_piece(dice, sample, 400), b"", [], 0
+        for _ in range(14):
+            begin = max(0, len(down) + dice.pick([0, 0, 0, -1, -3, -9, 1, 4, 12]))
+            tape.load_segment(bytes(stream[begin:begin + dice.pick([0, 1, 2, 5, 9, 20])]))
+            heard = tape.hear(0, MOST_WORDS, at(first, begin))
+            down += heard.down
+            words = heard.words[:2 * heard.pairs]
+            told += [word + before * (i % 2) for i, word in enumerate(words)]
+            if dice.chance(40):
+                before += resends.offset(tape.record)
+                assert tape.renew() == 0
+                assert tape.first == at(first, before)
+        opened = model.open_flow(sample.data, bytes(FLOW_SIZE), [0] * MOST_WORDS)
+        once = model.plain_feed(sample.data, opened.record, 0, [0] * 100000, down)
+        assert once.all and once.words[:2 * once.pairs] == told
+        assert unpack_flow(once.record).frontier == unpack_flow(tape.record).frontier
+        assert before + unpack_flow(tape.record).offset == len(down)
+
+
+def past_the_end(tape, dice):
+    """A segment that ends past the largest offset gives 6, once and again; the renewed record takes it."""
+    sample = any_list(dice)
+    while len(sample.data) > 4300:
+        sample = any_list(dice)
+    tape.load_list(sample.data)
+    tape.sow_held(HELD_SIZE, 1)
+    for turn in range(66):
+        tape.load_record(bytes(FLOW_SIZE))
+        tape.open(a_next(dice))
+        offset = MOST_OFFSET - dice.below(6)
+        tape.load_record(pack_flow(Flow(sample.nfa.starts, offset, dice.below(9))))
+        tape.load_segment(a_piece(dice, sample, dice.between(6, 12)))
+        start = at(tape.first, offset)
+        for _ in range(2):
+            assert tape.hear(0, MOST_WORDS, start).refusal == 6
+        assert tape.renew() == 0
+        heard = tape.hear(0, MOST_WORDS, start)
+        assert heard.refusal == 0 and len(heard.down) == len(tape.segment)
+
+
 RESERVED = model.RESERVED_AT
-GROUPS = (worked, sizes, places, flows, limits, refusals, still_due)
+GROUPS = (worked, sizes, places, flows, limits, refusals, still_due, renewals, offsets,
+          renewed_flows, past_the_end)
 
 
 def make():

@@ -1,4 +1,4 @@
-"""Resends: segments by 32-bit sequence number, from the rules alone.
+"""Resends: segments by 32-bit sequence number, and renewals, from the rules alone.
 
 Every number is looked at from the next byte due, as a place: 0 is the next
 byte, above it lies what is to come, below it what came before.
@@ -7,7 +7,8 @@ byte, above it lies what is to come, below it what came before.
 from collections import namedtuple
 
 import model
-from model import HELD_SIZE, MOST_SEGMENT, OFFSET_AT, RESERVED_AT
+from bits import X_FLOW_SIZE
+from model import FLOW_SIZE, HELD_SIZE, MOST_SEGMENT, OFFSET_AT, RESERVED_AT, ROWS_AT, STATES
 
 CIRCLE = 2 ** 32
 HALF = 2 ** 31
@@ -91,3 +92,18 @@ def hear(feed, record, first, held, start, segment, words):
                          written + words[len(written):], record)
     return Heard(refusal, down, len(written) // 2, refusal == 0, held,
                  written + words[len(written):], record)
+
+
+def offset(record):
+    """The offset of a record of either size; of other bytes the largest number."""
+    at = {FLOW_SIZE: OFFSET_AT, X_FLOW_SIZE: 4}.get(len(record))
+    return 2 ** 64 - 1 if at is None else model.number(record[at:at + 4])
+
+
+def renew(first, record):
+    """The refusal, the number of the byte at offset 0 then, and the record then: the frontier stays, all else is 0."""
+    if len(record) != FLOW_SIZE or record[RESERVED_AT:ROWS_AT] != bytes(4):
+        return 4, first, record
+    if model.number(record[ROWS_AT:]) > STATES * offset(record):
+        return 4, first, record
+    return 0, (first + offset(record)) % CIRCLE, record[:OFFSET_AT] + bytes(FLOW_SIZE - OFFSET_AT)

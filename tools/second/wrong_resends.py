@@ -1,4 +1,4 @@
-"""Wrong versions of the resend rules, one at a time: how many lines of the stream change.
+"""Wrong versions of the rules of resends and renewals, one at a time: how many lines of the stream change.
 
   python3 tools/second/wrong_resends.py [words]
 """
@@ -30,6 +30,14 @@ WRONG = [
     ("the door looks at no rule", "    if door.refusal:\n", "    if door.refusal and part(due((first + offset) % CIRCLE, held, start, segment), held, segment):\n"),
     ("one look", "        if not all_of_it:\n", "        if True:\n"),
     ("18 of the first look stays", "        refusal, held = take(after, held, start, segment)\n", "        refusal, held = take(after, held, start, segment)\n        early = early if down else refusal\n        refusal = max(refusal, early)\n"),
+    ("a renewal clears the frontier", "record[:OFFSET_AT] + bytes(FLOW_SIZE - OFFSET_AT)", "bytes(FLOW_SIZE)"),
+    ("a renewal keeps the rows", "record[:OFFSET_AT] + bytes(FLOW_SIZE - OFFSET_AT)", "record[:OFFSET_AT] + bytes(8) + record[ROWS_AT:]"),
+    ("a renewal keeps the offset", "record[:OFFSET_AT] + bytes(FLOW_SIZE - OFFSET_AT)", "record[:RESERVED_AT] + bytes(FLOW_SIZE - RESERVED_AT)"),
+    ("the most rows are not renewed", "model.number(record[ROWS_AT:]) > STATES", "model.number(record[ROWS_AT:]) >= STATES"),
+    ("reserved bytes are not looked at", "len(record) != FLOW_SIZE or record[RESERVED_AT:ROWS_AT] != bytes(4)", "len(record) != FLOW_SIZE"),
+    ("the first number stays", "(first + offset(record)) % CIRCLE, record", "first, record"),
+    ("the offset of a list's record alone", "{FLOW_SIZE: OFFSET_AT, X_FLOW_SIZE: 4}", "{FLOW_SIZE: OFFSET_AT}"),
+    ("the offset of no record is 0", "2 ** 64 - 1 if at is None", "0 if at is None"),
 ]
 
 

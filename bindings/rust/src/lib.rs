@@ -382,6 +382,21 @@ impl Flow {
         u32::from_le_bytes(self.bytes[OFFSET_AT..RESERVED_AT].try_into().expect("4 bytes"))
     }
 
+    /// Renews the record, so that the flow goes on past the largest offset: the frontier stays, offset and rows become 0. Answers the offset that it
+    /// had, which is to be added to each offset told from here on. The pairs of offset 0 are not told again.
+    ///
+    /// # Errors
+    ///
+    /// 4, where reserved bytes are not zero or the rows read are more than 1,024 x offset; nothing changes then.
+    pub fn renew(&mut self) -> Result<u64, Refusal> {
+        // SAFETY: pointer and length are those of the record, which is borrowed over the call.
+        let offset = unsafe { raw::watch_offset(self.bytes.as_ptr(), self.bytes.len()) };
+        // SAFETY: the same.
+        let number = unsafe { raw::watch_renew(self.bytes.as_mut_ptr(), self.bytes.len()) };
+        Refusal::verdict(number)?;
+        Ok(offset)
+    }
+
     /// Rows read: for each byte consumed by a plain feed the states in the frontier before it, by a split feed the slots taken.
     pub fn rows_read(&self) -> u64 {
         u64::from_le_bytes(self.bytes[ROWS_AT..].try_into().expect("8 bytes"))

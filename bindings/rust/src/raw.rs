@@ -100,6 +100,24 @@ pub struct WatchPart {
     pub source: u32,
 }
 
+/// What feeding a segment answers, as C lays it out.
+#[repr(C)]
+#[derive(Clone, Copy, Debug, PartialEq, Eq)]
+pub struct WatchHeard {
+    /// Bytes passed down to the flow.
+    pub bytes: u64,
+    /// Pairs written.
+    pub pairs: u64,
+    /// 0, or the number of the refusal.
+    pub refusal: u32,
+    /// The held place: the number of the first byte held.
+    pub held_start: u32,
+    /// How many bytes are held.
+    pub held_length: u32,
+    /// Whether nothing is due any more.
+    pub all: bool,
+}
+
 /// What compiling a text answers, as C lays it out.
 #[repr(C)]
 #[derive(Clone, Copy, Debug, PartialEq, Eq)]
@@ -361,6 +379,51 @@ extern "C" {
         segment_len: usize,
     ) -> WatchPart;
 
+    /// Feeds a segment by the list: refusal 18, then 1 to 6. `flow`, `held` and `pairs` are written, and overlap nothing else of the call.
+    pub fn watch_feed_segment(
+        list: *const u8,
+        list_len: usize,
+        flow: *mut u8,
+        flow_len: usize,
+        first: u32,
+        held: *mut u8,
+        held_len: usize,
+        held_start: u32,
+        held_length: u32,
+        start: u32,
+        segment: *const u8,
+        segment_len: usize,
+        pairs: *mut u32,
+        pairs_len: usize,
+    ) -> WatchHeard;
+
+    /// Feeds a segment by a table: refusal 18, then 1 to 9, and 14.
+    pub fn watch_split_feed_segment(
+        list: *const u8,
+        list_len: usize,
+        bound: u64,
+        classes: *const u8,
+        classes_len: usize,
+        parts: *const u8,
+        parts_len: usize,
+        rows: *const u8,
+        rows_len: usize,
+        splits: *const u8,
+        splits_len: usize,
+        flow: *mut u8,
+        flow_len: usize,
+        first: u32,
+        held: *mut u8,
+        held_len: usize,
+        held_start: u32,
+        held_length: u32,
+        start: u32,
+        segment: *const u8,
+        segment_len: usize,
+        pairs: *mut u32,
+        pairs_len: usize,
+    ) -> WatchHeard;
+
     /// The check of a certificate that an automaton with bits and counters is a list's: refusals 1 to 3, then 24, then 22.
     pub fn watch_check_certificate(
         list: *const u8,
@@ -409,4 +472,10 @@ extern "C" {
 
     /// The first edge record that leads from one state to another on a byte: refusals 1 to 3 and 26.
     pub fn watch_edge(list: *const u8, list_len: usize, from: u32, byte: u32, to: u32) -> WatchFound;
+
+    /// Renews a list's flow record: refusal 4. `flow` is written.
+    pub fn watch_renew(flow: *mut u8, flow_len: usize) -> u32;
+
+    /// The offset of a flow record of either size; of another length the largest number.
+    pub fn watch_offset(flow: *const u8, flow_len: usize) -> u64;
 }

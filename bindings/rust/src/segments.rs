@@ -1,4 +1,4 @@
-use crate::{raw, Flow, List, Pair, Refusal, SplitError, Table, HELD_SIZE};
+use crate::{pairs_in, raw, Flow, List, Pair, Refusal, SplitError, Table, ENOUGH_WORDS, HELD_SIZE};
 use core::fmt;
 
 /// The held place: the number of the first byte held, and how many bytes are held. Save it behind the held buffer.
@@ -123,19 +123,38 @@ impl Segments {
 
     /// Feeds a segment to a flow by its list, and hands each pair to `told`.
     ///
-    /// A segment that has to be sent again is refused with [`Refusal::Segment`]; what was due before it has been fed all the same. After any other
-    /// refusal the flow can't go on: [`Refusal::TooLong`] where it has come to the largest offset, or a refusal of the record.
+    /// A segment that has to be sent again is refused with [`Refusal::Segment`]; what was due before it has been fed all the same. After
+    /// [`Refusal::TooLong`] the flow has come to the largest offset: [`renew`](Segments::renew) it, and hand in the same segment again. After any other
+    /// refusal the flow can't go on.
     pub fn feed(
         &mut self,
         list: &List<'_>,
         flow: &mut Flow,
         start: u32,
         segment: &[u8],
-        mut told: impl FnMut(Pair),
+        told: impl FnMut(Pair),
     ) -> Result<(), SplitError> {
-        self.looks(flow, start, segment, |flow, piece| {
-            let offset = u64::from(flow.offset());
-            Ok(flow.feed_all(list, offset, piece, &mut told).map(|_| ())?)
+        let (first, list) = (self.first, list.bytes);
+        self.hear(told, |place, buffer, words| {
+            // SAFETY: each slice is good for its length, and one that is borrowed for writing overlaps nothing.
+            unsafe {
+                raw::watch_feed_segment(
+                    list.as_ptr(),
+                    list.len(),
+                    flow.bytes.as_mut_ptr(),
+                    flow.bytes.len(),
+                    first,
+                    buffer.as_mut_ptr(),
+                    buffer.len(),
+                    place.start,
+                    place.length,
+                    start,
+                    segment.as_ptr(),
+                    segment.len(),
+                    words.as_mut_ptr(),
+                    words.len(),
+                )
+            }
         })
     }
 
@@ -146,29 +165,70 @@ impl Segments {
         flow: &mut Flow,
         start: u32,
         segment: &[u8],
-        mut told: impl FnMut(Pair),
+        told: impl FnMut(Pair),
     ) -> Result<(), SplitError> {
-        self.looks(flow, start, segment, |flow, piece| {
-            let offset = u64::from(flow.offset());
-            flow.split_feed_all(table, offset, piece, &mut told).map(|_| ())
+        let (first, list, lists) = (self.first, table.list.bytes, table.lists);
+        self.hear(told, |place, buffer, words| {
+            // SAFETY: as in `feed`.
+            unsafe {
+                raw::watch_split_feed_segment(
+                    list.as_ptr(),
+                    list.len(),
+                    table.bound,
+                    lists.classes.as_ptr(),
+                    lists.classes.len(),
+                    lists.parts.as_ptr(),
+                    lists.parts.len(),
+                    lists.rows.as_ptr(),
+                    lists.rows.len(),
+                    lists.splits.as_ptr(),
+                    lists.splits.len(),
+                    flow.bytes.as_mut_ptr(),
+                    flow.bytes.len(),
+                    first,
+                    buffer.as_mut_ptr(),
+                    buffer.len(),
+                    place.start,
+                    place.length,
+                    start,
+                    segment.as_ptr(),
+                    segment.len(),
+                    words.as_mut_ptr(),
+                    words.len(),
+                )
+            }
         })
     }
 
-    /// Looks at a segment until nothing is due: take, due, feed.
-    fn looks(
+    /// Renews the flow, so that it goes on past the largest offset, and moves the number of its first byte on by the offset that it had, which is
+    /// answered: add it to each offset told from here on. See [`Flow::renew`].
+    pub fn renew(&mut self, flow: &mut Flow) -> Result<u64, Refusal> {
+        let offset = flow.renew()?;
+        self.first = self.first.wrapping_add(offset as u32);
+        Ok(offset)
+    }
+
+    /// Hands in a segment until nothing is due any more, as often as its pairs have no room.
+    fn hear(
         &mut self,
-        flow: &mut Flow,
-        start: u32,
-        segment: &[u8],
-        mut feed: impl FnMut(&mut Flow, &[u8]) -> Result<(), SplitError>,
+        mut told: impl FnMut(Pair),
+        mut call: impl FnMut(Held, &mut [u8], &mut [u32]) -> raw::WatchHeard,
     ) -> Result<(), SplitError> {
+        let (mut bytes, mut pairs) = (0, 0);
         loop {
-            let taken = self.take(flow, start, segment);
-            let piece = self.due(flow, start, segment);
-            if piece.is_empty() {
-                return Ok(taken?);
+            let mut words = [0; ENOUGH_WORDS];
+            let heard = call(self.place, &mut self.buffer, &mut words);
+            self.place = Held { start: heard.held_start, length: heard.held_length };
+            pairs_in(&words[..2 * heard.pairs as usize]).for_each(&mut told);
+            bytes += heard.bytes as usize;
+            pairs += heard.pairs as usize;
+            match Refusal::verdict(heard.refusal) {
+                Ok(()) if heard.all => return Ok(()),
+                Ok(()) => {}
+                Err(Refusal::NoSplit) => return Err(SplitError::Halted { bytes, pairs }),
+                Err(Refusal::FlowRecord) if bytes > 0 => return Err(SplitError::Foreign { bytes, pairs }),
+                Err(refusal) => return Err(SplitError::Refused(refusal)),
             }
-            feed(flow, piece)?;
         }
     }
 }

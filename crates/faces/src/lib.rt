@@ -3,6 +3,7 @@ use watch_c::WatchBuilt;
 use watch_c::WatchCompiled;
 use watch_c::WatchFed;
 use watch_c::WatchFound;
+use watch_c::WatchHeard;
 use watch_c::WatchHeld;
 use watch_c::WatchJoined;
 use watch_c::WatchMade;
@@ -31,6 +32,10 @@ ghost use Rattle.folds.specs.Fold.{FoldAnswers};
 ghost use Rattle.watch_c.specs.Why.{faceFound};
 ghost use Rattle.reasons.specs.Run.{ofSignature, ofState};
 ghost use Rattle.reasons.specs.Reason.{Explains, Finds};
+ghost use Rattle.renewals.specs.Renewal.{Renews, offsetSaid};
+ghost use Rattle.segments.specs.Ways.{plainSegment, splitSegment};
+ghost use Rattle.segments.specs.Post.{Hears, sent, kept};
+ghost use Rattle.watch_c.specs.Segments.{faceHeard};
 ghost use Rattle.faces.specs.Faced.{held, heldOpen};
 ghost use Rattle.faces.specs.Resent.{heldPlace, partOf};
 
@@ -317,4 +322,87 @@ fn drive_edge(list: &[u8], from: u32, byte: u32, to: u32) -> WatchFound
     ensures { λ r. ⌜ Finds (now (list .entry)) from byte to (faceFound r) ⌝ }
 {
     watch_c::watch_edge(list, from, byte, to)
+}
+
+// Calls the exported name that renews a record.
+fn drive_renew(flow: &mut [u8]) -> u32
+    ensures { λ r. ⌜ Renews (now (flow .entry)) r (now (flow .exit)) ⌝ }
+{
+    watch_c::watch_renew(flow)
+}
+
+// Calls the exported name that answers a record's offset.
+fn drive_offset(flow: &[u8]) -> u64
+    ensures { λ r. ⌜ r ≡ offsetSaid (now (flow .entry)) ⌝ }
+{
+    watch_c::watch_offset(flow)
+}
+
+// Calls the exported name that feeds a segment by the list alone.
+fn drive_feed_segment(
+    list: &[u8],
+    flow: &mut [u8],
+    first: u32,
+    held: &mut [u8],
+    held_start: u32,
+    held_length: u32,
+    start: u32,
+    segment: &[u8],
+    pairs: &mut [u32],
+) -> WatchHeard
+    ensures { λ r. ⌜ Hears (plainSegment (now (list .entry)) (sent first start (now (segment .entry)))
+        (kept (now (flow .entry)) (now (held .entry)) «held_start» «held_length») (now (pairs .entry)))
+        (faceHeard r) (now (pairs .exit)) (now (flow .exit)) (now (held .exit)) ⌝ }
+{
+    watch_c::watch_feed_segment(
+        list,
+        flow,
+        first,
+        held,
+        held_start,
+        held_length,
+        start,
+        segment,
+        pairs,
+    )
+}
+
+// Calls the exported name that feeds a segment by the table.
+fn drive_split_feed_segment(
+    list: &[u8],
+    bound: u64,
+    classes: &[u8],
+    parts: &[u8],
+    rows: &[u8],
+    splits: &[u8],
+    flow: &mut [u8],
+    first: u32,
+    held: &mut [u8],
+    held_start: u32,
+    held_length: u32,
+    start: u32,
+    segment: &[u8],
+    pairs: &mut [u32],
+) -> WatchHeard
+    ensures { λ r. ⌜ Hears (splitSegment (now (list .entry)) bound
+        (table (now (classes .entry)) (now (parts .entry)) (now (rows .entry)) (now (splits .entry))) (sent first start (now (segment .entry)))
+        (kept (now (flow .entry)) (now (held .entry)) «held_start» «held_length») (now (pairs .entry)))
+        (faceHeard r) (now (pairs .exit)) (now (flow .exit)) (now (held .exit)) ⌝ }
+{
+    watch_c::watch_split_feed_segment(
+        list,
+        bound,
+        classes,
+        parts,
+        rows,
+        splits,
+        flow,
+        first,
+        held,
+        held_start,
+        held_length,
+        start,
+        segment,
+        pairs,
+    )
 }

@@ -303,3 +303,31 @@ pub fn hear(
         length: h.length,
     }
 }
+
+// The number of the byte at offset 0 of a renewed record, which was the one at an offset before.
+fn moved(first: u32, offset: u64) -> u32 {
+    std::num::wrapping_add_u32(first, (offset % 4294967296) as u32)
+}
+
+// Replays a renewal of the record; answers the place, with the first byte's number moved on where it is not refused.
+pub fn renew(place: Place, flow: &mut [u8]) -> Place {
+    let offset = renewals::offset(flow);
+    let refusal = renewals::renew(flow);
+    let mut left = place;
+    if refusal == 0 {
+        left.first = moved(place.first, offset);
+    }
+    tape::begin(b'n');
+    tape::put(refusal as u64);
+    tape::put(left.first as u64);
+    tape::put(tape::digest(flow));
+    tape::end();
+    left
+}
+
+// Replays the question for a record's offset.
+pub fn offset(flow: &[u8]) {
+    tape::begin(b'z');
+    tape::put(renewals::offset(flow));
+    tape::end();
+}

@@ -1,4 +1,4 @@
-// The program of the resend vectors: it replays the commands of standard input through the library, and writes a line for each that answers.
+// The program of the vectors of resends and renewals: it replays the commands of standard input through the library, and writes a line for each that answers.
 use replays::Call;
 use replays::Place;
 use tape::Table;
@@ -71,6 +71,14 @@ fn open(list: &[u8], flow: &mut [u8], mut s: Sizes) -> Sizes {
     s
 }
 
+// Replays a renewal.
+fn renew(flow: &mut [u8], mut s: Sizes) -> Sizes {
+    let place = s.place;
+    let left = replays::renew(place, flow);
+    s.place = left;
+    s
+}
+
 // Replays a command that answers, on what is in use.
 fn answer(
     command: u8,
@@ -86,6 +94,13 @@ fn answer(
     }
     if command == b'g' {
         return hear(list, table, flow, held, segment, s);
+    }
+    if command == b'n' {
+        return renew(flow, s);
+    }
+    if command == b'z' {
+        replays::offset(flow);
+        return s;
     }
     replays::take(command, held, segment);
     s

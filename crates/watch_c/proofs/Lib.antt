@@ -1,2 +1,3 @@
 pub mod Facing
 pub mod Resent
+pub mod Segments

@@ -1,3 +1,4 @@
 pub mod Face
 pub mod Resent
+pub mod Segments
 pub mod Why

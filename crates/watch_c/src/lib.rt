@@ -1,4 +1,4 @@
-// The C face: the library's twenty-three functions under names of their own, over numbers and slices, and the face's version. Nothing else is here.
+// The C face: the library's twenty-seven functions under names of their own, over numbers and slices, and the face's version. Nothing else is here.
 use feeds::Fed;
 use indexed::Stood;
 ghost use mathlib.Core.Path.{_≡_};
@@ -25,9 +25,13 @@ ghost use Rattle.folds.specs.Fold.{FoldAnswers};
 ghost use Rattle.reasons.specs.Run.{ofSignature, ofState};
 ghost use Rattle.reasons.specs.Reason.{Explains, Finds};
 ghost use Rattle.watch_c.specs.Why.{faceFound};
+ghost use Rattle.renewals.specs.Renewal.{Renews, offsetSaid};
+ghost use Rattle.segments.specs.Ways.{plainSegment, splitSegment};
+ghost use Rattle.segments.specs.Post.{Hears, sent, kept};
+ghost use Rattle.watch_c.specs.Segments.{faceHeard};
 
 // The version of the face, by which a caller compares its header with the archive.
-pub const VERSION: u32 = 17;
+pub const VERSION: u32 = 18;
 
 // What a feed answers, as C lays it out.
 #[repr(C)]
@@ -506,5 +510,120 @@ pub extern "C" fn watch_edge(list: &[u8], from: u32, byte: u32, to: u32) -> Watc
     WatchFound {
         place: found.place as u64,
         refusal: found.refusal,
+    }
+}
+
+// Renews a list's flow record: its frontier stays, offset and rows become 0. 0, or 4, which leaves the record as it is.
+#[no_mangle]
+pub extern "C" fn watch_renew(flow: &mut [u8]) -> u32
+    ensures { λ r. ⌜ Renews (now (flow .entry)) r (now (flow .exit)) ⌝ }
+{
+    renewals::renew(flow)
+}
+
+// The offset of a flow record of either size; of another length 18,446,744,073,709,551,615.
+#[no_mangle]
+pub extern "C" fn watch_offset(flow: &[u8]) -> u64
+    ensures { λ r. ⌜ r ≡ offsetSaid (now (flow .entry)) ⌝ }
+{
+    renewals::offset(flow)
+}
+
+// What feeding a segment answers, as C lays it out; the held place at exit is `held_start` and `held_length` there.
+#[repr(C)]
+pub struct WatchHeard {
+    pub bytes: u64,
+    pub pairs: u64,
+    pub refusal: u32,
+    pub start: u32,
+    pub length: u32,
+    pub all: bool,
+}
+
+// Feeds a segment to a flow by its list alone: at most four looks. A refusal at the door changes nothing; one that a later look meets keeps what
+// the looks before it did.
+#[no_mangle]
+pub extern "C" fn watch_feed_segment(
+    list: &[u8],
+    flow: &mut [u8],
+    first: u32,
+    held: &mut [u8],
+    held_start: u32,
+    held_length: u32,
+    start: u32,
+    segment: &[u8],
+    pairs: &mut [u32],
+) -> WatchHeard
+    ensures { λ r. ⌜ Hears (plainSegment (now (list .entry)) (sent first start (now (segment .entry)))
+        (kept (now (flow .entry)) (now (held .entry)) «held_start» «held_length») (now (pairs .entry)))
+        (faceHeard r) (now (pairs .exit)) (now (flow .exit)) (now (held .exit)) ⌝ }
+{
+    let h = segments::feed_segment(
+        list,
+        flow,
+        first,
+        held,
+        held_start,
+        held_length,
+        start,
+        segment,
+        pairs,
+    );
+    WatchHeard {
+        bytes: h.bytes as u64,
+        pairs: h.pairs as u64,
+        refusal: h.refusal,
+        start: h.start,
+        length: h.length,
+        all: h.all,
+    }
+}
+
+// Feeds a segment to a flow by its table, in the same way.
+#[no_mangle]
+pub extern "C" fn watch_split_feed_segment(
+    list: &[u8],
+    bound: u64,
+    classes: &[u8],
+    parts: &[u8],
+    rows: &[u8],
+    splits: &[u8],
+    flow: &mut [u8],
+    first: u32,
+    held: &mut [u8],
+    held_start: u32,
+    held_length: u32,
+    start: u32,
+    segment: &[u8],
+    pairs: &mut [u32],
+) -> WatchHeard
+    ensures { λ r. ⌜ Hears (splitSegment (now (list .entry)) bound
+        (table (now (classes .entry)) (now (parts .entry)) (now (rows .entry)) (now (splits .entry))) (sent first start (now (segment .entry)))
+        (kept (now (flow .entry)) (now (held .entry)) «held_start» «held_length») (now (pairs .entry)))
+        (faceHeard r) (now (pairs .exit)) (now (flow .exit)) (now (held .exit)) ⌝ }
+{
+    let h = segments::split_feed_segment(
+        list,
+        bound,
+        classes,
+        parts,
+        rows,
+        splits,
+        flow,
+        first,
+        held,
+        held_start,
+        held_length,
+        start,
+        segment,
+        pairs,
+    );
+    WatchHeard {
+        bytes: h.bytes as u64,
+        pairs: h.pairs as u64,
+        refusal: h.refusal,
+        start: h.start,
+        length: h.length,
+        all: h.all,
     }
 }
