@@ -1,5 +1,6 @@
 //! The automaton with bits and counters: the proved functions, ordinary Rust of the same algorithm, and the rows that compare them.
 use crate::ordinary::Fed;
+use crate::raw::{watch_x_check, watch_x_feed, watch_x_open};
 
 const MOVE_SIZE: usize = 512;
 const PROGRAM_SIZE: usize = 32;
@@ -284,52 +285,6 @@ pub fn by_rust(work: &Work, record: &mut [u8], pairs: &mut [u32]) -> Fed {
             feed(moves, programs, record, 0, piece, pairs)
         }
     }
-}
-
-#[repr(C)]
-struct WatchFed {
-    bytes: u64,
-    pairs: u64,
-    refusal: u32,
-    all: bool,
-}
-
-#[repr(C)]
-struct WatchOpened {
-    pairs: u64,
-    refusal: u32,
-}
-
-extern "C" {
-    fn watch_x_check(
-        moves: *const u8,
-        moves_len: usize,
-        programs: *const u8,
-        programs_len: usize,
-    ) -> u32;
-    fn watch_x_open(
-        moves: *const u8,
-        moves_len: usize,
-        programs: *const u8,
-        programs_len: usize,
-        flow: *mut u8,
-        flow_len: usize,
-        pairs: *mut u32,
-        pairs_len: usize,
-    ) -> WatchOpened;
-    fn watch_x_feed(
-        moves: *const u8,
-        moves_len: usize,
-        programs: *const u8,
-        programs_len: usize,
-        flow: *mut u8,
-        flow_len: usize,
-        start: u64,
-        piece: *const u8,
-        piece_len: usize,
-        pairs: *mut u32,
-        pairs_len: usize,
-    ) -> WatchFed;
 }
 
 /// The row by the proved code.

@@ -1,4 +1,5 @@
 //! 64 texts of orders as one list, by the proved library: each compiled, and joined to those before it; and the same folded after each join.
+use crate::raw::{watch_compile, watch_fold, watch_join};
 use crate::sizes::{MOST_RECORDS, RECORD_BYTES};
 
 /// The texts, a line each; signatures count from 0.
@@ -7,42 +8,6 @@ const TEXTS: &str = include_str!("../traffic/plain64.txt");
 /// A feeder's line, and one with many pairs.
 pub const FEEDER: &[u8] = include_bytes!("../traffic/plain64-feeder");
 pub const DENSE: &[u8] = include_bytes!("../traffic/plain64-dense");
-
-#[repr(C)]
-struct WatchCompiled {
-    place: u64,
-    length: u64,
-    refusal: u32,
-}
-
-#[repr(C)]
-struct WatchJoined {
-    length: u64,
-    refusal: u32,
-}
-
-extern "C" {
-    fn watch_compile(
-        text: *const u8,
-        text_len: usize,
-        signature: u8,
-        list: *mut u8,
-        list_len: usize,
-    ) -> WatchCompiled;
-    fn watch_join(
-        list: *mut u8,
-        list_len: usize,
-        used: u64,
-        other: *const u8,
-        other_len: usize,
-    ) -> WatchJoined;
-    fn watch_fold(
-        list: *const u8,
-        list_len: usize,
-        folded: *mut u8,
-        folded_len: usize,
-    ) -> WatchJoined;
-}
 
 const ROOM: usize = MOST_RECORDS * RECORD_BYTES;
 

@@ -17,6 +17,9 @@ mod later;
 mod ordinary;
 mod places;
 mod proved;
+#[allow(dead_code)]
+#[path = "../../bindings/rust/src/raw.rs"]
+mod raw;
 mod reasons;
 mod resends;
 mod sizes;

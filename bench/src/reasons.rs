@@ -1,6 +1,7 @@
 //! Why a pair is due: the proved question, ordinary Rust of the same algorithm, and the rows that compare them. A call asks why of the last pair of its piece.
 use crate::inputs;
 use crate::ordinary::{accepted, check_list, records, start_set, step, Fed, States};
+use crate::raw::watch_why;
 use crate::sizes::{FLOW_BYTES, SET_BYTES, STATES};
 
 /// What is asked: a list, an opened record, the bytes of a flow, and the signature that ends with them.
@@ -103,24 +104,6 @@ pub fn by_rust(work: &Work, place: &mut Vec<u8>) -> Fed {
     place.resize(SET_BYTES * run.len(), 0);
     let refusal = why(work, &mut run, place);
     answered(refusal, &run)
-}
-
-extern "C" {
-    fn watch_why(
-        list: *const u8,
-        list_len: usize,
-        flow: *const u8,
-        flow_len: usize,
-        start: u64,
-        piece: *const u8,
-        piece_len: usize,
-        signature: u32,
-        offset: u64,
-        run: *mut u16,
-        run_len: usize,
-        work: *mut u8,
-        work_len: usize,
-    ) -> u32;
 }
 
 /// The row by the proved function.

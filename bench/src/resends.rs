@@ -1,25 +1,11 @@
 //! Segments by sequence number: the proved functions, ordinary Rust of the same algorithm, and the rows that compare them. A call takes a segment and asks
 //! for the part that is then due.
 use crate::ordinary::Fed;
+use crate::raw::{watch_due, watch_take, WatchHeld as Held, WatchPart as Part};
 
 const MOST_SEGMENT: usize = 65535;
 pub const HELD_SIZE: usize = 4096;
 const HALF: u32 = 1 << 31;
-
-#[repr(C)]
-#[derive(Clone, Copy)]
-struct Held {
-    refusal: u32,
-    start: u32,
-    length: u32,
-}
-
-#[repr(C)]
-struct Part {
-    at: u64,
-    length: u64,
-    source: u32,
-}
 
 /// What is asked: the next number, the held place, and a segment.
 pub struct Work {
@@ -114,29 +100,6 @@ pub fn by_rust(work: &Work, held: &mut [u8]) -> Fed {
     let place = take(next, held, work.start, work.length, first, &work.segment);
     let part = due(next, held, place.start, place.length, first, &work.segment);
     answered(place, part)
-}
-
-extern "C" {
-    fn watch_take(
-        next: u32,
-        held: *mut u8,
-        held_len: usize,
-        held_start: u32,
-        held_length: u32,
-        segment_start: u32,
-        segment: *const u8,
-        segment_len: usize,
-    ) -> Held;
-    fn watch_due(
-        next: u32,
-        held: *const u8,
-        held_len: usize,
-        held_start: u32,
-        held_length: u32,
-        segment_start: u32,
-        segment: *const u8,
-        segment_len: usize,
-    ) -> Part;
 }
 
 /// The row by the proved code.

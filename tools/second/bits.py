@@ -7,19 +7,15 @@ the edges of this file only. Every function takes any bytes and gives the answer
 import struct
 from collections import namedtuple
 from functools import lru_cache
+from sizes import (
+    X_BITS, X_COUNTERS, X_FLOW_SIZE, X_MOVES_SIZE, X_OFF, X_PROGRAM_SIZE, X_STATES,
+)
 
 # The sizes and limits of the rules.
-X_STATES = 1024
 SIGNATURES = 256
-X_BITS = 64
-X_COUNTERS = 16
 MOST_NUMBER = 65535  # that a counter is set to
-X_OFF = 65536  # how a counter that is off is written in a flow record
-X_MOVES_SIZE = 512  # bytes of a state's moves
 RECORDS = 8  # in a program
 RECORD_SIZE = 4
-X_PROGRAM_SIZE = 32  # RECORDS records of RECORD_SIZE bytes
-X_FLOW_SIZE = 80
 MOST_OFFSET = 4294967295
 
 NOTHING, SET, CLEAR, COUNT, STOP, LOWER, ALERT, ALERT_BIT, ALERT_ZERO = range(9)

@@ -5,9 +5,8 @@ A certificate is read into a dict: a configuration, a set of list states. Every 
 
 import bits
 import model
+from sizes import MOST_NOTES, NOTE_SIZE
 
-NOTE_SIZE = 204  # bytes of a record: a flow record of bits.py without its offset, then a set of list states
-MOST_NOTES = 4096
 CONFIG_SIZE = 76
 
 START = bits.Config(0, frozenset(), {})

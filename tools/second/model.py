@@ -7,42 +7,16 @@ bytes and gives the answer that the rules fix for them.
 
 from collections import namedtuple
 from functools import lru_cache
+from sizes import (
+    BYTE_VALUES, ENOUGH_WORDS, ENTRY_SIZE, FLOW_SIZE, HELD_SIZE, LENT_CLASSES, LENT_PARTS,
+    LENT_ROWS, LENT_SPLITS, MOST_BOUND, MOST_CLASS, MOST_INDEX, MOST_LIST, MOST_MATRIX,
+    MOST_OFFSET, MOST_PARTS, MOST_RECORDS, MOST_SEGMENT, MOST_SPLITS, OFFSET_AT, PREPARE_INDEX,
+    PREPARE_SPLITS, RECORD_SIZE, RESERVED_AT, ROWS_AT, ROW_SIZE, SET_SIZE, SIGNATURES, SLOTS,
+    SPLIT_SIZE, STATES, TELLING, UNUSED,
+)
 
 # The sizes and limits of the rules. What follows from another one is written so.
-STATES = 1024  # states are the numbers below this one
-SIGNATURES = 256  # and signatures those below this one
-SET_SIZE = STATES // 8  # bytes in a set
-RECORD_SIZE = 8  # bytes in a record of the list
-MOST_RECORDS = 8192
-MOST_LIST = MOST_RECORDS * RECORD_SIZE  # bytes of the longest list
-OFFSET_AT = SET_SIZE  # places in a flow record, which begins with a set
-RESERVED_AT = OFFSET_AT + 4
-ROWS_AT = RESERVED_AT + 4
-FLOW_SIZE = ROWS_AT + 8  # bytes in a flow record
-MOST_OFFSET = 4294967295
-ENOUGH_WORDS = 2 * SIGNATURES  # words with which a feed never stands still, and opening gives no 15
-BYTE_VALUES = 256  # bytes that a piece may have, each with a class
-MOST_CLASS = 63
-MOST_PARTS = 1024
-MOST_SPLITS = 4096
-MOST_BOUND = 4
-SLOTS = 4  # in a split
-UNUSED = 65535  # the number in a slot that is not in use
-SPLIT_SIZE = SET_SIZE + 2 * SLOTS  # bytes in a split
-ROW_SIZE = BYTE_VALUES * SET_SIZE  # bytes of a matrix for one state
-MOST_MATRIX = STATES * ROW_SIZE  # and for all states
-ENTRY_SIZE = 1088  # bytes of a split in an index
-MOST_INDEX = SET_SIZE + ENTRY_SIZE * MOST_SPLITS  # bytes of the longest index
-TELLING = 2147483648  # what a word of an index has more where its entry tells
-PREPARE_SPLITS = SPLIT_SIZE * MOST_SPLITS  # bytes that the lists have to have that a list is prepared in
-PREPARE_INDEX = MOST_INDEX
-LENT_CLASSES = BYTE_VALUES  # bytes that each list lent to the builder has to have
-LENT_PARTS = SET_SIZE * MOST_PARTS
-LENT_ROWS = SET_SIZE * MOST_PARTS * (MOST_CLASS + 1)
-LENT_SPLITS = SPLIT_SIZE * MOST_PARTS
 LENT = (LENT_CLASSES, LENT_PARTS, LENT_ROWS, LENT_SPLITS)
-MOST_SEGMENT = 65535  # bytes of a segment
-HELD_SIZE = 4096  # bytes of the held buffer
 
 Accept = namedtuple("Accept", "state signature")
 Flow = namedtuple("Flow", "frontier offset rows")

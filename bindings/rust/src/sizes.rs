@@ -1,7 +1,7 @@
 //! The sizes and limits of the formats, under the names that `include/watch.h` gives them after `WATCH_`. What follows from another one
-//! is written so. `tools/sizes` in the repository holds them to the constants of the proved code.
+//! is written so. tools/face writes this file, and holds the numbers to the constants of the proved code.
 
-/// The version of the C face that this crate is written for. [`List::check`](crate::List::check) compares it with the archive's.
+/// The version of the face.
 pub const VERSION: u32 = 18;
 
 /// States are the numbers below this one.
@@ -37,7 +37,8 @@ pub const FLOW_SIZE: usize = ROWS_AT + 8;
 /// The largest offset.
 pub const MOST_OFFSET: u64 = 4_294_967_295;
 
-/// Words with which a feed never stands still, and an opening is never refused with 15: room for a pair of each signature.
+/// Words with which a feed never stands still, and an opening is never refused with 15: room for a
+/// pair of each signature.
 pub const ENOUGH_WORDS: usize = 2 * SIGNATURES;
 
 /// Bytes that a piece may have; each has a class.
@@ -79,12 +80,6 @@ pub const MOST_INDEX: usize = SET_SIZE + ENTRY_SIZE * MOST_SPLITS;
 /// What a word of an index has more where the entry that it leads to tells.
 pub const TELLING: u32 = 2_147_483_648;
 
-/// The bytes that splits prepared straight from a list need.
-pub const PREPARE_SPLITS: usize = SPLIT_SIZE * MOST_SPLITS;
-
-/// The bytes that their index needs.
-pub const PREPARE_INDEX: usize = MOST_INDEX;
-
 /// The bytes that the classes of a table that is built need.
 pub const LENT_CLASSES: usize = BYTE_VALUES;
 
@@ -96,6 +91,12 @@ pub const LENT_ROWS: usize = SET_SIZE * MOST_PARTS * (MOST_CLASS as usize + 1);
 
 /// The bytes that its splits need.
 pub const LENT_SPLITS: usize = SPLIT_SIZE * MOST_PARTS;
+
+/// The bytes that splits prepared straight from a list need.
+pub const PREPARE_SPLITS: usize = SPLIT_SIZE * MOST_SPLITS;
+
+/// The bytes that their index needs.
+pub const PREPARE_INDEX: usize = MOST_INDEX;
 
 /// The most states of an automaton with bits and counters.
 pub const X_STATES: usize = 1024;
@@ -124,7 +125,8 @@ pub const MOST_SEGMENT: usize = 65_535;
 /// Bytes of the held buffer.
 pub const HELD_SIZE: usize = 4096;
 
-/// Bytes in a record of a certificate: a flow record of an automaton with bits and counters without its offset, then a set of list states.
+/// Bytes in a record of a certificate: a flow record of an automaton with bits and counters without
+/// its offset, then a set of list states.
 pub const NOTE_SIZE: usize = X_FLOW_SIZE - 4 + SET_SIZE;
 
 /// The most records of a certificate.

@@ -1,5 +1,22 @@
 use crate::{raw, Flow, List, Refusal, FLOW_SIZE, SET_SIZE};
 
+/// The two questions why: list, flow, start, piece, signature or state, offset, run and work.
+type WatchWhy = unsafe extern "C" fn(
+    *const u8,
+    usize,
+    *const u8,
+    usize,
+    u64,
+    *const u8,
+    usize,
+    u32,
+    u64,
+    *mut u16,
+    usize,
+    *mut u8,
+    usize,
+) -> u32;
+
 /// What is asked of an offset.
 #[derive(Clone, Copy, Debug, PartialEq, Eq, Hash)]
 pub enum Question {
@@ -42,7 +59,7 @@ impl List<'_> {
         work: &mut [u8],
     ) -> Result<&'r [u16], Refusal> {
         let start = u64::from(flow.offset());
-        let (call, asked): (raw::WatchWhy, u32) = match question {
+        let (call, asked): (WatchWhy, u32) = match question {
             Question::Signature(signature) => (raw::watch_why, signature),
             Question::State(state) => (raw::watch_why_state, state),
         };
