@@ -252,31 +252,33 @@
  * What each function refuses, in the order in which it is looked for:
  *
  * (face: calls)
- *     watch_check_list           1 to 3
- *     watch_open                 1 to 4, 15
- *     watch_feed                 1 to 6
- *     watch_check_table          1 to 3, 7 to 13
- *     watch_split_feed           1 to 9; then 14 at a byte
- *     watch_fill_matrix          1 to 3, 8
- *     watch_matrix_feed          1 to 6, 8
- *     watch_fill_index           1 to 3, 7 to 13
- *     watch_prepared_feed        4 to 6, 8; then 14 at a byte
- *     watch_prepare              1 to 3; then 17; then 16
- *     watch_build                1 to 3; then 17; then 16
- *     watch_x_check              24
- *     watch_x_open               24; then 4, 15
- *     watch_x_feed               24; then 4 to 6
- *     watch_take                 18
- *     watch_feed_segment         18 of the sizes; then 1 to 6; then 6, 18 of a look
- *     watch_split_feed_segment   18 of the sizes; then 1 to 9; then 6, 14, 18 of a look
- *     watch_check_certificate    1 to 3; then 24; then 22
- *     watch_compile              20 or 19, the one that stands first in the text; then 21
- *     watch_join                 1 to 3, 27, 28
- *     watch_fold                 1 to 3, 28
- *     watch_why                  1 to 6; then 25; then 26
- *     watch_why_state            1 to 6; then 25; then 26
- *     watch_edge                 1 to 3; then 26
- *     watch_renew                4
+ *     watch_check_list              1 to 3
+ *     watch_open                    1 to 4, 15
+ *     watch_feed                    1 to 6
+ *     watch_check_table             1 to 3, 7 to 13
+ *     watch_split_feed              1 to 9; then 14 at a byte
+ *     watch_fill_matrix             1 to 3, 8
+ *     watch_matrix_feed             1 to 6, 8
+ *     watch_fill_index              1 to 3, 7 to 13
+ *     watch_prepared_feed           4 to 6, 8; then 14 at a byte
+ *     watch_prepare                 1 to 3; then 17; then 16
+ *     watch_build                   1 to 3; then 17; then 16
+ *     watch_x_check                 24
+ *     watch_x_open                  24; then 4, 15
+ *     watch_x_feed                  24; then 4 to 6
+ *     watch_take                    18
+ *     watch_feed_segment            18 of the sizes; then 1 to 6; then 6, 18 of a look
+ *     watch_split_feed_segment      18 of the sizes; then 1 to 9; then 6, 14, 18 of a look
+ *     watch_prepared_feed_segment   18 of the sizes; then 4 to 6, 8; then 6, 14, 18 of a look
+ *     watch_x_feed_segment          18 of the sizes; then 24; then 4 to 6; then 6, 18 of a look
+ *     watch_check_certificate       1 to 3; then 24; then 22
+ *     watch_compile                 20 or 19, the one that stands first in the text; then 21
+ *     watch_join                    1 to 3, 27, 28
+ *     watch_fold                    1 to 3, 28
+ *     watch_why                     1 to 6; then 25; then 26
+ *     watch_why_state               1 to 6; then 25; then 26
+ *     watch_edge                    1 to 3; then 26
+ *     watch_renew                   4
  * (face: end)
  *
  * A refusal other than 14 and 16 changes no buffer, and 16, of building and of preparing alike,
@@ -363,7 +365,7 @@ extern "C" {
 
 /* (face: sizes) */
 /* The version of the face. */
-#define WATCH_VERSION 18
+#define WATCH_VERSION 19
 
 /* Bytes of stack that a call takes at most, but for one of watch_compile. */
 #define WATCH_MOST_STACK 38592
@@ -627,6 +629,21 @@ struct watch_heard {
 
 typedef struct watch_heard watch_heard;
 
+/* What feeding a segment by an index answers: the same, and the split. */
+struct watch_heard_at {
+    uint64_t bytes;       /* bytes passed down to the flow */
+    uint64_t pairs;       /* pairs written: twice as many words */
+    uint32_t refusal;     /* WATCH_PASSED, 0, or the number of the refusal */
+    uint32_t held_start;  /* the held place: the number of the first byte held, */
+    uint32_t held_length; /* and how many bytes are held; keep both for the next call */
+    bool all;             /* whether nothing is due any more; false with every refusal */
+    uint32_t split;       /* where the flow then stands, as the last feed among the looks
+                            * answered it: with a 6 the hint handed in, and the hint too where no
+                            * look fed anything */
+};
+
+typedef struct watch_heard_at watch_heard_at;
+
 /* What compiling a text answers. */
 struct watch_compiled {
     uint64_t place;   /* with 19, where the text goes wrong, counted from 0; else 0 */
@@ -682,6 +699,11 @@ static_assert(sizeof(watch_heard) == 32 && offsetof(watch_heard, pairs) == 8 &&
               offsetof(watch_heard, refusal) == 16 && offsetof(watch_heard, held_start) == 20 &&
               offsetof(watch_heard, held_length) == 24 && offsetof(watch_heard, all) == 28,
               "watch.h: the layout is that of x86-64");
+static_assert(sizeof(watch_heard_at) == 40 && offsetof(watch_heard_at, pairs) == 8 &&
+              offsetof(watch_heard_at, refusal) == 16 && offsetof(watch_heard_at, held_start) == 20
+              && offsetof(watch_heard_at, held_length) == 24 && offsetof(watch_heard_at, all) == 28
+              && offsetof(watch_heard_at, split) == 32,
+              "watch.h: the layout is that of x86-64");
 static_assert(sizeof(watch_compiled) == 24 && offsetof(watch_compiled, length) == 8 &&
               offsetof(watch_compiled, refusal) == 16,
               "watch.h: the layout is that of x86-64");
@@ -716,6 +738,11 @@ _Static_assert(sizeof(watch_part) == 24 && offsetof(watch_part, length) == 8 && 
 _Static_assert(sizeof(watch_heard) == 32 && offsetof(watch_heard, pairs) == 8 &&
                offsetof(watch_heard, refusal) == 16 && offsetof(watch_heard, held_start) == 20 &&
                offsetof(watch_heard, held_length) == 24 && offsetof(watch_heard, all) == 28,
+               "watch.h: the layout is that of x86-64");
+_Static_assert(sizeof(watch_heard_at) == 40 && offsetof(watch_heard_at, pairs) == 8 &&
+               offsetof(watch_heard_at, refusal) == 16 && offsetof(watch_heard_at, held_start) == 20
+               && offsetof(watch_heard_at, held_length) == 24 && offsetof(watch_heard_at, all) == 28
+               && offsetof(watch_heard_at, split) == 32,
                "watch.h: the layout is that of x86-64");
 _Static_assert(sizeof(watch_compiled) == 24 && offsetof(watch_compiled, length) == 8 &&
                offsetof(watch_compiled, refusal) == 16,
@@ -962,6 +989,34 @@ watch_heard watch_split_feed_segment(const uint8_t *list, size_t list_len,
                                      uint32_t start,
                                      const uint8_t *segment, size_t segment_len,
                                      uint32_t *pairs, size_t pairs_len);
+
+/* The same by an index, each look's feed as watch_prepared_feed with the hint handed in: 4 to 6
+ * and 8 after 18 at the door, and 14 of a look too. A refusal at the door answers the hint as it
+ * was handed in. */
+watch_heard_at watch_prepared_feed_segment(const uint8_t *splits, size_t splits_len,
+                                           const uint8_t *index, size_t index_len,
+                                           uint32_t split,
+                                           uint8_t *flow, size_t flow_len,
+                                           uint32_t first,
+                                           uint8_t *held, size_t held_len,
+                                           uint32_t held_start,
+                                           uint32_t held_length,
+                                           uint32_t start,
+                                           const uint8_t *segment, size_t segment_len,
+                                           uint32_t *pairs, size_t pairs_len);
+
+/* The same by an automaton with bits and counters, on its own records: 24 and 4 to 6 after 18 at
+ * the door. */
+watch_heard watch_x_feed_segment(const uint8_t *moves, size_t moves_len,
+                                 const uint8_t *programs, size_t programs_len,
+                                 uint8_t *flow, size_t flow_len,
+                                 uint32_t first,
+                                 uint8_t *held, size_t held_len,
+                                 uint32_t held_start,
+                                 uint32_t held_length,
+                                 uint32_t start,
+                                 const uint8_t *segment, size_t segment_len,
+                                 uint32_t *pairs, size_t pairs_len);
 
 /* The check of a certificate that an automaton with bits and counters is a list's: 0, or 1 to 3,
  * then 24, then 22. It makes a step of the list and of the automaton for each record and byte. */

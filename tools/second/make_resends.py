@@ -6,8 +6,11 @@ sys.dont_write_bytecode = True
 
 from pathlib import Path
 
+import bits
+import bits_cases
 import builders
 import examples
+import indexes
 import model
 import resends
 from builders import a_piece, any_list, broken_list, good_table
@@ -18,7 +21,9 @@ from tape import block, digest, digest_words, u32
 
 SEED = 20261116
 MOST_WORDS = 600
-NEEDED = {"t": [0, 18], "o": [0], "g": [0, 1, 2, 3, 4, 6, 7, 8, 9, 14, 18], "n": [0, 4]}
+ROOMS = [0, 2, 5, MOST_WORDS, MOST_WORDS]
+NEEDED = {"t": [0, 18], "o": [0], "g": [0, 1, 2, 3, 4, 6, 7, 8, 9, 14, 18], "n": [0, 4],
+          "p": [0, 4, 6, 8, 14, 18], "x": [0, 4, 6, 18, 24]}
 
 
 def sown(count, seed):
@@ -106,13 +111,39 @@ class Tape:
                 return model.plain_feed(self.list, record, at, room, piece)
             return model.split_feed(self.list, self.table, bound, record, at, room, piece)
 
+        return self._heard("g", feed, words, start)
+
+    def _heard(self, letter, feed, words, start, offset_at=model.OFFSET_AT, more=lambda: []):
         heard = resends.hear(feed, self.record, self.first, self.held, start, self.segment,
-                             [0] * words)
+                             [0] * words, offset_at)
         self.record, self.held = heard.record, heard.held
-        self._say("g", [heard.refusal, len(heard.down), heard.pairs, heard.all, heard.held.start,
-                        heard.held.length, digest_words(heard.words), digest(heard.record),
-                        digest(heard.held.buffer)])
+        self._say(letter, [heard.refusal, len(heard.down), heard.pairs, heard.all, heard.held.start,
+                           heard.held.length, digest_words(heard.words), digest(heard.record),
+                           digest(heard.held.buffer), *more()])
         return heard
+
+    def hear_at(self, hint, words, start):
+        """By an index, which stands in the place of the table's rows; the split answered is kept."""
+        assert self.opened
+        self.commands.append(b"p" + b"".join(map(u32, (hint, words, start))))
+        self.split = hint
+
+        def feed(record, at, room, piece):
+            stood = indexes.prepared_feed(self.table.splits, self.table.rows, hint, record, at, room, piece)
+            self.split = stood.split if piece else self.split
+            return stood.answer
+
+        return self._heard("p", feed, words, start, more=lambda: [self.split])
+
+    def hear_x(self, words, start):
+        """By an automaton with bits and counters: its moves and programs stand in the place of parts and rows."""
+        assert self.opened
+        self.commands.append(b"x" + b"".join(map(u32, (0, words, start))))
+
+        def feed(record, at, room, piece):
+            return bits.feed(self.table.parts, self.table.rows, record, at, room, piece)
+
+        return self._heard("x", feed, words, start, offset_at=4)
 
     def renew(self):
         self.commands.append(b"n")
@@ -202,12 +233,10 @@ def claim(came, place, data):
         came.setdefault(place + i, byte)
 
 
-def first_come(tape, dice, first, sample, bound, turns, rooms):
+def first_come(tape, dice, first, sample, hear, turns, rooms):
     """A flow whose bytes come cut, twice, out of order and with other content. Here is checked that
-    what is passed down at each place is what came first for it, and that the pairs are those of one
-    plain feed of all that."""
+    what is passed down at each place is what came first for it. Answers that, and what is told."""
     came, stream, down, told = {}, a_piece(dice, sample, 400), b"", []
-    tape.open(first)
     for _ in range(turns):
         begin = max(0, len(down) + dice.pick([0, 0, 0, -1, -3, -9, 1, 4, 12, 40]))
         data = bytes(stream[begin:begin + dice.pick([0, 1, 2, 5, 9, 20])])
@@ -216,7 +245,7 @@ def first_come(tape, dice, first, sample, bound, turns, rooms):
         tape.load_segment(data)
         for _ in range(40):
             held = tape.held
-            heard = tape.hear(bound, dice.pick(rooms), at(first, begin))
+            heard = hear(dice.pick(rooms), at(first, begin))
             claim(came, len(down), heard.down)
             assert bytes(came[len(down) + i] for i in range(len(heard.down))) == heard.down
             down += heard.down
@@ -226,6 +255,14 @@ def first_come(tape, dice, first, sample, bound, turns, rooms):
                       heard.held.buffer[:heard.held.length])
             if heard.all or heard.refusal or not heard.down:
                 break
+    return down, told
+
+
+def list_flow(tape, dice, first, sample, hear, turns, rooms):
+    """Such a flow of a list. Here is checked that the pairs are those of one plain feed of what is
+    passed down."""
+    tape.open(first)
+    down, told = first_come(tape, dice, first, sample, hear, turns, rooms)
     opened = model.open_flow(sample.data, bytes(FLOW_SIZE), [0] * MOST_WORDS)
     once = model.plain_feed(sample.data, opened.record, 0, [0] * 100000, down)
     assert once.all and once.words[:2 * once.pairs] == told
@@ -248,7 +285,8 @@ def flows(tape, dice):
         if len(sample.data) > 4300:
             continue
         tape.load_list(sample.data)
-        first_come(tape, dice, a_next(dice), sample, bound, 14, [0, 2, 5, MOST_WORDS, MOST_WORDS])
+        list_flow(tape, dice, a_next(dice), sample, lambda words, start: tape.hear(bound, words, start),
+                  14, ROOMS)
 
 
 def limits(tape, dice):
@@ -429,9 +467,148 @@ def past_the_end(tape, dice):
         assert heard.refusal == 0 and len(heard.down) == len(tape.segment)
 
 
+# By an index, and by an automaton with bits and counters
+
+def small_index(dice):
+    """A sample, and the table of its splits and index: that of a table, or straight from the list."""
+    while True:
+        if dice.chance(50):
+            sample, plan = good_table(dice, dice.between(1, MOST_BOUND))
+            splits, index = plan.table().splits, indexes.filled(sample.data, plan.table())
+        else:
+            sample = any_list(dice)
+            refusal, made = indexes.prepare(sample.data, indexes.LENT)
+            splits, index = made if refusal == 0 else (b"", b"")
+        if splits and len(index) <= 8192 and len(sample.data) <= 4300:
+            return sample, Table(b"", b"", index, splits)
+
+
+def index_flows(tape, dice):
+    """Flows by an index, each segment from the split answered before, from another one, or from none."""
+    for turn in range(14):
+        sample, table = small_index(dice)
+        tape.load_list(sample.data)
+        tape.load_table(table)
+        for again in range(5):
+            tape.sow_held(HELD_SIZE, turn + again)
+            tape.load_record(bytes(FLOW_SIZE))
+            tape.split = 0
+
+            def hear(words, start):
+                hint = tape.split if dice.chance(60) else dice.pick([0, 1, 2, 4095, 4096, CIRCLE - 1])
+                return tape.hear_at(hint, words, start)
+
+            list_flow(tape, dice, a_next(dice), sample, hear, 14, ROOMS)
+
+
+def index_refusals(tape, dice):
+    """Bad records, lists and sizes, the last offsets, and frontiers that are no split."""
+    sample, table = small_index(dice)
+    while len(model.unpack_set(table.rows[:model.SET_SIZE])) < 6:
+        sample, table = small_index(dice)
+    named = model.unpack_set(table.rows[:model.SET_SIZE])
+    known = {split[:model.SET_SIZE] for split in indexes.cut(table.splits, model.SPLIT_SIZE)}
+    tape.load_list(sample.data)
+    starts = sample.nfa.starts
+    good = pack_flow(Flow(starts, 5, 3))
+
+    def send(record, count=None, step=None):
+        tape.load_record(bytes(FLOW_SIZE))
+        tape.open(a_next(dice))
+        tape.load_record(record)
+        tape.load_segment(a_piece(dice, sample, dice.pick([0, 1, 4]) if count is None else count))
+        start = at(tape.first, resends.offset(record) if len(record) == FLOW_SIZE else 5)
+        hint = dice.pick([0, 1, 2, CIRCLE - 1])
+        return tape.hear_at(hint, MOST_WORDS, at(start, dice.pick([0, 0, -1, -9, 3]) if step is None else step))
+
+    tape.load_table(table)
+    tape.sow_held(HELD_SIZE, 1)
+    for turn in range(20):
+        for record in (good[:-1], good + b"\0", good[:RESERVED] + b"\1" + good[RESERVED + 1:],
+                       pack_flow(Flow(starts, 5, 5 * STATES + 1)),
+                       pack_flow(Flow(starts | {dice.pick([s for s in range(STATES) if s not in named])}, 5, 3))):
+            assert send(record).refusal == 4
+    for turn in range(66):
+        offset = MOST_OFFSET - dice.below(6)
+        assert send(pack_flow(Flow(starts, offset, 3)), dice.between(6, 9), 0).refusal == 6
+        lost = dice.subset(sorted(named), 50)
+        if model.pack_set(lost) not in known:
+            assert send(pack_flow(Flow(lost, 5, 3)), 4, 0).refusal == 14
+        send(good, 4, 9)
+        tape.load_segment(a_piece(dice, sample, 2))
+        assert tape.hear_at(dice.below(4), MOST_WORDS, at(tape.first, 30)).refusal == 18
+        tape.sow_held(dice.pick([HELD_SIZE - 1, HELD_SIZE + 1]), turn)
+        assert send(dice.pick([good, good[:-1]])).refusal == 18
+        tape.sow_held(HELD_SIZE, turn)
+    for bad in (table._replace(rows=table.rows[:-1]), table._replace(rows=table.rows + b"\0"),
+                table._replace(splits=table.splits[:-1]), table._replace(splits=b"")):
+        tape.load_table(bad)
+        for turn in range(20):
+            assert send(good).refusal == 8
+
+
+def machine_record(tape, dice, record):
+    """A record of an automaton with bits and counters in a flow whose first number is any."""
+    tape.load_record(bytes(FLOW_SIZE))
+    tape.open(a_next(dice))
+    tape.load_record(record)
+
+
+def machine_flows(tape, dice):
+    """Flows by an automaton with bits and counters. Here is checked that the pairs and the record are
+    those of one feed of what is passed down."""
+    tape.load_list(examples.LIST)
+    sample = builders.Sample([examples.LIST[i:i + 8] for i in range(0, len(examples.LIST), 8)],
+                             [97, 98, 99], [0, 1, 2])
+    for turn in range(60):
+        moves, programs = bits_cases.machine(dice)
+        tape.load_table(Table(b"", moves, programs, b""))
+        opened = bits.open_flow(moves, programs, bytes(bits.X_FLOW_SIZE), [0] * MOST_WORDS)
+        tape.sow_held(HELD_SIZE, turn)
+        machine_record(tape, dice, opened.record)
+        down, told = first_come(tape, dice, tape.first, sample, tape.hear_x, 14, ROOMS)
+        once = bits.feed(moves, programs, opened.record, 0, [0] * 100000, down)
+        assert once.all and once.words[:2 * once.pairs] == told and once.record == tape.record
+
+
+def machine_refusals(tape, dice):
+    """Bad machines, records and sizes, and the last offsets."""
+    tape.load_list(examples.LIST)
+    moves, programs = bits_cases.machine(dice, 2)
+    good = bits_cases.record(dice, 2, 5)
+    machines = [(moves[:-1], programs), (moves, programs[:-1]), (moves + moves, programs),
+                (moves[:-2] + b"\2\0", programs), (moves, programs[:-4] + b"\11\0\0\0"), (b"", b"")]
+
+    def send(record, count=None, step=None):
+        machine_record(tape, dice, record)
+        tape.load_segment(dice.bytes(dice.pick([0, 1, 4]) if count is None else count))
+        start = at(tape.first, resends.offset(record) if len(record) == bits.X_FLOW_SIZE else 5)
+        return tape.hear_x(MOST_WORDS, at(start, dice.pick([0, 0, -1, -9, 3]) if step is None else step))
+
+    tape.sow_held(HELD_SIZE, 1)
+    for bad in machines:
+        tape.load_table(Table(b"", bad[0], bad[1], b""))
+        for turn in range(12):
+            assert send(dice.pick([good, good[:-1]])).refusal == 24
+    tape.load_table(Table(b"", moves, programs, b""))
+    for turn in range(66):
+        for record in (good[:-1], good + b"\0", b"\2" + good[1:], good[:2] + b"\1" + good[3:],
+                       bits_cases.put(good, 16 + 4 * dice.below(16), b"\1\0\1\0")):
+            assert send(record).refusal == 4
+        offset = MOST_OFFSET - dice.below(6)
+        assert send(bits_cases.record(dice, 2, offset), dice.between(6, 9), 0).refusal == 6
+        send(good, 4, 9)
+        tape.load_segment(dice.bytes(2))
+        assert tape.hear_x(MOST_WORDS, at(tape.first, 30)).refusal == 18
+        tape.sow_held(dice.pick([HELD_SIZE - 1, HELD_SIZE + 1]), turn)
+        assert send(dice.pick([good, good[:-1]])).refusal == 18
+        tape.sow_held(HELD_SIZE, turn)
+
+
 RESERVED = model.RESERVED_AT
 GROUPS = (worked, sizes, places, flows, limits, refusals, still_due, renewals, offsets,
-          renewed_flows, past_the_end)
+          renewed_flows, past_the_end, index_flows, index_refusals, machine_flows,
+          machine_refusals)
 
 
 def make():

@@ -66,17 +66,17 @@ def part(found, held, segment):
     return (held.buffer if source == 1 else segment)[at:at + length]
 
 
-def hear(feed, record, first, held, start, segment, words):
-    """Feeds a segment: feed(record, start, words, piece) is the plain or the split feed."""
+def hear(feed, record, first, held, start, segment, words, offset_at=OFFSET_AT):
+    """Feeds a segment: feed(record, start, words, piece) is any feed of records with the offset there."""
     if wrong_sizes(held, segment):
         return Heard(18, b"", 0, False, held, words, record)
-    offset = model.number(record[OFFSET_AT:RESERVED_AT])
+    offset = model.number(record[offset_at:offset_at + 4])
     door = feed(record, offset, words, b"")
     if door.refusal:
         return Heard(door.refusal, b"", 0, False, held, words, record)
     written, down = [], b""
     while True:
-        offset = model.number(record[OFFSET_AT:RESERVED_AT])
+        offset = model.number(record[offset_at:offset_at + 4])
         after = (first + offset) % CIRCLE
         refusal, held = take(after, held, start, segment)
         piece = part(due(after, held, start, segment), held, segment)

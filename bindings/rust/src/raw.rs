@@ -120,6 +120,27 @@ pub struct WatchHeard {
     pub all: bool,
 }
 
+/// What feeding a segment by an index answers: the same, and the split.
+#[repr(C)]
+#[derive(Clone, Copy, Debug, PartialEq, Eq)]
+pub struct WatchHeardAt {
+    /// Bytes passed down to the flow.
+    pub bytes: u64,
+    /// Pairs written: twice as many words.
+    pub pairs: u64,
+    /// 0, or the number of the refusal.
+    pub refusal: u32,
+    /// The held place: the number of the first byte held.
+    pub held_start: u32,
+    /// And how many bytes are held; keep both for the next call.
+    pub held_length: u32,
+    /// Whether nothing is due any more; false with every refusal.
+    pub all: bool,
+    /// Where the flow then stands, as the last feed among the looks answered it: with a 6 the hint
+    /// handed in, and the hint too where no look fed anything.
+    pub split: u32,
+}
+
 /// What compiling a text answers.
 #[repr(C)]
 #[derive(Clone, Copy, Debug, PartialEq, Eq)]
@@ -383,6 +404,49 @@ extern "C" {
         rows_len: usize,
         splits: *const u8,
         splits_len: usize,
+        flow: *mut u8,
+        flow_len: usize,
+        first: u32,
+        held: *mut u8,
+        held_len: usize,
+        held_start: u32,
+        held_length: u32,
+        start: u32,
+        segment: *const u8,
+        segment_len: usize,
+        pairs: *mut u32,
+        pairs_len: usize,
+    ) -> WatchHeard;
+
+    /// The same by an index, each look's feed as watch_prepared_feed with the hint handed in:
+    /// refusals 18 of the sizes; then 4 to 6, 8; then 6, 14, 18 of a look.
+    pub fn watch_prepared_feed_segment(
+        splits: *const u8,
+        splits_len: usize,
+        index: *const u8,
+        index_len: usize,
+        split: u32,
+        flow: *mut u8,
+        flow_len: usize,
+        first: u32,
+        held: *mut u8,
+        held_len: usize,
+        held_start: u32,
+        held_length: u32,
+        start: u32,
+        segment: *const u8,
+        segment_len: usize,
+        pairs: *mut u32,
+        pairs_len: usize,
+    ) -> WatchHeardAt;
+
+    /// The same by an automaton with bits and counters, on its own records: refusals 18 of the
+    /// sizes; then 24; then 4 to 6; then 6, 18 of a look.
+    pub fn watch_x_feed_segment(
+        moves: *const u8,
+        moves_len: usize,
+        programs: *const u8,
+        programs_len: usize,
         flow: *mut u8,
         flow_len: usize,
         first: u32,

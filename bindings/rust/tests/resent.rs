@@ -48,6 +48,8 @@ impl State {
             b'P' => self.segment = reader.block(),
             b'o' => return Some(self.open(reader)),
             b'g' => return Some(self.hear(reader)),
+            b'p' => return Some(self.hear_at(reader)),
+            b'x' => return Some(self.hear_x(reader)),
             b't' => return Some(self.take(reader)),
             b'd' => {
                 let [next, held_start, held_length, start] = [(); 4].map(|()| reader.number(4) as u32);
@@ -129,19 +131,91 @@ impl State {
                 )
             }
         };
+        format!("g {}", self.heard(heard, &words))
+    }
+
+    /// What a segment answered and left, as its line says it; the held place is kept.
+    fn heard(&mut self, heard: raw::WatchHeard, words: &[u32]) -> String {
         (self.start, self.length) = (heard.held_start, heard.held_length);
         format!(
-            "g {} {} {} {} {} {} {} {} {}",
+            "{} {} {} {} {} {} {} {} {}",
             heard.refusal,
             heard.bytes,
             heard.pairs,
             u8::from(heard.all),
             heard.held_start,
             heard.held_length,
-            digest_words(&words),
+            digest_words(words),
             digest(&self.record),
             digest(&self.held)
         )
+    }
+
+    /// By an index, which stands in the place of the table's rows.
+    fn hear_at(&mut self, reader: &mut Reader) -> String {
+        let (hint, words, start) = (reader.number(4) as u32, reader.number(4) as usize, reader.number(4) as u32);
+        let mut words = vec![0; words].into_boxed_slice();
+        let [_, _, index, splits] = &self.table;
+        // SAFETY: as in `open`.
+        let at = unsafe {
+            raw::watch_prepared_feed_segment(
+                splits.as_ptr(),
+                splits.len(),
+                index.as_ptr(),
+                index.len(),
+                hint,
+                self.record.as_mut_ptr(),
+                self.record.len(),
+                self.first,
+                self.held.as_mut_ptr(),
+                self.held.len(),
+                self.start,
+                self.length,
+                start,
+                self.segment.as_ptr(),
+                self.segment.len(),
+                words.as_mut_ptr(),
+                words.len(),
+            )
+        };
+        let heard = raw::WatchHeard {
+            bytes: at.bytes,
+            pairs: at.pairs,
+            refusal: at.refusal,
+            held_start: at.held_start,
+            held_length: at.held_length,
+            all: at.all,
+        };
+        format!("p {} {}", self.heard(heard, &words), at.split)
+    }
+
+    /// By an automaton with bits and counters: its moves and programs stand in the place of the table's parts and rows.
+    fn hear_x(&mut self, reader: &mut Reader) -> String {
+        let (_, words, start) = (reader.number(4), reader.number(4) as usize, reader.number(4) as u32);
+        let mut words = vec![0; words].into_boxed_slice();
+        let [_, moves, programs, _] = &self.table;
+        // SAFETY: as in `open`.
+        let heard = unsafe {
+            raw::watch_x_feed_segment(
+                moves.as_ptr(),
+                moves.len(),
+                programs.as_ptr(),
+                programs.len(),
+                self.record.as_mut_ptr(),
+                self.record.len(),
+                self.first,
+                self.held.as_mut_ptr(),
+                self.held.len(),
+                self.start,
+                self.length,
+                start,
+                self.segment.as_ptr(),
+                self.segment.len(),
+                words.as_mut_ptr(),
+                words.len(),
+            )
+        };
+        format!("x {}", self.heard(heard, &words))
     }
 
     fn take(&mut self, reader: &mut Reader) -> String {

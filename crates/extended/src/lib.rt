@@ -368,7 +368,7 @@ fn tell_alerts(pairs: &mut [u32], words: usize, g: SigSet, offset: u32) -> usize
 }
 
 // The offset of a record.
-fn offset_of(flow: &[u8]) -> u64
+pub fn offset_of(flow: &[u8]) -> u64
     ensures { λ r. ⌜ r ≡ offsetOf (now (flow .entry)) ⌝ }
 {
     sets::number_at(flow, X_OFFSET_AT, 4)
@@ -450,7 +450,7 @@ fn flow_refusal(states: usize, flow: &[u8], start: u64, piece: &[u8]) -> u32
 }
 
 // The check of a feed: the number of the first of the rules 24 and 4 to 6 that refuses it, 0 where none does.
-fn feed_refusal(moves: &[u8], programs: &[u8], flow: &[u8], start: u64, piece: &[u8]) -> u32
+pub fn feed_refusal(moves: &[u8], programs: &[u8], flow: &[u8], start: u64, piece: &[u8]) -> u32
     ensures { λ r. ⌜ r ≡ verdict (feedRules (now (moves .entry)) (now (programs .entry)) (now (flow .entry)) start (now (piece .entry))) ⌝ }
 {
     if bad_machine(moves, programs) {

@@ -43,7 +43,7 @@ module _ (M P R out : List ℕ) where
   pub open-tells : InWords (openWords M P R out) (verdict (openRules M P R out))
   open-tells = tells (openRules M P R out) (openWords M P R out) refl (refl, machine-said M P, (refl, size-said R, (refl, room-said P out, tt)))
 
-feed-tells : (M P R : List ℕ) (at : ℕ) (piece : List ℕ) → InWords (feedWords M P R at piece) (verdict (feedRules M P R at piece))
+pub feed-tells : (M P R : List ℕ) (at : ℕ) (piece : List ℕ) → InWords (feedWords M P R at piece) (verdict (feedRules M P R at piece))
 feed-tells M P R at piece =
     tells (feedRules M P R at piece) (feedWords M P R at piece) refl (refl, machine-said M P, (refl, flow-said R (stateCount M), (refl, start-said R at, (refl, long-said R piece, tt))))
 

@@ -4,6 +4,7 @@ use watch_c::WatchCompiled;
 use watch_c::WatchFed;
 use watch_c::WatchFound;
 use watch_c::WatchHeard;
+use watch_c::WatchHeardAt;
 use watch_c::WatchHeld;
 use watch_c::WatchJoined;
 use watch_c::WatchMade;
@@ -35,7 +36,9 @@ ghost use Rattle.reasons.specs.Reason.{Explains, Finds};
 ghost use Rattle.renewals.specs.Renewal.{Renews, offsetSaid};
 ghost use Rattle.segments.specs.Ways.{plainSegment, splitSegment};
 ghost use Rattle.segments.specs.Post.{Hears, sent, kept};
-ghost use Rattle.watch_c.specs.Segments.{faceHeard};
+ghost use Rattle.segment_index.specs.Standing.{standSegment, stoodBy};
+ghost use Rattle.segment_machine.specs.Ways.{machineSegment};
+ghost use Rattle.watch_c.specs.Segments.{faceHeard, faceHeardAt};
 ghost use Rattle.faces.specs.Faced.{held, heldOpen};
 ghost use Rattle.faces.specs.Resent.{heldPlace, partOf};
 
@@ -396,6 +399,72 @@ fn drive_split_feed_segment(
         parts,
         rows,
         splits,
+        flow,
+        first,
+        held,
+        held_start,
+        held_length,
+        start,
+        segment,
+        pairs,
+    )
+}
+
+// Calls the exported name that feeds a segment by an index.
+fn drive_prepared_feed_segment(
+    splits: &[u8],
+    index: &[u8],
+    split: u32,
+    flow: &mut [u8],
+    first: u32,
+    held: &mut [u8],
+    held_start: u32,
+    held_length: u32,
+    start: u32,
+    segment: &[u8],
+    pairs: &mut [u32],
+) -> WatchHeardAt
+    ensures { λ r. ⌜ Hears (standSegment (now (splits .entry)) (now (index .entry)) split (sent first start (now (segment .entry)))
+        (kept (now (flow .entry)) (now (held .entry)) «held_start» «held_length») (now (pairs .entry)))
+        (faceHeardAt r) (now (pairs .exit)) (now (flow .exit)) (now (held .exit))
+        × (r .split ≡ stoodBy (now (splits .entry)) (now (index .entry)) split (sent first start (now (segment .entry)))
+        (kept (now (flow .entry)) (now (held .entry)) «held_start» «held_length») (now (pairs .entry))) ⌝ }
+{
+    watch_c::watch_prepared_feed_segment(
+        splits,
+        index,
+        split,
+        flow,
+        first,
+        held,
+        held_start,
+        held_length,
+        start,
+        segment,
+        pairs,
+    )
+}
+
+// Calls the exported name that feeds a segment by an automaton with bits and counters.
+fn drive_x_feed_segment(
+    moves: &[u8],
+    programs: &[u8],
+    flow: &mut [u8],
+    first: u32,
+    held: &mut [u8],
+    held_start: u32,
+    held_length: u32,
+    start: u32,
+    segment: &[u8],
+    pairs: &mut [u32],
+) -> WatchHeard
+    ensures { λ r. ⌜ Hears (machineSegment (now (moves .entry)) (now (programs .entry)) (sent first start (now (segment .entry)))
+        (kept (now (flow .entry)) (now (held .entry)) «held_start» «held_length») (now (pairs .entry)))
+        (faceHeard r) (now (pairs .exit)) (now (flow .exit)) (now (held .exit)) ⌝ }
+{
+    watch_c::watch_x_feed_segment(
+        moves,
+        programs,
         flow,
         first,
         held,

@@ -15,7 +15,7 @@ ghost use Rattle.feeds.specs.Fed.{Answers};
 ghost use Rattle.flows.specs.Flow.{flowSize, frontierOf, rowsOf, flowBytes, flowRules};
 ghost use Rattle.tables.specs.Table.{mostSplits, splitCount, splitSet};
 ghost use Rattle.entries.specs.Entry.{entrySize, entryPlace, telling, limit, badIndex};
-ghost use Rattle.entries.specs.Stand.{soughtOf, holdsAt, namedBy, standFeed, stoodAt};
+ghost use Rattle.entries.specs.Stand.{soughtOf, holdsAt, namedBy, standRules, standFeed, stoodAt};
 ghost use Rattle.turns.specs.Goes.{Strides};
 
 // The refusal of a byte at a place that has no whole entry.
@@ -111,6 +111,25 @@ fn feed_refusal(
         return 8;
     }
     rules::PASSED
+}
+
+// The check of a call, whatever the size of its record: the number of the first of the rules 4 to 6 and 8 that refuses it, 0 where none does.
+pub fn refusal(
+    splits: &[u8],
+    index: &[u8],
+    hint: usize,
+    flow: &[u8],
+    start: u64,
+    piece: &[u8],
+) -> u32
+    ensures { λ r. ⌜ r ≡ verdict (standRules (now (splits .entry)) (now (index .entry)) hint (now (flow .entry)) start (now (piece .entry))) ⌝ }
+{
+    if flow.len() != flows::FLOW_SIZE {
+        return 4;
+    }
+    let held = holds_at(splits, index, hint, flow);
+    let named = named_by(splits, index, hint, flow, held);
+    feed_refusal(splits, index, held, named, flow, start, piece)
 }
 
 // Runs from a place with a whole entry: byte by byte where the piece is short and no byte of it tells, else by turns.

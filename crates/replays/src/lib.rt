@@ -2,6 +2,7 @@
 // writes the line of its answer. Here it is shown alone that the calls are safe and end, so that the programs above need to know nothing of what the matcher
 // promises.
 use feeds::Fed;
+use segment_index::HeardAt;
 use segments::Heard;
 use tape::Table;
 
@@ -242,7 +243,58 @@ fn split_hear(
     )
 }
 
-// Feeds a segment through the table at a bound or, at bound 0, by the list alone.
+// Feeds a segment by an automaton with bits and counters: its moves and programs stand in the place of the table's parts and rows.
+fn machine_hear(
+    call: Call,
+    place: Place,
+    table: &[u8],
+    flow: &mut [u8],
+    held: &mut [u8],
+    segment: &[u8],
+    out: &mut [u32],
+) -> Heard {
+    let t = call.table;
+    segment_machine::feed_segment(
+        tape::parts(table, t),
+        tape::rows(table, t),
+        flow,
+        place.first,
+        held,
+        place.start,
+        place.length,
+        (call.start % 4294967296) as u32,
+        segment,
+        out,
+    )
+}
+
+// Feeds a segment by an index, which stands in the place of the table's rows.
+fn index_hear(
+    call: Call,
+    place: Place,
+    table: &[u8],
+    flow: &mut [u8],
+    held: &mut [u8],
+    segment: &[u8],
+    out: &mut [u32],
+) -> HeardAt {
+    let t = call.table;
+    segment_index::feed_segment(
+        tape::splits(table, t),
+        tape::rows(table, t),
+        call.hint as usize,
+        flow,
+        place.first,
+        held,
+        place.start,
+        place.length,
+        (call.start % 4294967296) as u32,
+        segment,
+        out,
+    )
+}
+
+// Feeds a segment by an automaton with bits and counters where the letter says so; else through the table at a bound or, at bound 0, by the list alone.
 fn hear_by(
     call: Call,
     place: Place,
@@ -253,6 +305,9 @@ fn hear_by(
     segment: &[u8],
     out: &mut [u32],
 ) -> Heard {
+    if call.letter == b'x' {
+        return machine_hear(call, place, table, flow, held, segment, out);
+    }
     if call.bound != 0 {
         return split_hear(call, place, list, table, flow, held, segment, out);
     }
@@ -269,9 +324,9 @@ fn hear_by(
     )
 }
 
-// Writes the line of a segment that was fed.
-fn put_heard(h: Heard, out: &[u32], flow: &[u8], held: &[u8]) {
-    tape::begin(b'g');
+// Writes what a segment that was fed answered and left, behind the letter.
+fn put_heard(letter: u8, h: Heard, out: &[u32], flow: &[u8], held: &[u8]) {
+    tape::begin(letter);
     tape::put(h.refusal as u64);
     tape::put(h.bytes as u64);
     tape::put(h.pairs as u64);
@@ -281,7 +336,33 @@ fn put_heard(h: Heard, out: &[u32], flow: &[u8], held: &[u8]) {
     tape::put(tape::digest_words(out));
     tape::put(tape::digest(flow));
     tape::put(tape::digest(held));
+}
+
+// The place after a segment that was fed.
+fn left(place: Place, h: Heard) -> Place {
+    Place {
+        first: place.first,
+        start: h.start,
+        length: h.length,
+    }
+}
+
+// Replays feeding a segment by an index: its line has the split as well.
+fn hear_at(
+    call: Call,
+    place: Place,
+    table: &[u8],
+    flow: &mut [u8],
+    held: &mut [u8],
+    segment: &[u8],
+    out: &mut [u32],
+) -> Place {
+    let stood = index_hear(call, place, table, flow, held, segment, out);
+    let h = stood.heard;
+    put_heard(call.letter, h, out, flow, held);
+    tape::put(stood.split as u64);
     tape::end();
+    left(place, h)
 }
 
 // Replays feeding a segment; answers the held place that it leaves.
@@ -295,13 +376,13 @@ pub fn hear(
     segment: &[u8],
     out: &mut [u32],
 ) -> Place {
-    let h = hear_by(call, place, list, table, flow, held, segment, out);
-    put_heard(h, out, flow, held);
-    Place {
-        first: place.first,
-        start: h.start,
-        length: h.length,
+    if call.letter == b'p' {
+        return hear_at(call, place, table, flow, held, segment, out);
     }
+    let h = hear_by(call, place, list, table, flow, held, segment, out);
+    put_heard(call.letter, h, out, flow, held);
+    tape::end();
+    left(place, h)
 }
 
 // The number of the byte at offset 0 of a renewed record, which was the one at an offset before.

@@ -30,8 +30,9 @@ fn held_buffer() -> [u8; 4352]
     [0; 4352]
 }
 
-// Replays feeding a segment: the input says the bound, how many words there are, and the segment's start.
+// Replays feeding a segment, by the letter: the input says the bound or the hint, how many words there are, and the segment's start.
 fn hear(
+    letter: u8,
     list: &[u8],
     table: &[u8],
     flow: &mut [u8],
@@ -39,14 +40,14 @@ fn hear(
     segment: &[u8],
     mut s: Sizes,
 ) -> Sizes {
-    let bound = tape::read_number(4);
+    let bound = tape::read_word();
     let words = tape::read_number(4) as usize;
     let start = tape::read_number(4);
     let t = s.table;
     let call = Call {
-        letter: b'g',
-        bound: bound,
-        hint: 0,
+        letter: letter,
+        bound: bound as u64,
+        hint: bound,
         start: start,
         table: t,
     };
@@ -92,8 +93,8 @@ fn answer(
     if command == b'o' {
         return open(list, flow, s);
     }
-    if command == b'g' {
-        return hear(list, table, flow, held, segment, s);
+    if (command == b'g') | (command == b'p') | (command == b'x') {
+        return hear(command, list, table, flow, held, segment, s);
     }
     if command == b'n' {
         return renew(flow, s);

@@ -23,7 +23,7 @@ use Rattle.segments.specs.declared.Looked.{Looked}
 use Rattle.segments.proofs.Looking.{look-idle, look-busy, feed-most, fed-down, due-short, more-on, more-off, looked-fitting}
 
 -- the end of the words is their rest, and what is put there stands behind the front
-mid-end : (w : ℕ) (xs : List ℕ) → midOf w (length xs - w) xs ≡ drop w xs
+pub mid-end : (w : ℕ) (xs : List ℕ) → midOf w (length xs - w) xs ≡ drop w xs
 mid-end w xs = take-all (length xs - w) (drop w xs) (rw (length-drop w xs) (omega arith))
 
 put-end : (w : ℕ) (xs ys : List ℕ) → w ≤ length xs → putMid w (length xs - w) xs ys ≡ take w xs ++ ys
@@ -46,7 +46,7 @@ module _ (W : Way) (g : Sent) (so : Looked) (ws R H : List ℕ) (t : so .on ≡ 
   takes-here : Takes (takeOf W g (l .heard .kept)) h J
   takes-here = rw (next-here, k .heard .held, k .heard .start, k .heard .length) at takes
 
-  due-here : d ≡ dueOf W g (l .heard .kept)
+  pub due-here : d ≡ dueOf W g (l .heard .kept)
   due-here = let t = takes-here in dues ∙ rw (next-here, t .bytes, t .start, t .length)
 
   here : more W g l ≡ record { on = look W g (l .heard .kept) (drop (2 * l .heard .pairs) (l .heard .words)) .on; heard = behind (l .heard) (look W g (l .heard .kept) (drop (2 * l .heard .pairs) (l .heard .words)) .heard) }

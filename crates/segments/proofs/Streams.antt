@@ -45,23 +45,23 @@ taking-bytes next held p n q seg h k = go (refuses next held p n q seg) refl (ea
 
 -- ---- looks at the end of a list of looks
 
-looks-append : (s : ℕ) (W : Line) (ls ms : List stream.Look) → looks s W (ls ++ ms) ≡ looks s (looks s W ls) ms
+pub looks-append : (s : ℕ) (W : Line) (ls ms : List stream.Look) → looks s W (ls ++ ms) ≡ looks s (looks s W ls) ms
 unfolding looks
 looks-append s W [] ms = refl
 looks-append s W (l ∷ ls) ms = looks-append s _ ls ms
 
-numbered-append : (ls ms : List stream.Look) → Numbered ls → Numbered ms → Numbered (ls ++ ms)
+pub numbered-append : (ls ms : List stream.Look) → Numbered ls → Numbered ms → Numbered (ls ++ ms)
 numbered-append [] ms h k = k
 numbered-append (l ∷ ls) ms h k = (h .0, numbered-append ls ms (h .1) k)
 
 -- ---- a line as what is kept says
 
 -- bs were passed down, and what is held is what is kept
-record Lies (W : Line) (S : Kept) (bs : List ℕ) : Type 0 where
-  down : W .down ≡ bs
-  start : W .start ≡ S .start
-  length : W .length ≡ S .length
-  held : W .held ≡ S .held
+pub record Lies (W : Line) (S : Kept) (bs : List ℕ) : Type 0 where
+  pub down : W .down ≡ bs
+  pub start : W .start ≡ S .start
+  pub length : W .length ≡ S .length
+  pub held : W .held ≡ S .held
 
 -- ---- feeds that go as an engine goes
 

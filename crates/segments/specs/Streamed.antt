@@ -18,7 +18,7 @@ abbrev pub fresh : Opening → List ℕ → Kept
 fresh o held = record { flow = o .saved; held = held; start = 0; length = 0 }
 
 -- the looks that calls come to, each call at what it meets
-abbrev pub allSeen : {A : Type 0} → (A → Asked Kept) → (Kept → A → List stream.Look) → Kept → List A → List stream.Look
+abbrev pub allSeen : {S A : Type 0} → (A → Asked S) → (S → A → List stream.Look) → S → List A → List stream.Look
 allSeen ask seen S [] = []
 allSeen ask seen S (c ∷ cs) = seen S c ++ allSeen ask seen (ask c .left S) cs
 

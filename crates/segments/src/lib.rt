@@ -13,7 +13,7 @@ ghost use Rattle.segments.specs.Ways.{plainWay, splitWay, plainSegment, 
 ghost use Rattle.segments.specs.Post.{Hears, More, Roomy, sent, kept, begunAs, idleAs, busyAs, heardAs};
 
 // As many looks as a segment can need.
-const MOST_LOOKS: usize = 4;
+pub const MOST_LOOKS: usize = 4;
 
 // As many numbers as there are.
 const CIRCLE: u64 = 4294967296;
@@ -30,14 +30,14 @@ pub struct Heard {
 }
 
 // What is heard so far: the same, and whether a look follows.
-struct Looked {
-    on: bool,
-    refusal: u32,
-    bytes: usize,
-    pairs: usize,
-    all: bool,
-    start: u32,
-    length: u32,
+pub struct Looked {
+    pub on: bool,
+    pub refusal: u32,
+    pub bytes: usize,
+    pub pairs: usize,
+    pub all: bool,
+    pub start: u32,
+    pub length: u32,
 }
 
 // ---- around the feed
@@ -50,14 +50,14 @@ pub fn offset_of(flow: &[u8]) -> u64
 }
 
 // The number of the byte at an offset, where the flow's first byte has number `first`.
-fn next_of(first: u32, offset: u64) -> u32
+pub fn next_of(first: u32, offset: u64) -> u32
     ensures { λ r. ⌜ r ≡ (first + offset) % circle ⌝ }
 {
     std::num::wrapping_add_u32(first, (offset % CIRCLE) as u32)
 }
 
 // The refusal at the door, by the sizes and the refusal of a feed of no bytes: 18 for the sizes first.
-fn door(met: u32, held_size: usize, held_length: u32, size: usize) -> u32
+pub fn door(met: u32, held_size: usize, held_length: u32, size: usize) -> u32
     ensures { λ r. ⌜ r ≡ cond (badSizes «held_size» «held_length» size) 18 met ⌝ }
 {
     if resends::bad_sizes(held_size, held_length as usize, size) {
@@ -67,7 +67,7 @@ fn door(met: u32, held_size: usize, held_length: u32, size: usize) -> u32
 }
 
 // A segment at the door: nothing is heard yet, and a look follows where there is no refusal.
-fn begun(refusal: u32, held_start: u32, held_length: u32) -> Looked
+pub fn begun(refusal: u32, held_start: u32, held_length: u32) -> Looked
     ensures { λ r. ⌜ r ≡ begunAs refusal «held_start» «held_length» ⌝ }
 {
     Looked {
@@ -82,7 +82,7 @@ fn begun(refusal: u32, held_start: u32, held_length: u32) -> Looked
 }
 
 // After a look that found nothing due: what taking the segment answered.
-fn idle(so: Looked, taken: Held) -> Looked
+pub fn idle(so: Looked, taken: Held) -> Looked
     ensures { λ r. ⌜ r ≡ idleAs so taken ⌝ }
 {
     Looked {
@@ -97,7 +97,7 @@ fn idle(so: Looked, taken: Held) -> Looked
 }
 
 // After a look that fed what was due: what the feed answered, behind what was heard before.
-fn busy(so: Looked, taken: Held, fed: Fed) -> Looked
+pub fn busy(so: Looked, taken: Held, fed: Fed) -> Looked
     requires { ⌜ (so .bytes + fed .bytes ≤ 18446744073709551615) × (so .pairs + fed .pairs ≤ 18446744073709551615) ⌝ }
     ensures { λ r. ⌜ r ≡ busyAs so taken fed ⌝ }
 {
@@ -113,7 +113,7 @@ fn busy(so: Looked, taken: Held, fed: Fed) -> Looked
 }
 
 // The answer, after the last look.
-fn answered(so: Looked) -> Heard
+pub fn answered(so: Looked) -> Heard
     ensures { λ r. ⌜ r ≡ heardAs so ⌝ }
 {
     Heard {

@@ -1,4 +1,5 @@
 pub mod Streams
 pub mod Tied
+pub mod Steady
 pub mod Refusing
 pub mod Examples

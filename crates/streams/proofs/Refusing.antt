@@ -8,14 +8,19 @@ use native.Mathlib.Omega.{arith}
 use lib.ListN.{length}
 use Rattle.rules.specs.Rules.{verdict}
 use Rattle.rules.specs.Words.{Row, InWords}
+use Rattle.feeds.specs.Calls.{Way}
 use Rattle.flows.specs.Flow.{offsetOf}
-use Rattle.demands.specs.Calls.{Via, wayOf, wordsBy}
+use Rattle.extended.specs.Record as x
+use Rattle.demands.specs.Calls.{wayOf}
 use Rattle.demands.proofs.Demand1.{demand-1}
+use Rattle.extended_demands.specs.Calls as machines
+use Rattle.extended_demands.proofs.Demand1.{feed-tells}
 use Rattle.resends.specs.Resend.{badSizes}
 use Rattle.resends.proofs.Words.{bad-sizes}
 use Rattle.segments.specs.Segment.{Sent, Kept, doorRules}
 use Rattle.segments.proofs.Said.{refused-not-all, door-refused, taking-answers}
-use Rattle.streams.specs.Streams.{segmentWords, SegmentsRefuse}
+use Rattle.segment_index.proofs.Standing.{door-stood}
+use Rattle.streams.specs.Streams.{segmentWords, SegmentRefuses, SegmentsRefuse, MachineSegmentsRefuse, HintsKept}
 
 -- a row before the others: its number where its words hold, else theirs
 first-row : (k : ℕ) (b : Bool) (P : Type 0) (ws : List Row) (n : ℕ) → (k ≡ 0 → ⊥) → (b ≡ true ↔ P) → InWords ws n → InWords ((k, P) ∷ ws) (cond b k n)
@@ -32,18 +37,27 @@ first-row k false P ws n z h w =
     }
 
 -- number by number: 18 first, then the feed's
-door-said : (v : Via) (L : List ℕ) (g : Sent) (S : Kept) → InWords (segmentWords v L g S) (verdict (doorRules (wayOf v L) g S))
+door-said : (W : Way) (ws : List Row) (g : Sent) (S : Kept) → InWords ws (verdict (W .rules (S .flow) (W .layout .offset (S .flow)) [])) → InWords (segmentWords ws g S) (verdict (doorRules W g S))
 unfolding verdict
-door-said v L g S =
-    first-row 18 (badSizes (length (S .held)) (S .length) (length (g .bytes))) _ (wordsBy v L (S .flow) (offsetOf (S .flow)) []) (verdict (wayOf v L .rules (S .flow) (offsetOf (S .flow)) []))
-    (λ e. omega (arith, e)) (bad-sizes (length (S .held)) (S .length) (length (g .bytes)))
-    (demand-1 .feeds-said (S .flow) (record { list = L; via = v; at = offsetOf (S .flow); piece = []; out = [] }))
+door-said W ws g S h =
+    first-row 18 (badSizes (length (S .held)) (S .length) (length (g .bytes))) _ ws (verdict (W .rules (S .flow) (W .layout .offset (S .flow)) []))
+    (λ e. omega (arith, e)) (bad-sizes (length (S .held)) (S .length) (length (g .bytes))) h
+
+segment-refuses : (W : Way) (ws : List Row) (g : Sent) (S : Kept) (out : List ℕ) → InWords ws (verdict (W .rules (S .flow) (W .layout .offset (S .flow)) [])) → SegmentRefuses W ws g S out
+segment-refuses W ws g S out h =
+    record {
+      said = door-said W ws g S h;
+      refused = door-refused W g S out;
+      taken = taking-answers W g S out;
+      not-all = refused-not-all W g S out;
+    }
 
 pub segments-refuse : SegmentsRefuse
 segments-refuse v L g S out =
-    record {
-      said = door-said v L g S;
-      refused = door-refused (wayOf v L) g S out;
-      taken = taking-answers (wayOf v L) g S out;
-      not-all = refused-not-all (wayOf v L) g S out;
-    }
+    segment-refuses (wayOf v L) _ g S out (demand-1 .feeds-said (S .flow) (record { list = L; via = v; at = offsetOf (S .flow); piece = []; out = [] }))
+
+pub machine-segments-refuse : MachineSegmentsRefuse
+machine-segments-refuse M P g S out = segment-refuses (machines.wayOf M P) _ g S out (feed-tells M P (S .flow) (x.offsetOf (S .flow)) [])
+
+pub hints-kept : HintsKept
+hints-kept = door-stood

@@ -7,14 +7,17 @@ use Rattle.flows.specs.Flow.{offsetOf}
 use Rattle.tables.specs.Table.{Table, tableRefusal}
 use Rattle.fills.specs.Filled.{filledIndex}
 use Rattle.fills.proofs.Ready.{stand-exact}
-use Rattle.demands.specs.Calls.{Call, byList, byTable, byIndex, bySlots, wayOf}
+use Rattle.demands.specs.Calls.{Call, byList, byTable, byIndex, Counting, bySlots, wayOf}
 use Rattle.demands.proofs.Engines.{lawful-of}
 use Rattle.demands.proofs.Built.{filled-swaps}
-use Rattle.segments.specs.Segment.{Sent, Kept, feedSegment}
+use Rattle.extended_demands.specs.Calls as machines
+use Rattle.segments.specs.Segment.{Sent, Kept}
 use Rattle.segments.specs.Ways.{plainSegment, splitSegment}
 use Rattle.segments.specs.Calls.{sentOf, hears}
 use Rattle.segments.proofs.Same as same
-use Rattle.streams.specs.Streams.{listCalls}
+use Rattle.segment_index.specs.Standing.{standSegment}
+use Rattle.segment_machine.specs.Ways.{machineSegment}
+use Rattle.streams.specs.Streams.{listCalls, machineCalls}
 
 pub handed-plain : (s : ℕ) (S : Kept) (L : List ℕ) (start : ℕ) (bytes out : List ℕ)
     → let c : Call = record { list = L; via = byList; at = start; piece = bytes; out = out } in hears listCalls s S c ≡ plainSegment L (sentOf listCalls s c) S out
@@ -24,9 +27,17 @@ pub handed-split : (s : ℕ) (S : Kept) (L : List ℕ) (b : ℕ) (T : Table) (st
     → let c : Call = record { list = L; via = byTable b T; at = start; piece = bytes; out = out } in hears listCalls s S c ≡ splitSegment L b T (sentOf listCalls s c) S out
 handed-split s S L b T start bytes out = refl
 
+pub handed-index : (s : ℕ) (K : Kept) (L : List ℕ) (b : ℕ) (n : Counting) (S X : List ℕ) (h : ℕ) (start : ℕ) (bytes out : List ℕ)
+    → let c : Call = record { list = L; via = byIndex b n S X h; at = start; piece = bytes; out = out } in hears listCalls s K c ≡ standSegment S X h (sentOf listCalls s c) K out
+handed-index s K L b n S X h start bytes out = refl
+
+pub handed-machine : (s : ℕ) (K : Kept) (M P : List ℕ) (start : ℕ) (bytes out : List ℕ)
+    → let c : machines.Call = record { moves = M; programs = P; at = start; piece = bytes; out = out } in hears machineCalls s K c ≡ machineSegment M P (sentOf machineCalls s c) K out
+handed-machine s K M P start bytes out = refl
+
 -- by the index that the filler writes for a table that the check accepts, from any hint, a segment hears and leaves what it does through that table
 pub same-segment : (L : List ℕ) (b : ℕ) (T : Table) → tableRefusal L b T ≡ 0 → Bytes (T .splits) → (h : ℕ) (g : Sent) → Bytes (g .bytes) → (S : Kept) (out : List ℕ) → Bytes (S .held)
-    → feedSegment (wayOf (byIndex b (bySlots T) (T .splits) (filledIndex L T) h) L) g S out ≡ splitSegment L b T g S out
+    → standSegment (T .splits) (filledIndex L T) h g S out ≡ splitSegment L b T g S out
 same-segment L b T e s h g sb =
     let v = byIndex b (bySlots T) (T .splits) (filledIndex L T) h in
     same.same-segment (wayOf v L) (wayOf (byTable b T) L) (λ R. refl)

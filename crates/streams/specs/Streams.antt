@@ -8,12 +8,13 @@ use lib.ListN.{length}
 use Rattle.rules.specs.Rules.{verdict}
 use Rattle.rules.specs.Words.{Row, InWords}
 use Rattle.lists.specs.Automaton.{start, accepted}
-use Rattle.feeds.specs.Calls.{Bytes}
+use Rattle.feeds.specs.Calls.{Bytes, Way}
 use Rattle.flows.specs.Flow.{flowLayout, offsetOf}
 use Rattle.plain.specs.Plain.{plain, openFlow}
 use Rattle.extended.specs.Machine.{machine, first, firstAlerts}
 use Rattle.extended.specs.Record as x
 use Rattle.extended.specs.Extended.{extendedOpen}
+use Rattle.extended.specs.Words.{feedWords}
 use Rattle.demands.specs.Calls.{Via, Call, Checked, wayOf, wordsBy}
 use Rattle.demands.specs.Demands.{Swapped}
 use Rattle.extended_demands.specs.Calls as machines
@@ -22,6 +23,7 @@ use Rattle.resends.specs.Resend.{mostSegment, heldSize}
 use Rattle.segments.specs.Segment.{Sent, Kept, takeOf, dueOf, unheard, doorRules, feedSegment}
 use Rattle.segments.specs.Calls.{Calls}
 use Rattle.segments.specs.Streamed.{Streams, Restarts}
+use Rattle.segment_index.specs.Standing.{standWay, stoodBy}
 
 -- ---- a flow of a list, each segment by the list alone, through a table, by a matrix or by an index
 
@@ -49,25 +51,6 @@ ListRestarts =
     (L R out : List ℕ) → openFlow L R out .refusal ≡ 0
     → Restarts listCalls flowLayout (plain L) (start L) (accepted L (start L)) (Swapped L (openFlow L R out)) (OnList L) (openFlow L R out)
 
--- ---- demand 1 of its segments, by the list alone, through a table, by a matrix or by an index
-
--- the refusals in words: 18 first, for a segment over 65,535 bytes, a held buffer not of 4,096 or a held length over that; then those of the feed, of no bytes from the flow's own offset
-abbrev pub segmentWords : Via → List ℕ → Sent → Kept → List Row
-segmentWords v L g S = (18, ((mostSegment < length (g .bytes)) ⊎ (length (S .held) ≡ heldSize → ⊥)) ⊎ (heldSize < S .length)) ∷ wordsBy v L (S .flow) (offsetOf (S .flow)) []
-
-pub record SegmentRefuses (v : Via) (L : List ℕ) (g : Sent) (S : Kept) (out : List ℕ) : Type 0 where
-  -- each number exactly when its words hold and those of no row before it do
-  pub said : InWords (segmentWords v L g S) (verdict (doorRules (wayOf v L) g S))
-  -- then it is the answer: no byte is passed down, no pair told, not all; and no buffer changes, nor the held place
-  pub refused : (verdict (doorRules (wayOf v L) g S) ≡ 0 → ⊥) → feedSegment (wayOf v L) g S out ≡ unheard (verdict (doorRules (wayOf v L) g S)) S out
-  -- one that none of them refuses, and of which nothing is due, answers what taking it answers: 18 where it can't be held
-  pub taken : verdict (doorRules (wayOf v L) g S) ≡ 0 → length (dueOf (wayOf v L) g S) ≡ 0 → feedSegment (wayOf v L) g S out .refusal ≡ takeOf (wayOf v L) g S .refusal
-  -- a refusal never says that nothing is due any more
-  pub not-all : (feedSegment (wayOf v L) g S out .refusal ≡ 0 → ⊥) → feedSegment (wayOf v L) g S out .all ≡ false
-
-abbrev pub SegmentsRefuse : Type 0
-SegmentsRefuse = (v : Via) (L : List ℕ) (g : Sent) (S : Kept) (out : List ℕ) → SegmentRefuses v L g S out
-
 -- ---- a flow of a machine
 
 abbrev pub machineCalls : Calls machines.Call
@@ -93,3 +76,33 @@ abbrev pub MachineRestarts : Type 0
 MachineRestarts =
     (M P : List ℕ) → Bytes M → Bytes P → (R out : List ℕ) → extendedOpen M P R out .refusal ≡ 0
     → Restarts machineCalls x.flowLayout (machine M P) (first P) (firstAlerts P) (Demand2Opened M P (extendedOpen M P R out)) (OnMachine M P) (extendedOpen M P R out)
+
+-- ---- demand 1 of segments, by any way whose rules for a feed of no bytes are in words the rows `ws`
+
+-- the refusals in words: 18 first, for a segment over 65,535 bytes, a held buffer not of 4,096 or a held length over that; then those of the feed, of no bytes from the flow's own offset
+abbrev pub segmentWords : List Row → Sent → Kept → List Row
+segmentWords ws g S = (18, ((mostSegment < length (g .bytes)) ⊎ (length (S .held) ≡ heldSize → ⊥)) ⊎ (heldSize < S .length)) ∷ ws
+
+pub record SegmentRefuses (W : Way) (ws : List Row) (g : Sent) (S : Kept) (out : List ℕ) : Type 0 where
+  -- each number exactly when its words hold and those of no row before it do
+  pub said : InWords (segmentWords ws g S) (verdict (doorRules W g S))
+  -- then it is the answer: no byte is passed down, no pair told, not all; and no buffer changes, nor the held place
+  pub refused : (verdict (doorRules W g S) ≡ 0 → ⊥) → feedSegment W g S out ≡ unheard (verdict (doorRules W g S)) S out
+  -- one that none of them refuses, and of which nothing is due, answers what taking it answers: 18 where it can't be held
+  pub taken : verdict (doorRules W g S) ≡ 0 → length (dueOf W g S) ≡ 0 → feedSegment W g S out .refusal ≡ takeOf W g S .refusal
+  -- a refusal never says that nothing is due any more
+  pub not-all : (feedSegment W g S out .refusal ≡ 0 → ⊥) → feedSegment W g S out .all ≡ false
+
+-- by the list alone, through a table, by a matrix or by an index
+abbrev pub SegmentsRefuse : Type 0
+SegmentsRefuse =
+    (v : Via) (L : List ℕ) (g : Sent) (S : Kept) (out : List ℕ) → SegmentRefuses (wayOf v L) (wordsBy v L (S .flow) (offsetOf (S .flow)) []) g S out
+
+-- by a machine
+abbrev pub MachineSegmentsRefuse : Type 0
+MachineSegmentsRefuse =
+    (M P : List ℕ) (g : Sent) (S : Kept) (out : List ℕ) → SegmentRefuses (machines.wayOf M P) (feedWords M P (S .flow) (x.offsetOf (S .flow)) []) g S out
+
+-- the split that a segment by an index answers: with a refusal at the door the hint handed in
+abbrev pub HintsKept : Type 0
+HintsKept = (S X : List ℕ) (h : ℕ) (g : Sent) (K : Kept) (out : List ℕ) → (verdict (doorRules (standWay S X h) g K) ≡ 0 → ⊥) → stoodBy S X h g K out ≡ h

@@ -1,4 +1,4 @@
-// The C face: the library's twenty-seven functions under names of their own, over numbers and slices, and the face's version. Nothing else is here.
+// The C face: the library's twenty-nine functions under names of their own, over numbers and slices, and the face's version. Nothing else is here.
 use feeds::Fed;
 use indexed::Stood;
 ghost use mathlib.Core.Path.{_≡_};
@@ -28,10 +28,12 @@ ghost use Rattle.watch_c.specs.Why.{faceFound};
 ghost use Rattle.renewals.specs.Renewal.{Renews, offsetSaid};
 ghost use Rattle.segments.specs.Ways.{plainSegment, splitSegment};
 ghost use Rattle.segments.specs.Post.{Hears, sent, kept};
-ghost use Rattle.watch_c.specs.Segments.{faceHeard};
+ghost use Rattle.segment_index.specs.Standing.{standSegment, stoodBy};
+ghost use Rattle.segment_machine.specs.Ways.{machineSegment};
+ghost use Rattle.watch_c.specs.Segments.{faceHeard, faceHeardAt};
 
 // The version of the face, by which a caller compares its header with the archive.
-pub const VERSION: u32 = 18;
+pub const VERSION: u32 = 19;
 
 // What a feed answers, as C lays it out.
 #[repr(C)]
@@ -609,6 +611,104 @@ pub extern "C" fn watch_split_feed_segment(
         parts,
         rows,
         splits,
+        flow,
+        first,
+        held,
+        held_start,
+        held_length,
+        start,
+        segment,
+        pairs,
+    );
+    WatchHeard {
+        bytes: h.bytes as u64,
+        pairs: h.pairs as u64,
+        refusal: h.refusal,
+        start: h.start,
+        length: h.length,
+        all: h.all,
+    }
+}
+
+// What feeding a segment by an index answers, as C lays it out: the split where the flow then stands beside the rest.
+#[repr(C)]
+pub struct WatchHeardAt {
+    pub bytes: u64,
+    pub pairs: u64,
+    pub refusal: u32,
+    pub start: u32,
+    pub length: u32,
+    pub all: bool,
+    pub split: u32,
+}
+
+// Feeds a segment to a flow by its index, in the same way, from the split that is handed in where the flow stands there; any number may be.
+#[no_mangle]
+pub extern "C" fn watch_prepared_feed_segment(
+    splits: &[u8],
+    index: &[u8],
+    split: u32,
+    flow: &mut [u8],
+    first: u32,
+    held: &mut [u8],
+    held_start: u32,
+    held_length: u32,
+    start: u32,
+    segment: &[u8],
+    pairs: &mut [u32],
+) -> WatchHeardAt
+    ensures { λ r. ⌜ Hears (standSegment (now (splits .entry)) (now (index .entry)) split (sent first start (now (segment .entry)))
+        (kept (now (flow .entry)) (now (held .entry)) «held_start» «held_length») (now (pairs .entry)))
+        (faceHeardAt r) (now (pairs .exit)) (now (flow .exit)) (now (held .exit))
+        × (r .split ≡ stoodBy (now (splits .entry)) (now (index .entry)) split (sent first start (now (segment .entry)))
+        (kept (now (flow .entry)) (now (held .entry)) «held_start» «held_length») (now (pairs .entry))) ⌝ }
+{
+    let s = segment_index::feed_segment(
+        splits,
+        index,
+        split as usize,
+        flow,
+        first,
+        held,
+        held_start,
+        held_length,
+        start,
+        segment,
+        pairs,
+    );
+    let h = s.heard;
+    WatchHeardAt {
+        bytes: h.bytes as u64,
+        pairs: h.pairs as u64,
+        refusal: h.refusal,
+        start: h.start,
+        length: h.length,
+        all: h.all,
+        split: s.split as u32,
+    }
+}
+
+// Feeds a segment to a flow by an automaton with bits and counters, in the same way.
+#[no_mangle]
+pub extern "C" fn watch_x_feed_segment(
+    moves: &[u8],
+    programs: &[u8],
+    flow: &mut [u8],
+    first: u32,
+    held: &mut [u8],
+    held_start: u32,
+    held_length: u32,
+    start: u32,
+    segment: &[u8],
+    pairs: &mut [u32],
+) -> WatchHeard
+    ensures { λ r. ⌜ Hears (machineSegment (now (moves .entry)) (now (programs .entry)) (sent first start (now (segment .entry)))
+        (kept (now (flow .entry)) (now (held .entry)) «held_start» «held_length») (now (pairs .entry)))
+        (faceHeard r) (now (pairs .exit)) (now (flow .exit)) (now (held .exit)) ⌝ }
+{
+    let h = segment_machine::feed_segment(
+        moves,
+        programs,
         flow,
         first,
         held,
