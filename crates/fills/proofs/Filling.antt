@@ -52,22 +52,15 @@ word-silent L S T j at e p t = rw (p, e) (go (eqb (accepted L T) 0) t)
 pub low-there : (C : List ℕ) (c : ℕ) → c < byteValues → some byteValues (λ d. eqb (getD C d 0) (getD C c 0)) ≡ true
 low-there C c l = some-intro byteValues (λ d. eqb (getD C d 0) (getD C c 0)) c l (eq-eqb (getD C c 0) (getD C c 0) refl)
 
--- it is no higher than the byte, and leads where the byte does if all bytes of a class lead to one set
+-- it leads where the byte does if all bytes of a class lead to one set
 pub low-led : (t : ℕ → ℕ) (C D : List ℕ) (c : ℕ) → c < byteValues → getD D c 0 ≡ lowIn C c → ((d e : ℕ) → d < byteValues → e < byteValues → getD C d 0 ≡ getD C e 0 → t d ≡ t e) → Led t D c
-low-led t C D c l e alike = (rw e most, rw e (alike (lowIn C c) c (r .0) l (eqb-true (getD C (lowIn C c) 0) (getD C c 0) (r .1))))
+low-led t C D c l e alike = λ low. rw e (alike (lowIn C c) c (r .0) l (eqb-true (getD C (lowIn C c) 0) (getD C c 0) (r .1)))
   where
     p : ℕ → Bool
     p d = eqb (getD C d 0) (getD C c 0)
 
     r : (lowIn C c < byteValues) × (p (lowIn C c) ≡ true) × (some (lowIn C c) p ≡ false)
     r = first-found byteValues p (low-there C c l)
-
-    most : lowIn C c ≤ c
-    most =
-        elim (decLt c (lowIn C c)) [
-          | yes h ↦ absurd (true≢false (sym (some-intro (lowIn C c) p c h (eq-eqb (getD C c 0) (getD C c 0) refl)) ∙ r .2))
-          | no g ↦ omega (arith, lt-of-not-le (λ (h : suc c ≤ lowIn C c). g h))
-        ]
 
 -- one byte more has the lowest of its class
 pub lows-more : (C D : List ℕ) (c v : ℕ) → c < length D → v ≡ lowIn C c → ((d : ℕ) → d < c → getD D d 0 ≡ lowIn C d) → (d : ℕ) → d < c + 1 → getD (set D c v) d 0 ≡ lowIn C d
@@ -79,7 +72,7 @@ lows-more C D c v l e h d k =
 
 -- the same of sets that are those of the steps
 pub led-by : (t u : ℕ → ℕ) (D : List ℕ) (c : ℕ) → ((d : ℕ) → d < byteValues → u d ≡ t d) → c < byteValues → Led t D c → Led u D c
-led-by t u D c same l h = (h .0, same (getD D c 0) (omega (arith, h .0)) ∙ h .1 ∙ sym (same c l))
+led-by t u D c same l h = λ low. same (getD D c 0) (omega (arith, low, l)) ∙ h low ∙ sym (same c l)
 
 -- ---- what is written, one after the other
 

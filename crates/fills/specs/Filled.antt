@@ -1,5 +1,5 @@
 -- What is written into an index by places for a list and splits in order: for each split where each byte leads by the list's step, what is told there, what a byte at it costs, and whether its states are all named.
-use Prim.Native.Nat.{ℕ, _+_, _*_, _≤_}
+use Prim.Native.Nat.{ℕ, _+_, _*_, _≤_, _<_}
 use mathlib.Core.Path.{_≡_}
 use mathlib.Core.Bool.{Bool, cond, _||_}
 use mathlib.Core.List.{List, [], _∷_, _++_}
@@ -27,9 +27,9 @@ wordsOf L S t n = stack (λ c. digits 8 4 (wordOf L S (t c))) n
 abbrev pub lowIn : List ℕ → ℕ → ℕ
 lowIn C c = first byteValues (λ d. eqb (getD C d 0) (getD C c 0))
 
--- C has for byte c one that is no higher and leads where c does
+-- where C has for byte c a lower one, that leads where c does
 abbrev pub Led : (ℕ → ℕ) → List ℕ → ℕ → Type 0
-Led t C c = (getD C c 0 ≤ c) × (t (getD C c 0) ≡ t c)
+Led t C c = getD C c 0 < c → t (getD C c 0) ≡ t c
 
 -- the slots that split i takes, and m rows more: what a byte at it costs
 unfoldable pub costOf : ℕ → List ℕ → ℕ → ℕ

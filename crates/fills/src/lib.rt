@@ -169,7 +169,7 @@ pub fn put_lows(classes: &[u8], lows: &mut [u8])
 }
 
 // Writes the states that the list names and the entry of each split, at the front of the index; `lows` has for each byte one that leads where it does, `work` the steps of a set.
-fn fill_all(list: &[u8], lows: &[u8], splits: &[u8], m: u64, work: &mut [u8], index: &mut [u8])
+pub fn fill_all(list: &[u8], lows: &[u8], splits: &[u8], m: u64, work: &mut [u8], index: &mut [u8])
     requires { ⌜ (splitCount (now splits) ≤ mostSplits) × (every (splitCount (now splits)) (inOrder (now splits)) ≡ true) × (byteValues ≤ length (now lows)) × (m ≤ 251)
         × (entryPlace (splitCount (now splits)) ≤ length (now index)) × (setSize * byteValues ≤ length (now work))
         × ((i c : ℕ) → i < splitCount (now splits) → c < byteValues → Led (step (now list) (splitSet (now splits) i)) (now lows) c) ⌝ }
@@ -185,7 +185,7 @@ fn fill_all(list: &[u8], lows: &[u8], splits: &[u8], m: u64, work: &mut [u8], in
 }
 
 // The same, where the bytes of a class lead to one set from each split.
-pub fn fill_entries(
+fn fill_entries(
     list: &[u8],
     classes: &[u8],
     splits: &[u8],

@@ -1,4 +1,4 @@
--- What the search and the end of the preparation cite: the classes, a byte whose set is there already, and the splits and the index at the front of the lent lists. Assumes nothing.
+-- What the search and the end of the preparation cite: a byte whose set is there already, and the splits and the index at the front of the lent lists. Assumes nothing.
 use Prim.Native.Nat.{ℕ, _+_, _-_, _*_, _≤_, _<_}
 use mathlib.Core.Path.{_≡_, sym, ap, ap₂, _∙_, subst}
 use mathlib.Core.Bool.{Bool, true}
@@ -11,42 +11,32 @@ use Rattle.sets.specs.Set.{placed}
 use Rattle.sets.proofs.Placing.{placed-fits, length-placed}
 use Rattle.rules.specs.Scan.{every}
 use Rattle.rules.proofs.Scanning.{every-all}
-use Rattle.lists.specs.List.{listRefusal}
 use Rattle.lists.specs.Automaton.{start, step}
+use Rattle.alike.specs.Alike.{Alikes}
 use Rattle.tables.specs.Table.{byteValues, mostSplits, splitSize, splitCount, splitSet, inOrder, part}
-use Rattle.classes.specs.Classes.{classOf, lowestOf}
-use Rattle.classes.specs.Loops.{Numbered}
-use Rattle.classes.proofs.Classes.{lowest-step}
 use Rattle.classes.proofs.Fronts.{put}
 use Rattle.build.specs.Build.{Reached, over}
 use Rattle.build.specs.Loops.{Among, Room, Added, Searched, Laid, setsOf}
 use Rattle.build.proofs.Exploring.{Growing, Going, go-start, reached, sets-length, sets-at}
 use Rattle.build.proofs.Finishing.{laid-over}
 use Rattle.entries.specs.Entry.{entryPlace}
-use Rattle.fills.specs.Filled.{Led, lowIn, indexOf}
+use Rattle.fills.specs.Filled.{Led, indexOf}
 use Rattle.fills.proofs.Reading.{index-length}
-use Rattle.fills.proofs.Filling.{low-led}
 use Rattle.prepares.specs.Prepare.{bareSplit, splitsOf, madeIndex}
-use Rattle.prepares.specs.Loops.{Alikes, Seeks}
+use Rattle.prepares.specs.Loops.{Leads, Seeks}
 use Rattle.prepares.proofs.Right.{bare-size, split-length, split-count, in-order}
 
--- ---- the classes that the list makes
+-- ---- bytes on which the list steps alike: a lower one leads where a byte does, from every set
 
--- on bytes of one class every set steps alike
-pub numbered-alikes : (L C W C′ W′ : List ℕ) (k : ℕ) → listRefusal L ≡ 0 → Numbered L C W C′ W′ k → Alikes L C′
-numbered-alikes L C W C′ W′ k good g d e F hd he q =
-    sym (lowest-step L good F d hd) ∙ ap (λ (x : ℕ). step L F (lowestOf L x)) (sym (g .numbers d hd) ∙ q ∙ g .numbers e he) ∙ lowest-step L good F e he
-
--- so the lowest byte of its class leads where a byte does, from every set
-pub lows-led : (L C D : List ℕ) → Alikes L C → ((c : ℕ) → c < byteValues → getD D c 0 ≡ lowIn C c) → (F c : ℕ) → c < byteValues → Led (step L F) D c
-lows-led L C D a h F c l = low-led (step L F) C D c l (h c l) (λ d e hd he q. a d e F hd he q)
+pub alikes-lead : (L D : List ℕ) → Alikes L D → Leads L D
+alikes-lead L D a F c l = λ low. a c l F
 
 -- ---- one byte: Y has the sets that the bytes lead to from set i
 
 module _ (L W P W₁ P₁ Y : List ℕ) (n m i c : ℕ) (v : (d : ℕ) → d < byteValues → part Y d ≡ step L (part W i) d) (l : c < byteValues) where
   -- where a lower byte leads to the same set, that is there
   pub there : (D : List ℕ) → Growing mostSplits (step L) L W P W₁ P₁ n m i c → Led (step L (part W i)) D c → getD D c 0 < c → Among P₁ m (part Y c)
-  there D g led low = subst (λ (x : ℕ). Among P₁ m x) (led .1 ∙ sym (v c l)) (g .stepped (getD D c 0) low)
+  there D g led low = subst (λ (x : ℕ). Among P₁ m x) (led low ∙ sym (v c l)) (g .stepped (getD D c 0) low)
 
   pub added : (W₂ P₂ : List ℕ) (r : ℕ) (full : Bool) → Added mostSplits L W₁ P₁ W₂ P₂ m r (part Y c) full → Added mostSplits L W₁ P₁ W₂ P₂ m r (step L (part W i) c) full
   added W₂ P₂ r full a = subst (λ (x : ℕ). Added mostSplits L W₁ P₁ W₂ P₂ m r x full) (v c l) a
@@ -56,12 +46,12 @@ module _ (L W P W₁ P₁ Y : List ℕ) (n m i c : ℕ) (v : (d : ℕ) → d < b
 pub begun : (L W P W₁ P₁ : List ℕ) → Room mostSplits W → Room mostSplits P → W₁ ≡ put W 0 (start L) → P₁ ≡ put P 0 (start L) → Going mostSplits (step L) L W₁ P₁ W₁ P₁ 1 byteValues 0
 begun L W P W₁ P₁ w p e d = rw (e, d) (go-start mostSplits (step L) L W P byteValues (lit< tt) w p)
 
-pub seeks : (L S X C′ S′ X′ : List ℕ) (n : ℕ) (full : Bool) → Alikes L C′ → Searched mostSplits (step L) L S X S′ X′ n byteValues full → Seeks L S X C′ S′ X′ n full
-seeks L S X C′ S′ X′ n full a s =
+pub seeks : (L S X D′ S′ X′ : List ℕ) (n : ℕ) (full : Bool) → Leads L D′ → Searched mostSplits (step L) L S X S′ X′ n byteValues full → Seeks L S X D′ S′ X′ n full
+seeks L S X D′ S′ X′ n full a s =
     record {
       splits = s .long;
       index = s .long′;
-      alikes = a;
+      leads = a;
       many = s .many;
       few = λ z. s .known z .few;
       reached = λ z. reached mostSplits L S′ X′ n (s .known z) (λ i c l h. s .closed z i l c h);
@@ -108,11 +98,11 @@ module _ (P : List ℕ) (n : ℕ) where
         rw (t, g, made-length)
 
     -- what the filler asks of the splits at the front
-    pub fillable : (C S : List ℕ) → S ≡ splitsOf (setsOf P n) → Reached L (setsOf P n) → n ≤ mostSplits → Alikes L C
-        → (splitCount S ≡ n) × (every (splitCount S) (inOrder S) ≡ true) × ((i d e : ℕ) → i < splitCount S → d < byteValues → e < byteValues → getD C d 0 ≡ getD C e 0 → step L (splitSet S i) d ≡ step L (splitSet S i) e)
-    fillable C S e a few alikes =
+    pub fillable : (D S : List ℕ) → S ≡ splitsOf (setsOf P n) → Reached L (setsOf P n) → n ≤ mostSplits → Leads L D
+        → (splitCount S ≡ n) × (every (splitCount S) (inOrder S) ≡ true) × ((i c : ℕ) → i < splitCount S → c < byteValues → Led (step L (splitSet S i)) D c)
+    fillable D S e a few leads =
         let q : splitCount S ≡ length (setsOf P n) = ap splitCount e ∙ split-count (setsOf P n) in (
           q ∙ sets-length P n,
           rw (q, e) (every-all (length (setsOf P n)) (inOrder (splitsOf (setsOf P n))) (in-order (setsOf P n) (a .rises))),
-          λ i d x l hd hx z. alikes d x (splitSet S i) hd hx z,
+          λ i c l h. leads (splitSet S i) c h,
         )

@@ -8,15 +8,13 @@ ghost use Prim.Native.Nat.{ℕ, _+_, _*_, _^_, _<_, _≤_};
 ghost use lib.ListN.{length, getD};
 ghost use lib.Dec.{ltb};
 ghost use Rattle.sets.specs.Set.{states, setSize, setOf, placed};
-ghost use Rattle.lists.specs.List.{listRefusal};
 ghost use Rattle.lists.specs.Automaton.{step};
 ghost use Rattle.tables.specs.Table.{byteValues, mostSplits, splitSize, part};
 ghost use Rattle.build.specs.Build.{Reach, Reached, over};
 ghost use Rattle.build.specs.Loops.{Rising, Among, Room, Known, Added, Grown, Searched, Laid, setsOf};
 ghost use Rattle.entries.specs.Entry.{entryPlace};
-ghost use Rattle.fills.specs.Filled.{Led};
 ghost use Rattle.prepares.specs.Prepare.{bareSplit, splitsOf, madeIndex, Prepares};
-ghost use Rattle.prepares.specs.Loops.{Alikes, Seeks};
+ghost use Rattle.prepares.specs.Loops.{Leads, Seeks};
 
 // The bytes that each of the two lent lists has to have.
 pub const PREPARE_SPLITS: usize = tables::SPLIT_SIZE * tables::MOST_SPLITS;
@@ -73,7 +71,7 @@ fn steps_of(
     i: usize,
 ) -> Found
     requires { ⌜ (byteValues ≤ length (now lows)) × (setSize * byteValues ≤ length (now work)) × Room mostSplits (now queue) × Room mostSplits (now parts)
-        × Known mostSplits (now list) (now queue) (now parts) n × (i < n) × ((F c : ℕ) → c < byteValues → Led (step (now list) F) (now lows) c) ⌝ }
+        × Known mostSplits (now list) (now queue) (now parts) n × (i < n) × Leads (now list) (now lows) ⌝ }
     ensures { λ r. ⌜ (length (now (work .exit)) ≡ length (now (work .entry)))
         × Grown mostSplits (step (now (list .entry))) (now (list .entry)) (now (queue .entry)) (now (parts .entry)) (now (queue .exit)) (now (parts .exit)) n (r .n) i byteValues (r .full) ⌝ }
 {
@@ -92,7 +90,7 @@ fn steps_of(
 // All sets that can be reached: in the queue as they are found, in the parts in rising order; or that there are too many.
 fn search(list: &[u8], lows: &[u8], work: &mut [u8], queue: &mut [u8], parts: &mut [u8]) -> Found
     requires { ⌜ (byteValues ≤ length (now lows)) × (setSize * byteValues ≤ length (now work)) × Room mostSplits (now queue) × Room mostSplits (now parts)
-        × ((F c : ℕ) → c < byteValues → Led (step (now list) F) (now lows) c) ⌝ }
+        × Leads (now list) (now lows) ⌝ }
     ensures { λ r. ⌜ (length (now (work .exit)) ≡ length (now (work .entry)))
         × Searched mostSplits (step (now (list .entry))) (now (list .entry)) (now (queue .entry)) (now (parts .entry)) (now (queue .exit)) (now (parts .exit)) (r .n) byteValues (r .full) ⌝ }
 {
@@ -133,43 +131,30 @@ fn fill_splits(parts: &[u8], n: usize, splits: &mut [u8])
 }
 
 // Writes the splits of the n sets that the index begins with, the index over them, and zeros behind both.
-fn finish(
-    list: &[u8],
-    classes: &[u8],
-    work: &mut [u8],
-    splits: &mut [u8],
-    index: &mut [u8],
-    n: usize,
-)
-    requires { ⌜ (listRefusal (now list) ≡ 0) × (byteValues ≤ length (now classes)) × (setSize * byteValues ≤ length (now work))
+fn finish(list: &[u8], lows: &[u8], work: &mut [u8], splits: &mut [u8], index: &mut [u8], n: usize)
+    requires { ⌜ (byteValues ≤ length (now lows)) × (setSize * byteValues ≤ length (now work))
         × (splitSize * mostSplits ≤ length (now splits)) × (entryPlace mostSplits ≤ length (now index)) × (n ≤ mostSplits)
-        × Reached (now list) (setsOf (now index) n) × Alikes (now list) (now classes) ⌝ }
+        × Reached (now list) (setsOf (now index) n) × Leads (now list) (now lows) ⌝ }
     ensures { λ r. ⌜ (length (now (work .exit)) ≡ length (now (work .entry))) × (now (splits .exit) ≡ over (splitsOf (setsOf (now (index .entry)) n)) (now (splits .entry)))
         × (now (index .exit) ≡ over (madeIndex (now (list .entry)) (setsOf (now (index .entry)) n)) (now (index .entry))) ⌝ }
 {
     fill_splits(index, n, splits);
     let end = tables::SPLIT_SIZE * n;
     classes::clear(splits, end);
-    fills::fill_entries(list, classes, &splits[..end], 1, work, index);
+    fills::fill_all(list, lows, &splits[..end], 1, work, index);
     classes::clear(index, sets::BYTES + entries::ENTRY_SIZE * n);
 }
 
-// The classes, and the sets that can be reached, rising, at the front of the index; or that they are too many. The splits hold them as they are found.
-fn seek(
-    list: &[u8],
-    classes: &mut [u8],
-    work: &mut [u8],
-    splits: &mut [u8],
-    index: &mut [u8],
-) -> Found
-    requires { ⌜ (listRefusal (now list) ≡ 0) × (byteValues ≤ length (now classes)) × (setSize * byteValues ≤ length (now work)) × Room mostSplits (now splits) × Room mostSplits (now index) ⌝ }
-    ensures { λ r. ⌜ (length (now (classes .exit)) ≡ length (now (classes .entry))) × (length (now (work .exit)) ≡ length (now (work .entry)))
-        × Seeks (now (list .entry)) (now (splits .entry)) (now (index .entry)) (now (classes .exit)) (now (splits .exit)) (now (index .exit)) (r .n) (r .full) ⌝ }
+// Lower bytes on which the list steps alike, and the sets that can be reached, rising, at the front of the index; or that they are too many.
+// The splits hold them as they are found.
+fn seek(list: &[u8], lows: &mut [u8], work: &mut [u8], splits: &mut [u8], index: &mut [u8]) -> Found
+    requires { ⌜ (byteValues ≤ length (now lows)) × (setSize * byteValues ≤ length (now work)) × Room mostSplits (now splits) × Room mostSplits (now index) ⌝ }
+    ensures { λ r. ⌜ (length (now (lows .exit)) ≡ length (now (lows .entry))) × (length (now (work .exit)) ≡ length (now (work .entry)))
+        × Seeks (now (list .entry)) (now (splits .entry)) (now (index .entry)) (now (lows .exit)) (now (splits .exit)) (now (index .exit)) (r .n) (r .full) ⌝ }
 {
-    classes::classes_of(list, classes, work);
-    let mut lows = [0u8; tables::BYTE_VALUES];
-    fills::put_lows(classes, &mut lows);
-    search(list, &lows, work, splits, index)
+    let mut keys = [0u64; tables::BYTE_VALUES];
+    alike::fill_alikes(list, &mut keys, lows);
+    search(list, lows, work, splits, index)
 }
 
 // Says whether a lent list is too short, by the lengths of the two.
@@ -198,9 +183,9 @@ pub fn prepare(list: &[u8], splits: &mut [u8], index: &mut [u8]) -> Made
             index: 0,
         };
     }
-    let mut classes = [0u8; tables::BYTE_VALUES];
+    let mut lows = [0u8; tables::BYTE_VALUES];
     let mut work = [0u8; fills::WORK];
-    let g = seek(list, &mut classes, &mut work, splits, index);
+    let g = seek(list, &mut lows, &mut work, splits, index);
     if g.full {
         classes::clear(splits, 0);
         classes::clear(index, 0);
@@ -211,7 +196,7 @@ pub fn prepare(list: &[u8], splits: &mut [u8], index: &mut [u8]) -> Made
         };
     }
     let n = g.n;
-    finish(list, &classes, &mut work, splits, index, n);
+    finish(list, &lows, &mut work, splits, index, n);
     Made {
         refusal: rules::PASSED,
         splits: tables::SPLIT_SIZE * n,

@@ -18,16 +18,16 @@ shared-slice-read-low : tie.Need-shared-slice-read-low
 shared-slice-read-low c = let s = entry c in omega (arith, s .pre .3, s .pre .5)
 
 cast-low : tie.Need-cast-low
-cast-low c = let s = entry c in omega (arith, s .pre .7 .0, s .pre .5)
+cast-low c = omega (arith, c .shared-slice-known5 .given (entry c .args .c))
 
 mul-whole-number : tie.Need-mul-whole-number
-mul-whole-number c = let s = entry (c .before .before) in omega (arith, s .pre .7 .0, s .pre .5)
+mul-whole-number c = let s = entry (c .before .before) in omega (arith, c .before .if1 .taken, s .pre .5)
 
 add-whole-number : tie.Need-add-whole-number
-add-whole-number c = let s = entry (c .before .before) in omega (arith, s .pre .7 .0, s .pre .5, s .pre .6)
+add-whole-number c = let s = entry (c .before .before) in omega (arith, c .before .if1 .taken, s .pre .5, s .pre .6)
 
 whole-number-requires : tie.Need-whole-number-requires
-whole-number-requires c κs = let s = entry (c .before .before) in (omega (arith, s .pre .7 .0, s .pre .5, s .pre .6), omega arith)
+whole-number-requires c κs = let s = entry (c .before .before) in (omega (arith, c .before .if1 .taken, s .pre .5, s .pre .6), omega arith)
 
 mul-put-number : tie.Need-mul-put-number
 mul-put-number c = omega (arith, entry (c .before .before .before .before) .pre .5)
@@ -50,7 +50,7 @@ returns c =
     let a = s .args in
     put .put-number .ensures
     ∙ ap (λ (v : ℕ). placed (a .index .now) (a .at + 4 * a .c) (digits 8 4 v))
-    (number .whole-number .ensures ∙ s .pre .9 (getD (a .lows .now) (a .c) 0) (low .if1 .taken) ∙ ap (wordOf (a .list .now) (a .splits .now)) (s .pre .7 .1))
+    (number .whole-number .ensures ∙ s .pre .9 (getD (a .lows .now) (a .c) 0) (low .if1 .taken) ∙ ap (wordOf (a .list .now) (a .splits .now)) (s .pre .7 (low .if1 .taken)))
 
 mul-whole : tie.Need-mul-whole
 mul-whole c = omega (arith, entry (c .before) .pre .5)

@@ -65,7 +65,7 @@ seek-requires c κs =
     let p = c .before .before .before .before in
     let a = entry p .args in
     let e = enough (a .list .now) (a .splits .now) (a .index .now) (long p) in
-    (good p, omega arith, omega arith, omega (arith, e .0), omega (arith, e .1))
+    (omega arith, omega arith, omega (arith, e .0), omega (arith, e .1))
 
 clear-requires : tie.Need-clear-requires
 clear-requires c κs = search needs
@@ -103,7 +103,7 @@ finish-requires c κs =
     let a = entry p .args in
     let g = k .seek .ensures .2 in
     let e = enough (a .list .now) (a .splits .now) (a .index .now) (long p) in
-    (good p, omega (arith, k .seek .ensures .0), omega (arith, k .seek .ensures .1), omega (arith, g .splits, e .0), omega (arith, g .index, e .1), few x, g .reached (x .if3 .left), g .alikes)
+    (omega (arith, k .seek .ensures .0), omega (arith, k .seek .ensures .1), omega (arith, g .splits, e .0), omega (arith, g .index, e .1), few x, g .reached (x .if3 .left), g .leads)
 
 mul-t12 : tie.Need-mul-t12
 mul-t12 c = omega (arith, few (c .before .before .before .before .before .before .before .before .before .before))
