@@ -12,7 +12,7 @@ use Rattle.rules.specs.Scan.{every, gather}
 use Rattle.rules.proofs.Scanning.{every-at}
 use Rattle.lists.specs.List.{records, from, target}
 use Rattle.lists.specs.Automaton.{edge, leaves, step}
-use Rattle.alike.specs.Alike.{byteValues, alikeAt, edgesAlike, Alike, Alikes}
+use Rattle.alike.specs.inner.Alike.{byteValues, alikeAt, edgesAlike, Alike, Alikes}
 
 both-or-neither : (a b : Bool) → (a && b || not a && not b) ≡ true → a ≡ b
 both-or-neither true true h = refl

@@ -1,1 +1,1 @@
-pub mod Alike
+pub mod inner

@@ -4,7 +4,7 @@ ghost use mathlib.Core.Path.{_≡_};
 ghost use Prim.Native.Nat.{_<_, _≤_};
 ghost use lib.ListN.{length};
 ghost use Rattle.lists.specs.List.{records};
-ghost use Rattle.alike.specs.Alike.{byteValues, alikeAt, edgesAlike, Alike, Alikes};
+ghost use Rattle.alike.specs.inner.Alike.{byteValues, alikeAt, edgesAlike, Alike, Alikes};
 
 // Values of a byte, each with a key and with a byte that steps like it.
 pub const BYTE_VALUES: usize = 256;

@@ -8,7 +8,8 @@ use native.Mathlib.Omega.{arith}
 use lib.Dec.{ltb, eqb}
 use borrow.Author.Tests.{ltb-true, ltb-false, leb-false, eqb-true}
 use Rattle.rules.proofs.Scanning.{below-suc, choose}
-use Rattle.blocks.specs.Block.{blockSize, none, wordAt, inside, hot, least, met}
+use Rattle.blocks.specs.inner.Ranges.{blockSize, none, inside, hot, least, met}
+use Rattle.blocks.specs.Block.{wordAt}
 
 -- ---- least
 

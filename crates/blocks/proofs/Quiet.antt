@@ -9,7 +9,8 @@ use Rattle.sets.specs.Set.{signatures, members}
 use Rattle.sets.proofs.Sets.{holds-empty}
 use Rattle.sets.proofs.Parts.{members-none}
 use Rattle.feeds.specs.Engine.{Engine, due, pairsAt}
-use Rattle.feeds.proofs.Going.{Going, more}
+use Rattle.feeds.specs.inner.Going.{Going}
+use Rattle.feeds.proofs.Going.{more}
 
 whole : (n : ℕ) (xs : List ℕ) → take n xs ++ drop n xs ≡ xs
 whole zero xs = refl

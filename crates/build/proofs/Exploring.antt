@@ -18,7 +18,7 @@ use Rattle.lists.proofs.Steps.{start-lt}
 use Rattle.tables.specs.Table.{byteValues, part}
 use Rattle.build.specs.Build.{Reach, Many, Reached}
 use Rattle.classes.specs.Classes.{classOf, classTotal, lowestOf}
-use Rattle.build.specs.Loops.{classStep, Among, Place, Inserted, Known, More, Stepped, Room, Added, Grown, Searched, setsOf}
+use Rattle.build.specs.inner.Loops.{classStep, Among, Place, Inserted, Known, More, Stepped, Room, Added, Grown, Searched, setsOf}
 use Rattle.build.proofs.Reached.{reach-start, reach-lt, closed-all, not-self}
 use Rattle.classes.proofs.Classes.{lowest-step}
 use Rattle.classes.proofs.Fronts.{put, put-length, put-same, put-other}

@@ -18,8 +18,8 @@ use Rattle.tables.specs.Table.{mostParts, byteValues, splitSize, part}
 use Rattle.tables.proofs.Entries.{set-bytes}
 use Rattle.classes.specs.Classes.{mostClasses, classOf, classesOf, classTotal}
 use Rattle.build.specs.Build.{partsOf, rowOf, rowsOf, slotBytes, splitsOf, over}
-use Rattle.build.specs.Loops.{Laid, setsOf, Searched, Rowed, classStep, Sought}
-use Rattle.classes.specs.Loops.{Classed, Numbered}
+use Rattle.build.specs.inner.Loops.{Laid, setsOf, Searched, Rowed, classStep, Sought}
+use Rattle.classes.specs.inner.Loops.{Classed, Numbered}
 use Rattle.build.proofs.Laying.{stack-front}
 use Rattle.classes.proofs.Totals.{class-length, class-at, class-lt}
 use Rattle.build.proofs.Exploring.{classes-closed, sets-length, sets-at, reached}

@@ -10,7 +10,7 @@ use Rattle.sets.specs.Set.{placed}
 use Rattle.rules.specs.Scan.{stack}
 use Rattle.rules.proofs.Scanning.{below-suc, choose}
 use Rattle.classes.proofs.Fronts.{placed-here, placed-before}
-use Rattle.build.specs.Loops.{Laid}
+use Rattle.build.specs.inner.Loops.{Laid}
 
 -- an entry written behind others
 pub stack-behind : (b : List ℕ) (k n : ℕ) (xs : List ℕ) → length xs ≡ k → k * n + k ≤ length b

@@ -18,7 +18,7 @@ use Rattle.tables.specs.Table.{Table, byteValues, mostParts, splitSize, tableRe
 use Rattle.classes.specs.Classes.{mostClasses, classTotal, classesOf}
 use Rattle.build.specs.Build.{mostRows, Many, partsOf, rowsOf, splitsOf, Building, tooShort, earlyRules, over, nothing, Builds, refuses, passesLimits, builds}
 use Rattle.build.specs.Words.{fronts}
-use Rattle.build.specs.Loops.{setsOf, Sought}
+use Rattle.build.specs.inner.Loops.{setsOf, Sought}
 use Rattle.classes.proofs.Totals.{class-length}
 use Rattle.build.proofs.Exploring.{sets-length}
 use Rattle.build.proofs.Accepts.{part-length, row-length, split-length, accepted-at-1}

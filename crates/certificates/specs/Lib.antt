@@ -1,3 +1,3 @@
 pub mod Certificate
 pub mod Words
-pub mod Sorted
+pub mod inner

@@ -9,7 +9,7 @@ use lib.ListN.{length, getD, take, replicate, length-replicate, getD-replicate, 
 use lib.Seq.{ext-getD, getD-take, length-take-le}
 use Rattle.tables.specs.Table.{byteValues, classCount}
 use Rattle.classes.specs.Classes.{lowestLike, classOf, classesOf}
-use Rattle.classes.specs.Loops.{Filled, Lows, Numbered}
+use Rattle.classes.specs.inner.Loops.{Filled, Lows, Numbered}
 use Rattle.classes.proofs.Totals.{class-length, class-at}
 
 -- those of the code begin with the list's

@@ -20,7 +20,7 @@ use Rattle.lists.proofs.Steps.{step-exactly}
 use Rattle.rules.proofs.Scanning.{both, some-intro, some-none, none-some, every-at, every-all, first-at, first-found}
 use Rattle.tables.specs.Table.{byteValues, part}
 use Rattle.classes.specs.Classes.{alike, count, lowestLike, leads, classOf}
-use Rattle.classes.specs.Loops.{alikeTo, lowTo, like, parted, Parting, Filled, Lows}
+use Rattle.classes.specs.inner.Loops.{alikeTo, lowTo, like, parted, Parting, Filled, Lows}
 use Rattle.classes.proofs.Classes.{first-same, lowest-upto, count-lead, count-pass, class-lead, class-low}
 
 -- ---- the first n states

@@ -22,7 +22,7 @@ use Rattle.lists.specs.Words.{Takes}
 use Rattle.lists.specs.Automaton.{edge, leaves, step}
 use Rattle.rules.proofs.Scanning.{and-false, choose, both, some-intro, gather-holds}
 use Rattle.tables.specs.Table.{byteValues, part}
-use Rattle.classes.specs.Loops.{SetsAre, wide}
+use Rattle.classes.specs.inner.Loops.{SetsAre, wide}
 use Rattle.classes.proofs.Fronts.{put, put-length, put-same, put-other}
 
 -- ---- the first n records

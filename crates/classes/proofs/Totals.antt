@@ -12,7 +12,7 @@ use Rattle.rules.proofs.Stacks.{stack-length, stack-at}
 use Rattle.tables.specs.Table.{byteValues, largest}
 use Rattle.tables.proofs.Entries.{largest-at, largest-exactly}
 use Rattle.classes.specs.Classes.{classOf, classesOf, classTotal, lowestOf}
-use Rattle.classes.specs.Loops.{Classed}
+use Rattle.classes.specs.inner.Loops.{Classed}
 use Rattle.classes.proofs.Classes.{first-same, class-hit}
 
 module _ (L : List ℕ) where

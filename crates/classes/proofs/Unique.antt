@@ -10,7 +10,7 @@ use lib.Seq.{ext-getD}
 use lib.Dec.{eqb}
 use Rattle.rules.specs.Scan.{first}
 use Rattle.tables.specs.Table.{byteValues}
-use Rattle.classes.specs.Loops.{Numbered}
+use Rattle.classes.specs.inner.Loops.{Numbered}
 
 pub unique-clear : (r q b : List ℕ) (from : ℕ) → r ≡ take from b ++ replicate (length b - from) 0 → q ≡ take from b ++ replicate (length b - from) 0 → r ≡ q
 unique-clear r q b from e f = e ∙ sym f

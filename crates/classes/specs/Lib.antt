@@ -1,3 +1,3 @@
 pub mod Classes
-pub mod Loops
 pub mod Words
+pub mod inner

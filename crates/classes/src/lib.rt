@@ -12,7 +12,7 @@ ghost use Rattle.lists.specs.List.{records, from, target};
 ghost use Rattle.lists.specs.Automaton.{edge, step};
 ghost use Rattle.tables.specs.Table.{byteValues, part};
 ghost use Rattle.classes.specs.Classes.{lowestLike, classOf};
-ghost use Rattle.classes.specs.Loops.{SetsAre, wide, lowTo, parted, Parting, Filled, Lows, Numbered};
+ghost use Rattle.classes.specs.inner.Loops.{SetsAre, wide, lowTo, parted, Parting, Filled, Lows, Numbered};
 
 // Writes zeros from a place to the end.
 pub fn clear(b: &mut [u8], from: usize)

@@ -15,7 +15,8 @@ use Rattle.texts.proofs.Viable.{bytes-none, bytes-more}
 use Rattle.texts.proofs.Place.{bytes-drop, place-19}
 use Rattle.texts.proofs.Deep.{deep-20, good-0}
 use Rattle.compile.specs.declared.Compiled.{Compiled}
-use Rattle.compile.specs.Compile.{Outcome, refused, written, made, Gives, Judged, Reading, FirstBad, answer, Compiles}
+use Rattle.compile.specs.inner.Code.{Outcome, refused, written, made, Gives, Judged}
+use Rattle.compile.specs.Compile.{Reading, FirstBad, answer, Compiles}
 use Rattle.compile.specs.Words.{CompileExactly}
 
 -- ---- the acceptor's verdict

@@ -16,16 +16,16 @@ use Rattle.texts.specs.Exp.{Exp, size, null, first, last, follows, edge, accept
 use Rattle.texts.specs.Grammar.{Text, textReads, okBody, reads}
 use Rattle.texts.specs.Records.{runs, edgeRecords, startRecord, acceptRecord, each, edgesFrom, edgesTo, acceptsOf, allRecords, recordsOf, sortInto, flat, listOf, tooBig}
 use Rattle.texts.proofs.Reading.{body-caret}
-use Rattle.texts.proofs.Words.{headOf}
+use Rattle.texts.specs.inner.Heads.{headOf}
 use Rattle.walk.specs.declared.Shape.{Shape}
-use Rattle.walk.specs.Rows.{cap, priorAt, bytesOf, Sums}
+use Rattle.walk.specs.inner.Rows.{cap, priorAt, bytesOf, Sums}
 use Rattle.walk.proofs.Sum.{cap-small}
 use Rattle.walk.proofs.Edges.{walk-first, walk-last, walk-last-none, walk-prior, walk-prior-none, walk-last-past, walk-prior-past, walk-letter}
-use Rattle.records.specs.Front.{recsOf, Wrote, Writes, Sorts, Below, arrowsFrom, endsOf}
+use Rattle.records.specs.inner.Front.{recsOf, Wrote, Writes, Sorts, Below, arrowsFrom, endsOf}
 use Rattle.records.proofs.Writing.{writes-more, each-length, edges-length}
 use Rattle.compile.specs.declared.Compiled.{Compiled}
 use Rattle.texts.specs.Acceptor.{begin, live, verdict}
-use Rattle.compile.specs.Compile.{expOf, freeOf, Arrive, Ends, refused, written, made, Gives, Judged}
+use Rattle.compile.specs.inner.Code.{expOf, freeOf, Arrive, Ends, refused, written, made, Gives, Judged}
 
 -- ---- `^`
 

@@ -1,2 +1,3 @@
 pub mod Compile
 pub mod Words
+pub mod inner

@@ -20,10 +20,11 @@ ghost use Rattle.sets.specs.Set.{states, setOf, sigsOf, holds, insert};
 ghost use Rattle.texts.specs.Exp.{size};
 ghost use Rattle.texts.specs.Grammar.{Text, textReads, okBody};
 ghost use Rattle.texts.specs.Records.{each, edgesTo, recordsOf};
-ghost use Rattle.records.specs.Front.{Writes, Below};
-ghost use Rattle.walk.specs.Rows.{Sums, rowsSize};
+ghost use Rattle.records.specs.inner.Front.{Writes, Below};
+ghost use Rattle.walk.specs.inner.Rows.{Sums, rowsSize};
 ghost use mathlib.Core.List.{List};
-ghost use Rattle.compile.specs.Compile.{expOf, freeOf, Walked, Arrive, Ends, refused, made, Gives, Compiles};
+ghost use Rattle.compile.specs.inner.Code.{expOf, freeOf, Walked, Arrive, Ends, refused, made, Gives};
+ghost use Rattle.compile.specs.Compile.{Compiles};
 
 // What compiling answers: a refusal's number or 0, the place of 19, and the length of the list.
 pub struct Compiled {

@@ -16,7 +16,7 @@ use Rattle.rules.proofs.Rules.{passes}
 use Rattle.rules.proofs.Scanning.{and-false}
 use Rattle.feeds.specs.Engine.{Engine, room, consumed, pairsAt, ended, feed, mostOffset}
 use Rattle.feeds.proofs.Runs.{pairsAt-length}
-use Rattle.feeds.proofs.Going.{Going}
+use Rattle.feeds.specs.inner.Going.{Going}
 use Rattle.feeds.proofs.Looping.{more-by, stop-by}
 use Rattle.feeds.proofs.Moves.{feed-ends, feed-refused}
 use Rattle.feeds.proofs.Telling.{tells-none}
@@ -25,7 +25,7 @@ use Rattle.extended.specs.Program.{programLength, moved, programmed, ale
 use Rattle.extended.specs.Machine.{stateCount, move, badMachine, machineRules, idle, machine}
 use Rattle.extended.specs.Record.{flowLayout, offsetOf, badFlow, otherStart, tooLong, flowRules}
 use Rattle.extended.specs.Extended.{feedRules, extendedFeed}
-use Rattle.extended.specs.Ran.{TellsRoom}
+use Rattle.extended.specs.inner.Ran.{TellsRoom}
 use Rattle.extended.proofs.Programs.{idle-after, idle-alerted}
 
 module _ (M P : List ℕ) {x₀ : Config} {k₀ : ℕ} {piece out₀ : List ℕ} {x : Config} {out : List ℕ} {i w : ℕ} (g : Going (machine M P) x₀ k₀ piece out₀ x out i w 0)

@@ -20,7 +20,7 @@ use Rattle.feeds.proofs.Opening.{opening-refusal, opening-fits, opens-told, ope
 use Rattle.extended.specs.Machine.{badMachine, firstAlerts}
 use Rattle.extended.specs.Record.{flowSize, wrongSize}
 use Rattle.extended.specs.Extended.{openPairs, firstRules, openRules, extendedOpen, opened}
-use Rattle.extended.specs.Ran.{TellsRoom}
+use Rattle.extended.specs.inner.Ran.{TellsRoom}
 
 -- ---- how many pairs
 

@@ -19,7 +19,7 @@ use Rattle.rules.proofs.Scanning.{every-at, every-all, every-fails}
 use Rattle.extended.specs.declared.Config.{Config}
 use Rattle.extended.specs.Program.{programLength, bitsBy, countersBy, alertsBy, kindOf, whichOf, numberOf, after, alerted}
 use Rattle.extended.specs.Machine.{programSize, idle}
-use Rattle.extended.specs.Ran.{Runs}
+use Rattle.extended.specs.inner.Ran.{Runs}
 use Rattle.extended.proofs.Instructions.{nothing}
 
 -- a configuration is its three parts

@@ -14,7 +14,7 @@ use Rattle.extended.specs.declared.Config.{Config}
 use Rattle.extended.specs.declared.Step.{Step}
 use Rattle.extended.specs.Machine.{machineRefusal}
 use Rattle.extended.specs.Extended.{extendedOpen, extendedFeed}
-use Rattle.extended.specs.Ran.{Programs}
+use Rattle.extended.specs.inner.Ran.{Programs}
 
 pub unique-check : (M P : List ℕ) (r q : ℕ) → r ≡ machineRefusal M P → q ≡ machineRefusal M P → r ≡ q
 unique-check M P r q e f = e ∙ sym f

@@ -3,4 +3,4 @@ pub mod Machine
 pub mod Record
 pub mod Extended
 pub mod Words
-pub mod Ran
+pub mod inner

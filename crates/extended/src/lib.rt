@@ -13,13 +13,13 @@ ghost use Rattle.rules.specs.Rules.{verdict};
 ghost use Rattle.feeds.specs.Engine.{mostOffset, room, consumed};
 ghost use Rattle.feeds.specs.Fed.{Answers};
 ghost use Rattle.feeds.specs.Opening.{Opens};
-ghost use Rattle.feeds.proofs.Going.{Going};
+ghost use Rattle.feeds.specs.inner.Going.{Going};
 ghost use Rattle.extended.specs.Program.{counterCount, programLength, lower, bitsBy, countersBy, alertNow, word};
 ghost use Rattle.extended.specs.Machine.{mostStates, byteValues, moveSize, programSize, stateCount, move, badLengths, goodTarget, goodInstruction, goodRecord};
 ghost use Rattle.extended.specs.Machine.{badMachine, machineRefusal, idle, machine};
 ghost use Rattle.extended.specs.Record.{flowSize, offsetOf, fours, configAt, configOf, fourBytes, flowBytes, goodCounters, badFlow, flowRules};
 ghost use Rattle.extended.specs.Extended.{firstRules, extendedOpen, feedRules, extendedFeed};
-ghost use Rattle.extended.specs.Ran.{Runs, Programs, TellsRoom};
+ghost use Rattle.extended.specs.inner.Ran.{Runs, Programs, TellsRoom};
 
 // The most states of a machine.
 pub const X_STATES: usize = 1024;

@@ -1,4 +1,4 @@
--- What the loop of any feed keeps: at configuration x, with the words `out`, i bytes consumed, w words written and n rows read. Assumes nothing.
+-- The loop of any feed, byte by byte: what it keeps holds at its start, and after each byte consumed. Assumes nothing.
 use Prim.Native.Nat.{ℕ, suc, _+_, _*_, _-_, _/_, _≤_, _<_}
 use mathlib.Core.Path.{_≡_, refl, sym, ap, _∙_}
 use mathlib.Core.Bool.{Bool, true, false, _&&_, _||_, cond}
@@ -11,6 +11,7 @@ use lib.Dec.{ltb, eqb}
 use borrow.Author.Tests.{le-ltb, lt-ltb, eq-eqb, ne-eqb}
 use Rattle.rules.specs.Rules.{Rule, verdict}
 use Rattle.feeds.specs.Engine.{Engine, Layout, Outcome, room, refused, ended, feed, due, run, costs, pairsAt, told, amount, consumed}
+use Rattle.feeds.specs.inner.Going.{Going}
 use Rattle.feeds.proofs.Runs.{run-append, costs-append, told-append, told-length, pairsAt-length}
 
 -- ---- one byte
@@ -45,17 +46,8 @@ module _ {C : Type 0} (E : Engine C) where
 -- ---- the loop, from configuration x₀ at offset k₀ over a piece, with the words out₀ at its start
 
 module _ {C : Type 0} (E : Engine C) (x₀ : C) (k₀ : ℕ) (piece out₀ : List ℕ) where
-  pub record Going (x : C) (out : List ℕ) (i w n : ℕ) : Type 0 where
-    pub short : i ≤ length piece
-    pub config : x ≡ run E x₀ (take i piece)
-    pub spent : n ≡ costs E x₀ (take i piece)
-    pub words : w ≡ length (told E x₀ k₀ (take i piece))
-    pub wrote : out ≡ told E x₀ k₀ (take i piece) ++ drop w out₀
-    pub fits : w / 2 ≤ room out₀
-    pub cut : consumed E x₀ (room out₀) piece ≡ i + consumed E x (room out₀ - w / 2) (drop i piece)
-
   -- before the first byte
-  pub start : Going x₀ out₀ 0 0 0
+  pub start : Going E x₀ k₀ piece out₀ x₀ out₀ 0 0 0
   unfolding run costs told
   start =
       let z : room out₀ - 0 ≡ room out₀ = omega arith in

@@ -17,9 +17,11 @@ use Rattle.rules.specs.Rules.{Rule, verdict}
 use Rattle.feeds.specs.declared.Fed.{Fed}
 use Rattle.feeds.specs.Engine.{Engine, Layout, room, feed, due, pairsAt, consumed}
 use Rattle.feeds.specs.Calls.{Bytes}
-use Rattle.feeds.specs.Fed.{Answers, Unfed}
+use Rattle.feeds.specs.inner.Tells.{Unfed}
+use Rattle.feeds.specs.Fed.{Answers}
 use Rattle.feeds.proofs.Runs.{pairsAt-length, costs-most, bytes-take}
-use Rattle.feeds.proofs.Going.{Going, words-even, length-kept, more, stop, fed, unfed}
+use Rattle.feeds.specs.inner.Going.{Going}
+use Rattle.feeds.proofs.Going.{words-even, length-kept, more, stop, fed, unfed}
 use Rattle.sets.proofs.Placing.{placed-fits}
 
 module _ {C : Type 0} {E : Engine C} {x₀ : C} {k₀ : ℕ} {piece out₀ : List ℕ} {x : C} {out : List ℕ} {i w n : ℕ} (g : Going E x₀ k₀ piece out₀ x out i w n) where

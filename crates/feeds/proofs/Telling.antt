@@ -16,7 +16,7 @@ use Rattle.sets.proofs.Parts.{low-in, high-in, at-state, members-none, members-
 use Rattle.sets.proofs.Members.{members-size}
 use Rattle.words.proofs.Bits.{bit-mod}
 use Rattle.feeds.specs.Engine.{pairsAt}
-use Rattle.feeds.specs.Fed.{Tells}
+use Rattle.feeds.specs.inner.Tells.{Tells}
 use Rattle.feeds.proofs.Runs.{pairsAt-length}
 use Rattle.sets.proofs.Placing.{length-placed, placed-none, placed-one, placed-after, placed-empty}
 

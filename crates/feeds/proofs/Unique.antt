@@ -6,7 +6,8 @@ use Prim.Native.Nat.{ℕ}
 use Rattle.sets.specs.Set.{signatures, members, placed}
 use Rattle.feeds.specs.declared.Fed.{Fed}
 use Rattle.feeds.specs.Engine.{Outcome, pairsAt}
-use Rattle.feeds.specs.Fed.{Answers, Unfed}
+use Rattle.feeds.specs.inner.Tells.{Unfed}
+use Rattle.feeds.specs.Fed.{Answers}
 use Rattle.feeds.specs.Opening.{Opening, Opens}
 use Rattle.feeds.specs.declared.Opened.{Opened}
 

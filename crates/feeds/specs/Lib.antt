@@ -6,3 +6,4 @@ pub mod Opening
 pub mod Demands
 pub mod Lawful
 pub mod Made
+pub mod inner

@@ -5,7 +5,7 @@ ghost use Prim.Native.Nat.{_+_, _*_, _^_, _≤_, _<_};
 ghost use lib.ListN.{length};
 ghost use Rattle.sets.specs.Set.{signatures, size, members, sigsOf, placed};
 ghost use Rattle.feeds.specs.Engine.{pairsAt};
-ghost use Rattle.feeds.specs.Fed.{Unfed, Tells};
+ghost use Rattle.feeds.specs.inner.Tells.{Unfed, Tells};
 
 // The largest offset.
 pub const MOST_OFFSET: u64 = 4294967295;

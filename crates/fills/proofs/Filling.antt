@@ -22,7 +22,8 @@ use Rattle.tables.specs.Table.{byteValues, mostSplits, splitCount, splitSet, sp
 use Rattle.tables.proofs.Joined.{taken-stop, taken-more}
 use Rattle.entries.specs.Entry.{sigsPlace, costPlace, entrySize, entryPlace, telling}
 use Rattle.entries.specs.Right.{wordTo}
-use Rattle.fills.specs.Filled.{Led, lowIn, wordOf, wordsOf, costOf, noteOf, entryOf, indexOf}
+use Rattle.fills.specs.inner.Lows.{Led, lowIn}
+use Rattle.fills.specs.Filled.{wordOf, wordsOf, costOf, noteOf, entryOf, indexOf}
 use Rattle.fills.proofs.Reading.{word-most, words-length, entry-length}
 
 -- ---- the note, and a word

@@ -1,12 +1,12 @@
 -- What is written into an index by places for a list and splits in order: for each split where each byte leads by the list's step, what is told there, what a byte at it costs, and whether its states are all named.
-use Prim.Native.Nat.{ℕ, _+_, _*_, _≤_, _<_}
+use Prim.Native.Nat.{ℕ, _+_, _*_}
 use mathlib.Core.Path.{_≡_}
 use mathlib.Core.Bool.{Bool, cond, _||_}
 use mathlib.Core.List.{List, [], _∷_, _++_}
-use lib.ListN.{length, getD}
+use lib.ListN.{length}
 use lib.Dec.{eqb}
 use Rattle.sets.specs.Set.{digits, within, setBytes, sigBytes}
-use Rattle.rules.specs.Scan.{first, stack}
+use Rattle.rules.specs.Scan.{stack}
 use Rattle.rules.specs.Rules.{Rule, verdict}
 use Rattle.lists.specs.List.{listRules}
 use Rattle.lists.specs.Automaton.{step, accepted, named}
@@ -22,14 +22,6 @@ wordOf L S T = wordTo (splitOf S T) (accepted L T)
 -- the first n words, where byte c leads to t c
 unfoldable pub wordsOf : List ℕ → List ℕ → (ℕ → ℕ) → ℕ → List ℕ
 wordsOf L S t n = stack (λ c. digits 8 4 (wordOf L S (t c))) n
-
--- the lowest byte that has the class of byte c
-abbrev pub lowIn : List ℕ → ℕ → ℕ
-lowIn C c = first byteValues (λ d. eqb (getD C d 0) (getD C c 0))
-
--- where C has for byte c a lower one, that leads where c does
-abbrev pub Led : (ℕ → ℕ) → List ℕ → ℕ → Type 0
-Led t C c = getD C c 0 < c → t (getD C c 0) ≡ t c
 
 -- the slots that split i takes, and m rows more: what a byte at it costs
 unfoldable pub costOf : ℕ → List ℕ → ℕ → ℕ

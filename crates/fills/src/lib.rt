@@ -11,7 +11,8 @@ ghost use Rattle.rules.specs.Scan.{every};
 ghost use Rattle.lists.specs.Automaton.{step, accepted, accepting, named};
 ghost use Rattle.tables.specs.Table.{table, byteValues, mostSplits, part, splitCount, splitSet, slots, takenSlots, inOrder};
 ghost use Rattle.entries.specs.Entry.{entrySize, entryPlace};
-ghost use Rattle.fills.specs.Filled.{Led, lowIn, wordOf, wordsOf, costOf, noteOf, entryOf, indexOf, indexRefusal, FillsIndex};
+ghost use Rattle.fills.specs.inner.Lows.{Led, lowIn};
+ghost use Rattle.fills.specs.Filled.{wordOf, wordsOf, costOf, noteOf, entryOf, indexOf, indexRefusal, FillsIndex};
 
 // A word from here on tells.
 const TELLING: u64 = 2147483648;

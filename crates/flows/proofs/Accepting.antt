@@ -10,11 +10,11 @@ use Rattle.sets.specs.Set.{states, signatures, size, members, meets, placed}
 use Rattle.lists.specs.Automaton.{accepted, accepting}
 use Rattle.lists.proofs.Steps.{quiet}
 use Rattle.feeds.specs.Engine.{Engine, room, consumed, pairsAt}
-use Rattle.feeds.proofs.Going.{Going}
+use Rattle.feeds.specs.inner.Going.{Going}
 use Rattle.feeds.proofs.Looping.{more-by, stop-by}
 use Rattle.feeds.proofs.Telling.{tells-none}
 use Rattle.flows.specs.declared.Told.{Told}
-use Rattle.flows.specs.Told.{TellsAll}
+use Rattle.flows.specs.inner.Told.{TellsAll}
 
 -- ---- what is told
 

@@ -1,4 +1,4 @@
--- Any feed over a list is a loop and its end: what the loop has to leave, so that the end answers and saves the feed's outcome. Assumes nothing.
+-- Any feed over a list is a loop and its end: what the loop leaves is answered and saved as the feed's outcome. Assumes nothing.
 use Prim.Native.Nat.{ℕ, _+_, _*_, _^_, _≤_, _<_}
 use mathlib.Core.Path.{_≡_, sym, _∙_}
 use mathlib.Core.Bool.{false, _&&_, cond}
@@ -12,18 +12,13 @@ use Rattle.rules.specs.Rules.{Rule, verdict}
 use Rattle.feeds.specs.Engine.{Engine, mostOffset, room, consumed, feed}
 use Rattle.feeds.specs.declared.Fed.{Fed}
 use Rattle.feeds.specs.Fed.{Answers}
-use Rattle.feeds.proofs.Going.{Going}
+use Rattle.feeds.specs.inner.Going.{Going}
 use Rattle.feeds.proofs.Looping.{answers-fed}
 use Rattle.flows.specs.Flow.{flowSize, frontierOf, offsetOf, rowsOf, flowLayout, badFlow}
 use Rattle.flows.specs.declared.Ran.{Ran}
-use Rattle.flows.specs.Ran.{Finishes}
+use Rattle.flows.specs.inner.Ran.{Finishes}
+use Rattle.flows.specs.inner.Leaves.{Leaves}
 use Rattle.flows.proofs.Records.{good-flow}
-
--- the loop of E, from frontier F at offset k over a piece with the words out₀, leaves `ran` and the words `out`: it ends where the definition does
-pub record Leaves (E : Engine ℕ) (F k : ℕ) (piece out₀ : List ℕ) (ran : Ran) (out : List ℕ) : Type 0 where
-  pub going : Going E F k piece out₀ (setOf (ran .frontier)) out (ran .bytes) (ran .words) (ran .rows)
-  pub longest : consumed E F (room out₀) piece ≡ ran .bytes
-  pub refusal : ran .refusal ≡ cond (ltb (ran .bytes) (length piece) && E .halts (setOf (ran .frontier))) 14 0
 
 -- so it does where it stands at byte i
 pub leaves : {E : Engine ℕ} {F k : ℕ} {piece out₀ out : List ℕ} {i : ℕ} (ran : Ran) → Going E F k piece out₀ (setOf (ran .frontier)) out i (ran .words) (ran .rows)

@@ -9,11 +9,11 @@ use Rattle.sets.specs.Set.{signatures, size, members, placed}
 use Rattle.rules.specs.Rules.{verdict}
 use Rattle.feeds.specs.Engine.{pairsAt}
 use Rattle.flows.specs.declared.Told.{Told}
-use Rattle.flows.specs.Told.{TellsAll}
+use Rattle.flows.specs.inner.Told.{TellsAll}
 use Rattle.feeds.specs.declared.Fed.{Fed}
 use Rattle.feeds.proofs.Unique.{fed-one}
 use Rattle.flows.specs.declared.Ran.{Ran}
-use Rattle.flows.specs.Ran.{Finishes}
+use Rattle.flows.specs.inner.Ran.{Finishes}
 use Rattle.flows.specs.Flow.{flowSize, offsetOf, rowsOf, flowBytes, flowRules, feedRules}
 
 module _ (r q : ℕ) (R : List ℕ) (at : ℕ) (piece : List ℕ) where

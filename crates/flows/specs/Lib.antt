@@ -1,3 +1,2 @@
 pub mod Flow
-pub mod Told
-pub mod Ran
+pub mod inner

@@ -12,8 +12,8 @@ ghost use Rattle.rules.specs.Rules.{verdict};
 ghost use Rattle.flows.specs.Flow.{flowSize, offsetOf, reservedOf, rowsOf, flowBytes, badFlow, flowRules, feedRules};
 ghost use Rattle.lists.specs.List.{listRules};
 ghost use Rattle.lists.specs.Automaton.{accepted};
-ghost use Rattle.flows.specs.Ran.{Finishes};
-ghost use Rattle.flows.specs.Told.{TellsAll};
+ghost use Rattle.flows.specs.inner.Ran.{Finishes};
+ghost use Rattle.flows.specs.inner.Told.{TellsAll};
 
 // Bytes in a flow record.
 pub const FLOW_SIZE: usize = sets::BYTES + 16;

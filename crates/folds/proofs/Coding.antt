@@ -15,7 +15,8 @@ use Rattle.lists.specs.List.{records, byteOf, isEdge, isStart, isAccept, from, 
 use Rattle.lists.specs.Automaton.{start, highest}
 use Rattle.lists.proofs.Highest.{names-low}
 use Rattle.rules.proofs.Scanning.{choose, below-suc, or-cases}
-use Rattle.folds.specs.Fold.{counted, same, chief, mark, past, agree, alike, follows, chiefs, chiefOf, leading, renumbered, newRecord, gives, picked, foldedBy, stays, Folds, Numbered}
+use Rattle.folds.specs.inner.Known.{gives, Numbered}
+use Rattle.folds.specs.Fold.{counted, same, chief, mark, past, agree, alike, follows, chiefs, chiefOf, leading, renumbered, newRecord, picked, foldedBy, stays, Folds}
 use Rattle.folds.proofs.Picks.{counted-in, counted-out, counted-mono, picked-length}
 use Rattle.folds.proofs.Folding.{record-long}
 use Rattle.sets.proofs.Placing.{placed-after}

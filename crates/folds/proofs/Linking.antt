@@ -14,7 +14,8 @@ use Rattle.rules.specs.Scan.{some, first, stack}
 use Rattle.rules.proofs.Scanning.{and-false, first-none, first-found, first-at, some-none, none-some}
 use Rattle.rules.proofs.Scanning as scan
 use Rattle.lists.specs.List.{mostRecords, records, isEdge, target}
-use Rattle.folds.specs.Fold.{counted, picked, same, into, mark, past, seek, Linked}
+use Rattle.folds.specs.inner.Known.{seek, Linked}
+use Rattle.folds.specs.Fold.{counted, picked, same, into, mark, past}
 use Rattle.folds.proofs.Picks.{picked-in, picked-out, picked-length, picked-at}
 use Rattle.lists.proofs.Listed.{not-so}
 use Rattle.folds.proofs.Chiefs.{same-true, first-le, into-is, is-into, mark-long}

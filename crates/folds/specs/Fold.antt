@@ -3,12 +3,12 @@ use Prim.Native.Nat.{ℕ, zero, suc, _≤_, _<_}
 use mathlib.Core.Path.{_≡_}
 use mathlib.Core.Bool.{Bool, true, false, _&&_, _||_, not, cond}
 use mathlib.Core.List.{List, [], _∷_, _++_}
-use lib.ListN.{length, take, drop, getD}
-use lib.Dec.{leb, ltb, eqb}
-use Rattle.sets.specs.Set.{states, holds}
+use lib.ListN.{length, drop, getD}
+use lib.Dec.{ltb, eqb}
+use Rattle.sets.specs.Set.{holds}
 use Rattle.rules.specs.Scan.{first, stack}
 use Rattle.rules.specs.Rules.{Rule, verdict}
-use Rattle.lists.specs.List.{mostRecords, records, byteOf, isEdge, isAccept, from, target, recordWith, listRules}
+use Rattle.lists.specs.List.{records, byteOf, isEdge, isAccept, from, target, recordWith, listRules}
 use Rattle.lists.specs.Automaton.{start, namesFrom, namesTarget, highest}
 use Rattle.folds.specs.declared.Folded.{Folded}
 
@@ -95,10 +95,6 @@ newRecord c L i = recordWith L i (newFrom c L i) (newTarget c L i)
 unfoldable pub stays : (ℕ → ℕ) → List ℕ → ℕ → Bool
 stays c L i = isAccept L i || leading c (target L i)
 
--- what record i gives
-abbrev pub gives : (ℕ → ℕ) → List ℕ → ℕ → List ℕ
-gives c L i = cond (stays c L i) (newRecord c L i) []
-
 -- the records that are kept, in their order
 unfoldable pub foldedBy : (ℕ → ℕ) → List ℕ → List ℕ
 foldedBy c L = picked (stays c L) (newRecord c L) (records L)
@@ -146,32 +142,3 @@ pub record FoldAnswers (L : List ℕ) (out : List ℕ) (r : Folded) (exit : List
   pub refusal : r .refusal ≡ foldRefusal L (length out)
   pub long : r .length ≡ cond (eqb (foldRefusal L (length out)) 0) (length (folded L)) 0
   pub left : exit ≡ cond (eqb (foldRefusal L (length out)) 0) (folded L ++ drop (length (folded L)) out) out
-
--- ---- what the code keeps at hand
-
--- the first edge to s from record i on; the number of records where there is none
-unfoldable pub seek : List ℕ → ℕ → ℕ → ℕ
-seek L s i = first (records L) (λ k. leb i k && into L s k)
-
--- of each state the first edge to it from record i on, and of each of these edges the next one to the same state
-pub record Linked (L H N : List ℕ) (i : ℕ) : Type 0 where
-  pub few : records L ≤ mostRecords
-  pub heads : (s : ℕ) → s < states → getD H s 0 ≡ seek L s i
-  pub nexts : (j : ℕ) → i ≤ j → j < records L → isEdge L j ≡ true → target L j < states → getD N j 0 ≡ seek L (target L j) (suc j)
-  pub long-heads : length H ≡ states
-  pub long-nexts : length N ≡ mostRecords
-
--- the new numbers of the first n states, and how many chiefs they have
-pub record Numbered (c : ℕ → ℕ) (M : List ℕ) (n next : ℕ) : Type 0 where
-  pub numbers : (s : ℕ) → s < n → getD M s 0 ≡ renumbered c s
-  pub count : next ≡ counted (leading c) n
-  pub long : length M ≡ states
-
--- the chiefs of the states that the list names, and their new numbers
-pub record Known (L C M : List ℕ) (top : ℕ) : Type 0 where
-  pub top-is : top ≡ suc (highest L)
-  pub low : top ≤ states
-  pub chiefs-are : take top C ≡ chiefs L top
-  pub long : length C ≡ states
-  pub numbered : (s : ℕ) → s < top → getD M s 0 ≡ renumbered (chiefOf L) s
-  pub many : length M ≡ states

@@ -13,7 +13,8 @@ ghost use Rattle.rules.specs.Scan.{first};
 ghost use Rattle.lists.specs.List.{records};
 ghost use Rattle.lists.specs.Automaton.{start, highest};
 ghost use Rattle.folds.specs.Fold.{counted, same, chief, mark, past, alike, follows, chiefs, chiefOf, renumbered, newFrom, newTarget, newRecord, stays};
-ghost use Rattle.folds.specs.Fold.{gives, folded, FoldAnswers, Linked, Known};
+ghost use Rattle.folds.specs.inner.Known.{gives, Linked, Known};
+ghost use Rattle.folds.specs.Fold.{folded, FoldAnswers};
 
 // What folding answers: a refusal's number or 0, and the length of the folded list.
 pub struct Folded {

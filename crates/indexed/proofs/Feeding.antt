@@ -13,7 +13,8 @@ use Rattle.rules.proofs.Scanning.{neither}
 use Rattle.feeds.specs.Engine.{room, consumed}
 use Rattle.feeds.specs.declared.Fed.{Fed}
 use Rattle.feeds.specs.Fed.{Answers}
-use Rattle.feeds.proofs.Going.{Going, start, finish}
+use Rattle.feeds.specs.inner.Going.{Going}
+use Rattle.feeds.proofs.Going.{start, finish}
 use Rattle.feeds.proofs.Looping.{answers-fed}
 use Rattle.flows.specs.Flow.{frontierOf, offsetOf, rowsOf, flowBytes}
 use Rattle.tables.specs.Table.{mostSplits, splitSize, splitCount, splitSet, badCount}
@@ -22,7 +23,7 @@ use Rattle.entries.proofs.Sizes.{lists-said}
 use Rattle.entries.proofs.Hints.{holds-said}
 use Rattle.entries.specs.Stand.{halved, soughtOf, holdsAt, began, standOf, standsAt, indexed, standLayout, standRules, standFeed, stoodAt}
 use Rattle.turns.specs.declared.Stands.{Stands}
-use Rattle.turns.specs.Goes.{Strides}
+use Rattle.turns.specs.inner.Goes.{Strides}
 
 -- ---- where a call begins: at most behind the last split
 

@@ -16,7 +16,7 @@ ghost use Rattle.flows.specs.Flow.{flowSize, frontierOf, rowsOf, flowBytes, flo
 ghost use Rattle.tables.specs.Table.{mostSplits, splitCount, splitSet};
 ghost use Rattle.entries.specs.Entry.{entrySize, entryPlace, telling, limit, badIndex};
 ghost use Rattle.entries.specs.Stand.{soughtOf, holdsAt, namedBy, standRules, standFeed, stoodAt};
-ghost use Rattle.turns.specs.Goes.{Strides};
+ghost use Rattle.turns.specs.inner.Goes.{Strides};
 
 // The refusal of a byte at a place that has no whole entry.
 const HALTED: u32 = 14;

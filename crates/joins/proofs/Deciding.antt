@@ -17,7 +17,8 @@ use Rattle.rules.specs.Rules.{verdict}
 use Rattle.rules.proofs.Rules.{passes-front, verdict-refused, verdict-then, stop, last, passes}
 use Rattle.lists.specs.List.{mostRecords, records, listRules, listRefusal}
 use Rattle.lists.proofs.Listed.{whole-records}
-use Rattle.joins.specs.Join.{naming, renamedRecord, spare, adds, added, kept, joined, overfull, fits, otherRefused, pairRules, tooBig, joinRefusal, Plans}
+use Rattle.joins.specs.inner.Found.{overfull, fits, Plans}
+use Rattle.joins.specs.Join.{naming, renamedRecord, spare, adds, added, kept, joined, otherRefused, pairRules, tooBig, joinRefusal}
 use Rattle.joins.specs.declared.Naming.{Naming}
 use Rattle.joins.specs.declared.Plan.{Plan}
 use Rattle.joins.proofs.Places.{kept-in, kept-out, added-length}

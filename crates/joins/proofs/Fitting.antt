@@ -16,7 +16,8 @@ use Rattle.lists.specs.List.{recordSize, mostRecords, records, byteOf, recordWi
 use Rattle.lists.specs.Automaton.{namesFrom}
 use Rattle.lists.proofs.Listed.{same-truth, not-so, kinds, whole-records, bad-length, bad-record, no-start, good-edge, good-start, good-accept, edge-good, start-good, accept-good, from-bytes}
 use Rattle.lists.proofs.Steps.{good-at}
-use Rattle.joins.specs.Join.{naming, newFrom, newTarget, renamedRecord, spare, kept, joined, fits}
+use Rattle.joins.specs.inner.Found.{fits}
+use Rattle.joins.specs.Join.{naming, newFrom, newTarget, renamedRecord, spare, kept, joined}
 use Rattle.joins.proofs.Fields.{SameRecord, NewRecord, new-byte, new-edge, new-start, new-accept, new-from, new-target, joined-length, joined-records, joined-old, joined-new, joined-from}
 use Rattle.joins.proofs.Union.{small, old-edge, old-start, old-accept, old-from, old-target, edge-B, start-B, accept-B, edge-names, start-names, accept-names}
 

@@ -17,7 +17,8 @@ use Rattle.lists.specs.Automaton.{namesFrom, namesTarget, highest}
 use Rattle.lists.proofs.Listed.{kinds, good-start, start-good, from-bytes}
 use Rattle.lists.proofs.Steps.{good-at, accept-states}
 use Rattle.lists.proofs.Highest.{names-low, highest-state}
-use Rattle.joins.specs.Join.{lowest, everAt, onceAt, loopBoth, onceBoth, nameBy, naming, renamed, newFrom, newTarget, spare, fits, Outlines, Narrow}
+use Rattle.joins.specs.inner.Found.{loopBoth, onceBoth, fits, Outlines, Narrow}
+use Rattle.joins.specs.Join.{lowest, everAt, onceAt, nameBy, naming, renamed, newFrom, newTarget, spare}
 use Rattle.joins.specs.declared.Naming.{Naming}
 use Rattle.joins.specs.declared.Outline.{Outline}
 use Rattle.joins.proofs.Renames.{Way, alone, shared, under, above, way}

@@ -7,7 +7,7 @@ use Rattle.rules.specs.Scan.{every}
 use Rattle.rules.proofs.Scanning.{every-fails}
 use Rattle.rules.proofs.Rules.{skip, stop, last}
 use Rattle.lists.specs.List.{records, goodRecord, badLength, badRecord, noStart, listRefusal}
-use Rattle.joins.specs.Join.{Outlines}
+use Rattle.joins.specs.inner.Found.{Outlines}
 use Rattle.joins.specs.declared.Outline.{Outline}
 
 module _ (L : List ℕ) where

@@ -13,7 +13,8 @@ use Rattle.lists.specs.List.{records, isEdge, low, high, from, target}
 use Rattle.lists.specs.Automaton.{start, step, reached, highest}
 use Rattle.lists.proofs.Steps.{start-exactly, step-exactly, reached-exactly}
 use Rattle.lists.proofs.Highest.{names-low}
-use Rattle.joins.specs.Join.{stays, staying, lowest, everAt, onceAt, loopBoth, onceBoth, naming}
+use Rattle.joins.specs.inner.Found.{loopBoth, onceBoth}
+use Rattle.joins.specs.Join.{stays, staying, lowest, everAt, onceAt, naming}
 
 pub record EverOn (L : List ℕ) (y : ℕ) : Type 0 where
   pub starts : holds (start L) y ≡ true

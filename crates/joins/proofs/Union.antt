@@ -20,7 +20,8 @@ use Rattle.lists.proofs.Highest.{names-low, highest-state}
 use Rattle.feeds.specs.Engine.{run}
 use Rattle.feeds.specs.Calls.{Bytes}
 use Rattle.plain.specs.Plain.{plain}
-use Rattle.joins.specs.Join.{loopBoth, naming, renamed, newFrom, newTarget, spare, kept, joined}
+use Rattle.joins.specs.inner.Found.{loopBoth}
+use Rattle.joins.specs.Join.{naming, renamed, newFrom, newTarget, spare, kept, joined}
 use Rattle.joins.proofs.Renames.{apart, one-name, renamed-most, renamed-own, spare-is}
 use Rattle.joins.proofs.Fields.{SameRecord, same-word, new-start, new-accept, new-taken, new-from, new-target, joined-records, joined-old, joined-new, joined-from}
 use Rattle.joins.proofs.Staying.{Shares, shares}

@@ -1,18 +1,16 @@
 -- Two lists joined into one: which state they share, how the second's states are renamed, the joined list, and the rules.
-use Prim.Native.Nat.{ℕ, zero, suc, _+_, _-_, _*_, _≤_, _<_}
+use Prim.Native.Nat.{ℕ, zero, suc, _+_, _-_}
 use mathlib.Core.Path.{_≡_}
 use mathlib.Core.Bool.{Bool, true, false, _&&_, _||_, not, cond}
 use mathlib.Core.List.{List, [], _∷_, _++_}
-use lib.ListN.{length, getD, take, drop}
+use lib.ListN.{length, take, drop}
 use lib.Dec.{ltb, eqb}
-use Rattle.sets.specs.Set.{states, setOf, holds}
+use Rattle.sets.specs.Set.{states, holds}
 use Rattle.rules.specs.Scan.{first, gather, stack}
 use Rattle.rules.specs.Rules.{Rule, verdict}
-use Rattle.lists.specs.List.{mostRecords, records, isEdge, isStart, low, high, from, target, recordWith, listRules, listRefusal}
+use Rattle.lists.specs.List.{records, isEdge, isStart, low, high, from, target, recordWith, listRules, listRefusal}
 use Rattle.lists.specs.Automaton.{start, reached, namesFrom, namesTarget, highest}
 use Rattle.joins.specs.declared.Naming.{Naming}
-use Rattle.joins.specs.declared.Outline.{Outline}
-use Rattle.joins.specs.declared.Plan.{Plan}
 use Rattle.joins.specs.declared.Joined.{Joined}
 
 -- ---- the state that two lists share
@@ -56,14 +54,6 @@ nameBy next i j k l =
 abbrev pub naming : List ℕ → List ℕ → Naming
 naming A B = nameBy (suc (highest A)) (everAt A) (everAt B) (onceAt A) (onceAt B)
 
--- both have a state that is always there
-abbrev pub loopBoth : List ℕ → List ℕ → Bool
-loopBoth A B = two (everAt A) (everAt B)
-
--- both have one that is there once
-abbrev pub onceBoth : List ℕ → List ℕ → Bool
-onceBoth A B = two (onceAt A) (onceAt B)
-
 -- ---- renaming
 
 -- the new number of state t: those above the shared one come one lower, so that no number is left out
@@ -105,14 +95,6 @@ kept n B (suc i) = cond (spare n B i) (kept n B i) (suc (kept n B i))
 unfoldable pub joined : List ℕ → List ℕ → List ℕ
 joined A B = A ++ added (naming A B) B (records B)
 
--- k records more behind A pass the lent list, or are more than a list may have
-abbrev pub overfull : List ℕ → ℕ → ℕ → Bool
-overfull A lent k = ltb lent (length A + 8 * k) || ltb mostRecords (records A + k)
-
--- what record i adds names states alone
-unfoldable pub fits : Naming → List ℕ → ℕ → Bool
-fits n B i = spare n B i || ltb (newFrom n B i) states && ltb (newTarget n B i) states
-
 -- ---- the rules: 1 to 3 of the list that stands in front, then 27, then 28
 
 -- 27: the other list is refused by the list check
@@ -134,35 +116,6 @@ joinRules A used lent B = pairRules A B ++ ((28, tooBig A used lent B) ∷ [])
 -- the number of the first rule that refuses, or 0
 abbrev pub joinRefusal : List ℕ → ℕ → ℕ → List ℕ → ℕ
 joinRefusal A used lent B = verdict (joinRules A used lent B)
-
--- ---- what the code finds before it writes
-
--- one walk over a list: its check and, where it passes, its highest state and three sets
-pub record Outlines (L : List ℕ) (r : Outline) : Type 0 where
-  pub refusal : r .refusal ≡ listRefusal L
-  pub top : listRefusal L ≡ 0 → r .top ≡ highest L
-  pub starts : listRefusal L ≡ 0 → setOf (r .starts) ≡ start L
-  pub staying : listRefusal L ≡ 0 → setOf (r .staying) ≡ staying L
-  pub reached : listRefusal L ≡ 0 → setOf (r .reached) ≡ reached L
-
--- the new numbers of the states up to the highest stand in `new`
-pub record Numbers (n : Naming) (top : ℕ) (new : List ℕ) : Type 0 where
-  pub room : top < length new
-  pub each : (t : ℕ) → t ≤ top → getD new t 0 ≡ renamed n t
-
--- the naming of two lists gives each state a number in two bytes
-pub record Narrow (n : Naming) (top : ℕ) : Type 0 where
-  pub next : n .next ≤ states
-  pub same : n .same < states
-  pub low : n .shared ≡ true → n .same < n .next
-  pub own : n .shared ≡ true → n .own ≤ top
-  pub below : top < states
-
--- the refusal, and where nothing refuses the naming, and the other list's highest state
-pub record Plans (A : List ℕ) (used lent : ℕ) (B : List ℕ) (p : Plan) : Type 0 where
-  pub refusal : p .refusal ≡ joinRefusal A used lent B
-  pub named : joinRefusal A used lent B ≡ 0 → p .naming ≡ naming A B
-  pub top : joinRefusal A used lent B ≡ 0 → p .top ≡ highest B
 
 -- ---- joining
 

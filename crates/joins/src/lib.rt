@@ -10,8 +10,9 @@ ghost use Rattle.sets.specs.Set.{states, setOf, num, holds, insert, placed};
 ghost use Rattle.rules.specs.Scan.{every};
 ghost use Rattle.lists.specs.List.{mostRecords, records, isEdge, isStart, target, goodRecord, listRefusal};
 ghost use Rattle.lists.specs.Automaton.{higher, highest};
-ghost use Rattle.joins.specs.Join.{stays, lowest, nameBy, renamed, newFrom, newTarget, spare, adds, added, kept, overfull, fits};
-ghost use Rattle.joins.specs.Join.{Outlines, Narrow, Numbers, Plans, Joins};
+ghost use Rattle.joins.specs.inner.Found.{overfull, fits, Outlines, Narrow, Numbers, Plans};
+ghost use Rattle.joins.specs.Join.{stays, lowest, nameBy, renamed, newFrom, newTarget, spare, adds, added, kept};
+ghost use Rattle.joins.specs.Join.{Joins};
 
 // How the states of the second list are named in the joined one: `next` is the first number that is free; where a state is shared, the second list's
 // state `own` is the first list's state `same`.

@@ -10,7 +10,7 @@ use lib.ListN.{length, drop, getD}
 use lib.Seq.{drop-cons}
 use borrow.Author.Tests.{eqb-false, eq-eqb, le-leb, lt-leb, leb-true, eqb-true}
 use Rattle.texts.specs.Grammar.{Single, plain, hex, line, Member, lone, spaces, range, amid, classSpecial, hexValue, value, okSingle, okMember, okMembers, spell, spellMember, spellMembers, memberHas, membersHave, Leaf, single, space, any, class, special, okLeaf, spellLeaf, leafHas}
-use Rattle.texts.proofs.Words.{headOf}
+use Rattle.texts.specs.inner.Heads.{headOf}
 use Rattle.texts.proofs.Places.{both}
 use Rattle.texts.proofs.Reading.{assoc, members-head, member-head, members-caret, amid-out, not-true}
 use Rattle.texts.proofs.Peeling.{peel-lt, peel-at, peel-tail, gone}

@@ -10,7 +10,7 @@ use lib.Dec.{eqb}
 use borrow.Author.Tests.{ne-eqb}
 use Rattle.sets.specs.Set.{signatures, holds}
 use Rattle.texts.specs.Records.{runs}
-use Rattle.words.specs.Next.{Next}
+use Rattle.words.specs.inner.Next.{Next}
 
 module _ (f : ℕ → Bool) where
   -- one byte: its place in the definition, without names for what is used twice

@@ -10,7 +10,7 @@ ghost use Prim.Native.Nat.{ℕ, _≤_, _<_, _+_, _-_};
 ghost use lib.Dec.{leb, eqb};
 ghost use lib.ListN.{length, drop, getD};
 ghost use Rattle.texts.specs.Records.{runs};
-ghost use Rattle.texts.proofs.Words.{headOf};
+ghost use Rattle.texts.specs.inner.Heads.{headOf};
 ghost use Rattle.sets.specs.Set.{sigsOf, holds, join};
 ghost use Rattle.texts.specs.Grammar.{Single, Member, Leaf, amid, isDigit, hexValue, value, okSingle, okMembers, okLeaf, spell, spellMembers, spellLeaf, membersHave, memberHas, okMember, spellMember, leafHas};
 

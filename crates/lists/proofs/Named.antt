@@ -19,7 +19,7 @@ use Rattle.rules.specs.Scan.{every, gather}
 use Rattle.rules.proofs.Scanning.{choose, or-true, and-false, or-cases, neither, refuses-exactly, every-at, gather-exactly, gather-lt}
 use Rattle.lists.specs.List.{records, byteOf, isEdge, isStart, isAccept, from, target, listRefusal}
 use Rattle.lists.specs.Automaton.{start, step, namesFrom, namesTarget, withNamed, namedBy, named}
-use Rattle.lists.specs.Survey.{Surveys}
+use Rattle.lists.specs.inner.Survey.{Surveys}
 use Rattle.lists.specs.declared.Survey.{Survey}
 use Rattle.lists.specs.Words.{Names-bytes}
 use Rattle.lists.proofs.Listed.{kind-edge, kind-start, kind-accept, from-bytes, target-bytes}

@@ -10,7 +10,7 @@ use Rattle.sets.specs.Set.{setWords, sigWords, setOf, sigsOf}
 use Rattle.sets.proofs.Sets.{Words, set-one, sigs-one}
 use Rattle.lists.specs.List.{listRefusal}
 use Rattle.lists.specs.Automaton.{start, step, accepted, accepting, named, highest}
-use Rattle.lists.specs.Survey.{Surveys}
+use Rattle.lists.specs.inner.Survey.{Surveys}
 use Rattle.lists.specs.declared.Survey.{Survey}
 
 pub unique-byte-at : (b : List ℕ) (at x y : ℕ) → x ≡ getD b at 0 → y ≡ getD b at 0 → x ≡ y

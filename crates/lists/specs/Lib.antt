@@ -1,4 +1,4 @@
 pub mod List
 pub mod Automaton
-pub mod Survey
 pub mod Words
+pub mod inner

@@ -11,7 +11,7 @@ ghost use Rattle.rules.specs.Scan.{some, every};
 ghost use Rattle.lists.specs.List.{recordSize, records, word, byteOf, wordOf, isEdge, isStart, isAccept, low, high, eitherCase, from, recordWith};
 ghost use Rattle.lists.specs.List.{target, zeros, goodEdge, goodStart, goodAccept, goodRecord, badLength, badRecord, noStart, listRefusal};
 ghost use Rattle.lists.specs.Automaton.{exchanged, between, edge, leaves, start, step, accepted, accepting, withNamed, namedBy, named, higher, highest};
-ghost use Rattle.lists.specs.Survey.{Surveys};
+ghost use Rattle.lists.specs.inner.Survey.{Surveys};
 
 // The states that a list names are sought in blocks of so many records.
 const BLOCK: usize = 64;

@@ -9,10 +9,11 @@ use lib.ListN.{length, drop, getD}
 use lib.Seq.{drop-cons}
 use Rattle.texts.specs.Grammar.{Leaf, Mark, Body, end, bar, leaf, group, amid, okLeaf, okMark, okBody, spellLeaf, spellMark, reads}
 use Rattle.texts.proofs.Places.{both}
-use Rattle.texts.proofs.Reading.{assoc, Calm, Stop, body-calm}
+use Rattle.texts.specs.inner.Heads.{Calm, Stop}
+use Rattle.texts.proofs.Reading.{assoc, body-calm}
 use Rattle.texts.proofs.Peeling.{peel-lt, peel-at, peel-tail, gone, leaf-not}
 use Rattle.marks.specs.declared.Times.{Times}
-use Rattle.marks.specs.Marks.{Atom, byte, brackets, okAtom, atomThen, markKind, mostOf, Marks}
+use Rattle.marks.specs.inner.Marks.{Atom, byte, brackets, okAtom, atomThen, markKind, mostOf, Marks}
 use Rattle.marks.proofs.Tokens.{leaf-gone}
 
 -- what is left of a body, with x behind it

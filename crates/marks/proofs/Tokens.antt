@@ -11,10 +11,11 @@ use lib.Seq.{drop-cons}
 use borrow.Author.Tests.{eqb-true, eqb-false, leb-true}
 use Rattle.texts.specs.Grammar.{Single, plain, hex, line, Member, lone, spaces, range, Leaf, single, space, any, class, amid, classSpecial, isDigit, isHex, value, okSingle, okMember, okMembers, okLeaf, spell, spellMember, spellMembers, spellLeaf, allDigits, numberFrom, Mark, bare, star, more, maybe, rep, okMark, okNumber, spellMark}
 use Rattle.texts.proofs.Places.{both, and-true}
-use Rattle.texts.proofs.Reading.{assoc, amid-out, not-true, Calm, number-digits}
+use Rattle.texts.specs.inner.Heads.{Calm}
+use Rattle.texts.proofs.Reading.{assoc, amid-out, not-true, number-digits}
 use Rattle.texts.proofs.Peeling.{drop-past, nil-cons, peel-lt, peel-at, peel-tail, gone, not-plain, differ}
 use Rattle.marks.specs.declared.Times.{Times}
-use Rattle.marks.specs.Marks.{without, Marks}
+use Rattle.marks.specs.inner.Marks.{without, Marks}
 
 -- ---- classes
 

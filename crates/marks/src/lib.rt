@@ -6,8 +6,8 @@ ghost use mathlib.Core.List.{List, _∷_, _++_};
 ghost use Prim.Native.Nat.{ℕ, _≤_, _<_, _+_, _*_, _-_};
 ghost use lib.ListN.{length, drop};
 ghost use Rattle.texts.specs.Grammar.{Leaf, Mark, Body, okLeaf, okMark, okBody, spellLeaf, spellMark, reads, isDigit, allDigits, numberFrom};
-ghost use Rattle.texts.proofs.Reading.{Calm, Stop};
-ghost use Rattle.marks.specs.Marks.{Atom, okAtom, atomThen, markKind, mostOf, Marks, without};
+ghost use Rattle.texts.specs.inner.Heads.{Calm, Stop};
+ghost use Rattle.marks.specs.inner.Marks.{Atom, okAtom, atomThen, markKind, mostOf, Marks, without};
 
 // A number and the place after it.
 struct Figure {

@@ -18,7 +18,7 @@ use Rattle.rules.proofs.Scanning.{both, gather-lt}
 use Rattle.lists.specs.List.{records, isEdge, eitherCase, from, target, listRules, listRefusal}
 use Rattle.lists.specs.Automaton.{exchanged, between, edge, leaves, step, highest}
 use Rattle.matrix.specs.Matrix.{byteValues, matrixLength, cellAt, cells, filled, wrongMatrix, fillRules}
-use Rattle.matrix.specs.Filling.{marked, markedBytes, markedRecords}
+use Rattle.matrix.specs.inner.Filling.{marked, markedBytes, markedRecords}
 use Rattle.lists.proofs.Highest.{edge-low}
 use Rattle.matrix.proofs.Cells.{cells-same, cells-at, cells-put, cells-empty}
 

@@ -13,7 +13,7 @@ use Rattle.sets.specs.Set.{states, setSize, num, digits, setBytes, bytesAt, set
 use Rattle.sets.proofs.Laws.{Small, small-take, small-drop, small-set, num-with, digits-num}
 use Rattle.sets.proofs.Sets.{byte-in}
 use Rattle.sets.proofs.Placing.{placed-fits, placed-none, placed-one, placed-all}
-use Rattle.matrix.specs.Filling.{joinedAt}
+use Rattle.matrix.specs.inner.Filling.{joinedAt}
 use Rattle.matrix.proofs.Cells.{replicate-more}
 
 -- ---- all bytes 0

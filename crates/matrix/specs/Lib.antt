@@ -1,5 +1,4 @@
 pub mod Matrix
-pub mod Filling
-pub mod Stepped
 pub mod Means
 pub mod Words
+pub mod inner

@@ -15,10 +15,10 @@ ghost use Rattle.lists.specs.List.{records, isEdge, from, target};
 ghost use Rattle.lists.specs.Automaton.{highest};
 ghost use Rattle.feeds.specs.Engine.{mostOffset};
 ghost use Rattle.feeds.specs.Fed.{Answers};
-ghost use Rattle.flows.proofs.Ending.{Leaves};
+ghost use Rattle.flows.specs.inner.Leaves.{Leaves};
 ghost use Rattle.matrix.specs.Matrix.{byteValues, matrixLength, cellAt, cell, unionOver, matrixed, fillRules, Fills, matrixRules, matrixFeed};
-ghost use Rattle.matrix.specs.Filling.{joinedAt, marked, markedBytes, markedRecords};
-ghost use Rattle.matrix.specs.Stepped.{Steps};
+ghost use Rattle.matrix.specs.inner.Filling.{joinedAt, marked, markedBytes, markedRecords};
+ghost use Rattle.matrix.specs.inner.Stepped.{Steps};
 
 // Bytes that a piece may have.
 const BYTE_VALUES: usize = 256;

@@ -1,7 +1,7 @@
 -- A part that ends ahead of a place ends ahead of an earlier one.
 use Prim.Native.Nat.{ℕ, _≤_}
 use native.Mathlib.Omega.{arith}
-use Rattle.parser.specs.Went.{Ahead}
+use Rattle.parser.specs.inner.Went.{Ahead}
 use Rattle.parser.specs.declared.Went.{Went}
 use Rattle.parser.specs.declared.Went.the-variants.{On, Bad, Deep}
 

@@ -12,7 +12,7 @@ use lib.Seq.{drop-cons}
 use borrow.Author.Tests.{eq-eqb, ne-eqb, le-leb, lt-leb, lt-ltb, le-ltb}
 use Rattle.texts.specs.Grammar.{amid, special, isDigit}
 use Rattle.texts.specs.Acceptor.{Mode, begin, fresh, after, esc, opened, num, State, dead, live, can, close, items, digit, mode, step, resting, good, isDead, deep, verdict}
-use Rattle.parser.specs.Went.{stateOf, modeOf, kindOf, went, counted}
+use Rattle.parser.specs.inner.Went.{stateOf, modeOf, kindOf, went, counted}
 use Rattle.parser.specs.declared.Inner.{Inner}
 use Rattle.parser.specs.declared.Inner.the-variants.{Dead, After, Esc, Hex1, Hex2, Opened, Caret, Member, Lone, ClassEsc, ClassHex1, ClassHex2, To, ToEsc, ToHex1, ToHex2}
 use Rattle.parser.specs.declared.Count.the-variants.{Is, Not}

@@ -10,7 +10,7 @@ use borrow.Author.Tests.{leb-true}
 use Rattle.rules.specs.Scan.{some}
 use Rattle.texts.specs.Acceptor.{can}
 use Rattle.parser.specs.declared.Inner.{Inner}
-use Rattle.parser.specs.Went.{stateOf, pick}
+use Rattle.parser.specs.inner.Went.{stateOf, pick}
 use Rattle.texts.proofs.Viable.{some-elim}
 use Rattle.texts.proofs.Places.{both, or-either}
 

@@ -7,7 +7,7 @@ ghost use lib.ListN.{length, drop, getD};
 ghost use lib.Dec.{eqb};
 ghost use Rattle.texts.specs.Grammar.{amid, special, classSpecial, isDigit, isHex, hexValue};
 ghost use Rattle.texts.specs.Acceptor.{begin, fresh, after, esc, lone1, cesc, chex2, to, tesc, thex1, thex2, num, live, can, members, mode, verdict};
-ghost use Rattle.parser.specs.Went.{stateOf, modeOf, kindOf, pick, counted, Within, went, Ahead, Pauses, Halts, answer};
+ghost use Rattle.parser.specs.inner.Went.{stateOf, modeOf, kindOf, pick, counted, Within, went, Ahead, Pauses, Halts, answer};
 
 // What may come next inside a class or an escape: nothing; the item is over; or what stands between.
 pub enum Inner {

@@ -20,7 +20,7 @@ use Rattle.feeds.proofs.Runs.{pairsAt-length}
 use Rattle.feeds.proofs.Opening.{opening-refusal, opening-fits, opens-told, opens-refused}
 use Rattle.flows.specs.Flow.{flowSize, flowBytes, wrongSize}
 use Rattle.flows.specs.declared.Told.{Told}
-use Rattle.flows.specs.Told.{TellsAll}
+use Rattle.flows.specs.inner.Told.{TellsAll}
 use Rattle.plain.specs.Plain.{openPairs, firstRules, openRules, openFlow, opened}
 
 -- ---- how many pairs

@@ -11,7 +11,7 @@ ghost use Rattle.sets.specs.Set.{setOf};
 ghost use Rattle.rules.specs.Rules.{verdict};
 ghost use Rattle.feeds.specs.Engine.{mostOffset};
 ghost use Rattle.feeds.specs.Fed.{Answers};
-ghost use Rattle.flows.proofs.Ending.{Leaves};
+ghost use Rattle.flows.specs.inner.Leaves.{Leaves};
 ghost use Rattle.feeds.specs.Opening.{Opens};
 ghost use Rattle.plain.specs.Plain.{plain, firstRules, openFlow, plainFeed};
 

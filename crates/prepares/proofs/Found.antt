@@ -12,18 +12,19 @@ use Rattle.sets.proofs.Placing.{placed-fits, length-placed}
 use Rattle.rules.specs.Scan.{every}
 use Rattle.rules.proofs.Scanning.{every-all}
 use Rattle.lists.specs.Automaton.{start, step}
-use Rattle.alike.specs.Alike.{Alikes}
+use Rattle.alike.specs.inner.Alike.{Alikes}
 use Rattle.tables.specs.Table.{byteValues, mostSplits, splitSize, splitCount, splitSet, inOrder, part}
 use Rattle.classes.proofs.Fronts.{put}
 use Rattle.build.specs.Build.{Reached, over}
-use Rattle.build.specs.Loops.{Among, Room, Added, Searched, Laid, setsOf}
+use Rattle.build.specs.inner.Loops.{Among, Room, Added, Searched, Laid, setsOf}
 use Rattle.build.proofs.Exploring.{Growing, Going, go-start, reached, sets-length, sets-at}
 use Rattle.build.proofs.Finishing.{laid-over}
 use Rattle.entries.specs.Entry.{entryPlace}
-use Rattle.fills.specs.Filled.{Led, indexOf}
+use Rattle.fills.specs.inner.Lows.{Led}
+use Rattle.fills.specs.Filled.{indexOf}
 use Rattle.fills.proofs.Reading.{index-length}
 use Rattle.prepares.specs.Prepare.{bareSplit, splitsOf, madeIndex}
-use Rattle.prepares.specs.Loops.{Leads, Seeks}
+use Rattle.prepares.specs.inner.Loops.{Leads, Seeks}
 use Rattle.prepares.proofs.Right.{bare-size, split-length, split-count, in-order}
 
 -- ---- bytes on which the list steps alike: a lower one leads where a byte does, from every set

@@ -1,2 +1,2 @@
 pub mod Prepare
-pub mod Loops
+pub mod inner

@@ -11,10 +11,10 @@ ghost use Rattle.sets.specs.Set.{states, setSize, setOf, placed};
 ghost use Rattle.lists.specs.Automaton.{step};
 ghost use Rattle.tables.specs.Table.{byteValues, mostSplits, splitSize, part};
 ghost use Rattle.build.specs.Build.{Reach, Reached, over};
-ghost use Rattle.build.specs.Loops.{Rising, Among, Room, Known, Added, Grown, Searched, Laid, setsOf};
+ghost use Rattle.build.specs.inner.Loops.{Rising, Among, Room, Known, Added, Grown, Searched, Laid, setsOf};
 ghost use Rattle.entries.specs.Entry.{entryPlace};
 ghost use Rattle.prepares.specs.Prepare.{bareSplit, splitsOf, madeIndex, Prepares};
-ghost use Rattle.prepares.specs.Loops.{Leads, Seeks};
+ghost use Rattle.prepares.specs.inner.Loops.{Leads, Seeks};
 
 // The bytes that each of the two lent lists has to have.
 pub const PREPARE_SPLITS: usize = tables::SPLIT_SIZE * tables::MOST_SPLITS;

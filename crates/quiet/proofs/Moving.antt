@@ -7,11 +7,12 @@ use native.Mathlib.Omega.{arith}
 use lib.ListN.{length, getD}
 use lib.Dec.{ltb, eqb}
 use borrow.Author.Tests.{lt-ltb, lt-leb, ne-eqb, leb-false}
-use Rattle.blocks.specs.Block.{wordAt, inside, hot}
+use Rattle.blocks.specs.inner.Ranges.{inside, hot}
+use Rattle.blocks.specs.Block.{wordAt}
 use Rattle.blocks.proofs.Quiet.{more-quiet}
 use Rattle.blocks.proofs.Blocks.{or-left}
 use Rattle.entries.specs.Entry.{limit, telling, placeOf, toldOf, costAt}
-use Rattle.quiet.specs.Moves.{Moves}
+use Rattle.quiet.specs.inner.Moves.{Moves}
 
 pub still : (X P : List ℕ) (i p : ℕ) → Moves X P i p i p 0
 still X P i p = record { going = λ S F x₀ k₀ out₀ out w m g. let a : m + 0 ≡ m = omega arith in rw a g }

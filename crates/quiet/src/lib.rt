@@ -4,9 +4,10 @@ ghost use mathlib.Core.Path.{_≡_};
 ghost use mathlib.Core.Bool.{false};
 ghost use Prim.Native.Nat.{ℕ, _+_, _*_, _≤_, _<_};
 ghost use lib.ListN.{length};
-ghost use Rattle.blocks.specs.Block.{wordAt, hot};
+ghost use Rattle.blocks.specs.inner.Ranges.{hot};
+ghost use Rattle.blocks.specs.Block.{wordAt};
 ghost use Rattle.entries.specs.Entry.{entrySize, limit, telling, costAt};
-ghost use Rattle.quiet.specs.Moves.{Moves};
+ghost use Rattle.quiet.specs.inner.Moves.{Moves};
 
 // A place has a whole entry where one byte and so many more stand from it on.
 const REST: usize = entries::ENTRY_SIZE - 1;

@@ -16,7 +16,7 @@ use Rattle.tables.proofs.Found.{split-exactly}
 use Rattle.lists.specs.Automaton.{accepted}
 use Rattle.splits.specs.Split.{taken, stuck, splitStep, split}
 use Rattle.splits.specs.declared.Taken.{Taken}
-use Rattle.splits.specs.Taken.{TakesSlots, TakesStep}
+use Rattle.splits.specs.inner.Taken.{TakesSlots, TakesStep}
 use Rattle.splits.proofs.Taking.{taken-most}
 
 -- where some split has the set F, the search gives one that has it

@@ -12,7 +12,7 @@ use Rattle.tables.specs.Table.{unusedSlot, slots, takenSlots, allBelow, joined}
 use Rattle.tables.proofs.Entries.{slots-length}
 use Rattle.tables.proofs.Joined.{taken-stop, taken-more}
 use Rattle.splits.specs.declared.Taken.{Taken}
-use Rattle.splits.specs.Taken.{TakesSlots}
+use Rattle.splits.specs.inner.Taken.{TakesSlots}
 
 -- the first j slots are taken: `all` is the union of their rows, and the rest is still to come
 pub record Taking (f : ℕ → ℕ) (n : ℕ) (ss : List ℕ) (all j : ℕ) : Type 0 where

@@ -1,3 +1,3 @@
 pub mod Split
-pub mod Taken
 pub mod Means
+pub mod inner

@@ -12,10 +12,10 @@ ghost use Rattle.rules.specs.Scan.{every};
 ghost use Rattle.rules.specs.Rules.{verdict};
 ghost use Rattle.feeds.specs.Engine.{mostOffset};
 ghost use Rattle.feeds.specs.Fed.{Answers};
-ghost use Rattle.flows.proofs.Ending.{Leaves};
+ghost use Rattle.flows.specs.inner.Leaves.{Leaves};
 ghost use Rattle.tables.specs.Table.{table, classCount, partCount, splitCount, rowAt, slots, takenSlots, inOrder};
 ghost use Rattle.splits.specs.Split.{split, splitRules, splitFeed};
-ghost use Rattle.splits.specs.Taken.{TakesSlots, TakesStep};
+ghost use Rattle.splits.specs.inner.Taken.{TakesSlots, TakesStep};
 
 // The refusal of a byte that the table does not move.
 const HALTED: u32 = 14;

@@ -9,7 +9,7 @@ use borrow.Author.Tests.{ltb-true, eqb-true}
 use Rattle.rules.specs.Scan.{every}
 use Rattle.rules.proofs.Scanning.{both, every-at}
 use Rattle.lists.specs.Automaton.{step}
-use Rattle.alike.specs.Alike.{Alikes}
+use Rattle.alike.specs.inner.Alike.{Alikes}
 use Rattle.tables.specs.Table.{byteValues, classCount, rowAt, row, slots, usedSlots, joined, isSplit}
 
 -- the byte that A has for c is lower, and of c's class in C

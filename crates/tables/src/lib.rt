@@ -10,7 +10,7 @@ ghost use Rattle.rules.specs.Scan.{every};
 ghost use Rattle.rules.specs.Rules.{verdict};
 ghost use Rattle.lists.specs.List.{listRefusal};
 ghost use Rattle.lists.specs.Automaton.{step};
-ghost use Rattle.alike.specs.Alike.{Alikes};
+ghost use Rattle.alike.specs.inner.Alike.{Alikes};
 ghost use Rattle.tables.specs.Table.{table, byteValues, mostParts, largest, classCount, partCount, splitCount, part, rowAt, row, splitSet};
 ghost use Rattle.tables.specs.Table.{slots, unusedSlot, usedSlots, allBelow, joined, isSplit, splitOf};
 ghost use Rattle.tables.specs.Table.{badClasses, badCount, badRowsLength, badLengths, goodSlots, inOrder, sizeRules, risingRules, tableRefusal};

@@ -9,7 +9,8 @@ use native.Mathlib.Decide.{decLt, ℕ-discrete}
 use lib.Dec.{ltb, leb, eqb}
 use borrow.Author.Tests.{eqb-true, eqb-false, eq-eqb, ne-eqb, ltb-true, ltb-false, lt-ltb, le-ltb}
 use Rattle.texts.specs.Exp.{Exp, one, eps, cat, alt, plus, In, Then, Times, Many, size, null, first, last, letter, follows}
-use Rattle.texts.proofs.Words.{then-nil, then-cons, then-here, then-step, many-cons, many-nil, many-more, nil-cons, cons-nil, headOf, tailOf}
+use Rattle.texts.specs.inner.Heads.{headOf}
+use Rattle.texts.proofs.Words.{then-nil, then-cons, then-here, then-step, many-cons, many-nil, many-more, nil-cons, cons-nil, tailOf}
 
 -- what may come after position p, to the end
 abbrev pub Rest : Exp → ℕ → List ℕ → Type 0

@@ -9,7 +9,8 @@ use lib.ListN.{length}
 use lib.Dec.{ltb, leb, eqb}
 use borrow.Author.Tests.{eqb-true, eqb-false, eq-eqb, ne-eqb, leb-true}
 use Rattle.texts.specs.Grammar.{Single, plain, hex, line, Member, lone, spaces, range, Leaf, single, space, any, class, Mark, bare, star, more, maybe, rep, Body, end, bar, leaf, group, Text, spell, spellMember, spellMembers, spellLeaf, spellMark, reads, textReads, amid, special, classSpecial, isDigit, isHex, hexValue, value, okSingle, okMember, okMembers, okLeaf, allDigits, numberFrom, okNumber, okMark, okBody}
-use Rattle.texts.proofs.Words.{headOf, tailOf}
+use Rattle.texts.specs.inner.Heads.{headOf, Calm, Stop}
+use Rattle.texts.proofs.Words.{tailOf}
 use Rattle.texts.proofs.Places.{both}
 
 pub not-true : (a : Bool) → not a ≡ true → a ≡ false
@@ -195,10 +196,6 @@ readMark w =
     (rep (digitsOf (tailOf w) .0) (digitsOf (tailOf (digitsOf (tailOf w) .1)) .0), tailOf (digitsOf (tailOf (digitsOf (tailOf w) .1)) .1))
     (bare, w))))
 
--- what comes is no mark
-abbrev pub Calm : List ℕ → Type 0
-Calm x = (eqb (headOf 0 x) 42 ≡ false) × (eqb (headOf 0 x) 43 ≡ false) × (eqb (headOf 0 x) 63 ≡ false) × (eqb (headOf 0 x) 123 ≡ false)
-
 pub number-digits : (ds : List ℕ) → okNumber ds ≡ true → allDigits ds ≡ true
 unfolding okNumber
 number-digits ds h =
@@ -245,10 +242,6 @@ weight end = 1
 weight (bar b) = suc (weight b)
 weight (leaf l m b) = suc (width l + weight b)
 weight (group x m b) = suc (weight x + weight b)
-
--- a body ends at the end of the text or at a closing bracket
-abbrev pub Stop : List ℕ → Type 0
-Stop x = (x ≡ []) ⊎ ((y : List ℕ) × (x ≡ 41 ∷ y))
 
 stop-calm : (x : List ℕ) → Stop x → Calm x
 stop-calm x (inl e) = rw e (refl, refl, refl, refl)

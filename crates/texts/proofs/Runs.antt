@@ -6,7 +6,8 @@ use mathlib.Core.List.{List, [], _∷_, _++_}
 use mathlib.Core.Logic.{⊎-elim, _⊎_, inl, inr}
 use native.Mathlib.Omega.{arith}
 use Rattle.texts.specs.Exp.{Exp, one, eps, cat, alt, plus, In, Then, Times, Many, times, opt, size, null, first, last, letter, follows, edge, accepts, Leads, Due}
-use Rattle.texts.proofs.Words.{then-nil, then-cons, then-here, then-step, many-cons, many-nil, many-more, nil-cons, cons-nil, headOf, tailOf}
+use Rattle.texts.specs.inner.Heads.{headOf}
+use Rattle.texts.proofs.Words.{then-nil, then-cons, then-here, then-step, many-cons, many-nil, many-more, nil-cons, cons-nil, tailOf}
 use Rattle.texts.proofs.Places.{Rest, both, and-true, in-nil, nil-in, in-cons, cons-in, rest-nil, nil-rest, rest-cons, cons-rest}
 
 pub rest-leads : (free : Bool) (e : Exp) (w : List ℕ) (p : ℕ) → Rest e p w → Leads free e w (suc p)

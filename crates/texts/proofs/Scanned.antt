@@ -12,9 +12,10 @@ use borrow.Author.Tests.{eqb-true, eqb-false, eq-eqb, ne-eqb, ltb-true, ltb-fals
 use Rattle.texts.specs.Grammar.{Single, plain, hex, line, Member, lone, spaces, range, Leaf, single, space, any, class, Mark, bare, star, more, maybe, rep, Body, end, bar, leaf, group, Text, spell, spellMember, spellMembers, spellLeaf, spellMark, reads, textReads, amid, special, classSpecial, isDigit, isHex, hexValue, value, okSingle, okMember, okMembers, okLeaf, allDigits, numberFrom, okNumber, okMark, okBody}
 use Rattle.rules.specs.Scan.{some}
 use Rattle.texts.specs.Acceptor.{Mode, begin, fresh, after, esc, hex1, hex2, opened, caret, member, lone1, cesc, chex1, chex2, to, tesc, thex1, thex2, num, State, dead, live, can, close, items, members, digit, mode, step, run, resting, good}
-use Rattle.texts.proofs.Words.{headOf, tailOf}
+use Rattle.texts.specs.inner.Heads.{headOf, Stop, Calm}
+use Rattle.texts.proofs.Words.{tailOf}
 use Rattle.texts.proofs.Places.{both, and-true, or-either, or-left, or-right}
-use Rattle.texts.proofs.Reading.{amid-out, assoc, not-true, number-digits, member-head, members-head, members-caret, Stop, Calm, body-calm, body-caret}
+use Rattle.texts.proofs.Reading.{amid-out, assoc, not-true, number-digits, member-head, members-head, members-caret, body-calm, body-caret}
 use Rattle.texts.proofs.Viable.{hex-small, by-mark}
 
 pub data Ready : Type 0 where

@@ -5,10 +5,7 @@ use mathlib.Core.Bool.{Bool, true, false, _&&_, _||_, cond, true≢false, false�
 use mathlib.Core.List.{List, [], _∷_, _++_}
 use mathlib.Core.Logic.{⊎-elim, _⊎_, inl, inr}
 use Rattle.texts.specs.Exp.{Then, Times, Many}
-
-abbrev pub headOf : ℕ → List ℕ → ℕ
-headOf d [] = d
-headOf d (c ∷ w) = c
+use Rattle.texts.specs.inner.Heads.{headOf}
 
 abbrev pub tailOf : List ℕ → List ℕ
 tailOf [] = []

@@ -4,3 +4,4 @@ pub mod Records
 pub mod Acceptor
 pub mod Means
 pub mod Examples
+pub mod inner

@@ -15,13 +15,13 @@ use Rattle.sets.proofs.Placing.{length-placed}
 use Rattle.feeds.specs.Engine.{pairsAt}
 use Rattle.feeds.proofs.Going.{stop, finish}
 use Rattle.flows.specs.declared.Told.{Told}
-use Rattle.flows.specs.Told.{TellsAll}
+use Rattle.flows.specs.inner.Told.{TellsAll}
 use Rattle.flows.proofs.Accepting.{all-none, goes-on, stops}
 use Rattle.blocks.specs.Block.{wordAt}
 use Rattle.entries.specs.Entry.{limit, placeOf, toldOf, costAt}
 use Rattle.entries.specs.Stand.{standAt, standsAt}
-use Rattle.quiet.specs.Moves.{Moves}
-use Rattle.turns.specs.Goes.{Goes, Stops}
+use Rattle.quiet.specs.inner.Moves.{Moves}
+use Rattle.turns.specs.inner.Goes.{Goes, Stops}
 
 -- bytes that tell nothing leave the words
 pub quietly : {X P : List ℕ} {i p j q n : ℕ} → Moves X P i p j q n → (k : ℕ) (out : List ℕ) (w : ℕ) → Goes X P k i p out w j q out w n

@@ -7,9 +7,9 @@ ghost use Prim.Native.Nat.{_+_, _≤_, _<_};
 ghost use lib.ListN.{length};
 ghost use Rattle.sets.specs.Set.{sigsOf};
 ghost use Rattle.feeds.specs.Engine.{mostOffset};
-ghost use Rattle.flows.specs.Told.{TellsAll};
+ghost use Rattle.flows.specs.inner.Told.{TellsAll};
 ghost use Rattle.entries.specs.Entry.{entrySize, limit, telling, placeOf, toldOf};
-ghost use Rattle.turns.specs.Goes.{Strides};
+ghost use Rattle.turns.specs.inner.Goes.{Strides};
 
 // A place has a whole entry where one byte and so many more stand from it on.
 const REST: usize = entries::ENTRY_SIZE - 1;

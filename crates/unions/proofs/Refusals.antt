@@ -24,7 +24,8 @@ use Rattle.rules.proofs.Saying.{Says, says-append, tells}
 use Rattle.demands.specs.Words.{listWords}
 use Rattle.demands.proofs.Saying.{list-says}
 use Rattle.joins.specs.declared.Joined.{Joined}
-use Rattle.joins.specs.Join.{naming, renamed, spare, kept, joined, fits, tooBig, otherRefused, front, joinRules, refusalOf, Joins}
+use Rattle.joins.specs.inner.Found.{fits}
+use Rattle.joins.specs.Join.{naming, renamed, spare, kept, joined, tooBig, otherRefused, front, joinRules, refusalOf, Joins}
 use Rattle.joins.proofs.Renames.{renamed-own, spare-is}
 use Rattle.joins.proofs.Fields.{joined-length}
 use Rattle.joins.proofs.Union.{sharing, edge-B, start-B, accept-B, edge-names, start-names, accept-names}

@@ -6,7 +6,7 @@ use native.Mathlib.Omega.{arith}
 use lib.Dec.{ltb, eqb}
 use borrow.Author.Tests.{ltb-true, ltb-false, ne-eqb, eq-eqb, eqb-true, eqb-false}
 use Rattle.texts.specs.Exp.{Exp, one, eps, cat, alt, plus, size, null, letter, first, last, follows}
-use Rattle.walk.specs.Rows.{firstAt, lastAt, followsAt, letterAt}
+use Rattle.walk.specs.inner.Rows.{firstAt, lastAt, followsAt, letterAt}
 
 -- q is a position of the expression at k
 abbrev Within : ℕ → ℕ → ℕ → Type 0

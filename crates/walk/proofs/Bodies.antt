@@ -12,13 +12,13 @@ use borrow.Author.Tests.{eqb-false, leb-true}
 use Rattle.texts.specs.Exp.{Exp, one, eps, cat, alt, plus, opt, times, size, null}
 use Rattle.texts.specs.Grammar.{Text, textReads, Leaf, Mark, bare, star, more, maybe, rep, Body, end, bar, leaf, group, amid, okLeaf, okMark, okBody, spellLeaf, spellMark, reads, leafHas, marked, number, okNumber, exp}
 use Rattle.texts.proofs.Places.{both}
-use Rattle.texts.proofs.Reading.{assoc, Calm, Stop, body-calm, body-caret}
-use Rattle.texts.proofs.Words.{headOf}
+use Rattle.texts.specs.inner.Heads.{Calm, Stop, headOf}
+use Rattle.texts.proofs.Reading.{assoc, body-calm, body-caret}
 use Rattle.sets.specs.Set.{states, setOf}
 use Rattle.walk.specs.declared.Shape.{Shape}
-use Rattle.walk.specs.Rows.{firstAt, lastAt, followsAt, letterAt, cap, Keeps, Seamed, Sums, Nothing, Both, Either}
-use Rattle.marks.specs.Marks.{Atom, byte, brackets, okAtom, atomThen, markKind, leastOf, mostOf, Marks}
-use Rattle.walk.specs.Trees.{expAtom, seq, rest}
+use Rattle.walk.specs.inner.Rows.{firstAt, lastAt, followsAt, letterAt, cap, Keeps, Seamed, Sums, Nothing, Both, Either}
+use Rattle.marks.specs.inner.Marks.{Atom, byte, brackets, okAtom, atomThen, markKind, leastOf, mostOf, Marks}
+use Rattle.walk.specs.inner.Trees.{expAtom, seq, rest}
 use Rattle.marks.specs.declared.Times.{Times}
 use Rattle.texts.proofs.Copies.{size-times}
 use Rattle.walk.proofs.Sum.{cap-small, sum-cat, sum-alt}

@@ -11,7 +11,7 @@ use lib.Seq.{take-at, drop-at, take-take, drop-drop, length-take-le}
 use Rattle.sets.specs.Set.{states, signatures, setSize, sigSize, num, setBytes, sigBytes, setAt, sigsAt, placed}
 use Rattle.sets.proofs.Laws.{Small, small-drop, num-take-lt, drop-take, length-digits, num-digits}
 use Rattle.sets.proofs.Placing.{placed-fits, length-placed}
-use Rattle.walk.specs.Rows.{rowSize, rowsSize, priorAt, bytesOf}
+use Rattle.walk.specs.inner.Rows.{rowSize, rowsSize, priorAt, bytesOf}
 
 module _ (b : List ℕ) (at : ℕ) (xs : List ℕ) (fits : at + length xs ≤ length b) where
   front-long : length (take at b) ≡ at

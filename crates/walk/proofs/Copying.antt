@@ -12,7 +12,7 @@ use Rattle.texts.proofs.Copies.{size-times, null-times, size-null}
 use Rattle.sets.specs.Set.{states, holds}
 use Rattle.sets.proofs.Sets.{holds-empty}
 use Rattle.walk.specs.declared.Shape.{Shape}
-use Rattle.walk.specs.Rows.{firstAt, lastAt, cap, Keeps, Copied, Sums, Nothing, Further}
+use Rattle.walk.specs.inner.Rows.{firstAt, lastAt, cap, Keeps, Copied, Sums, Nothing, Further}
 use Rattle.walk.proofs.Sum.{cap-small, cap-over, sums-stay}
 use Rattle.walk.proofs.Shift.{sum-move}
 use mathlib.Core.List.{List}

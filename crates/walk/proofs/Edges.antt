@@ -7,7 +7,7 @@ use native.Mathlib.Omega.{arith}
 use Rattle.texts.specs.Exp.{Exp, size, letter, first, last, follows}
 use Rattle.sets.specs.Set.{states, setOf, holds}
 use Rattle.walk.specs.declared.Shape.{Shape}
-use Rattle.walk.specs.Rows.{cap, priorAt, bytesOf, Known, Sums}
+use Rattle.walk.specs.inner.Rows.{cap, priorAt, bytesOf, Known, Sums}
 use Rattle.walk.proofs.Absolute.{first-in, last-in, follows-in, letter-in, last-out, follows-from-out}
 use Rattle.walk.proofs.Copying.{cap-exact}
 

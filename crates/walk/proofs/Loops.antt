@@ -12,10 +12,10 @@ use lib.Pow.{pow-pos}
 use lib.Bits.{or-lt}
 use Rattle.sets.specs.Set.{states, signatures, setSize, setBytes, sigBytes, holds, join, placed}
 use Rattle.sets.proofs.Sets.{holds-join, or-false}
-use Rattle.walk.specs.Rows.{rowSize, rowsSize, priorAt, bytesOf, Leafed, Entered, Seamed, Copied}
+use Rattle.walk.specs.inner.Rows.{rowSize, rowsSize, priorAt, bytesOf, Leafed, Entered, Seamed, Copied}
 use Rattle.walk.proofs.Buffer.{prior-there, prior-other, prior-bytes, prior-long, bytes-there, bytes-other, bytes-prior, bytes-long}
 use Rattle.walk.proofs.Sum.{keeps-refl, same-refl, same-then}
-use Rattle.words.specs.Further.{further}
+use Rattle.words.specs.inner.Further.{further}
 use Rattle.words.proofs.Further.{further-lt}
 
 pub join-lt : (m a b : ℕ) → a < 2 ^ m → b < 2 ^ m → join a b < 2 ^ m

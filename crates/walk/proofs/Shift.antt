@@ -10,7 +10,7 @@ use Rattle.sets.specs.Set.{states, holds, setOf}
 use Rattle.texts.specs.Exp.{Exp, one, eps, cat, alt, plus, size}
 use Rattle.words.proofs.Further.{further-is}
 use Rattle.walk.specs.declared.Shape.{Shape}
-use Rattle.walk.specs.Rows.{firstAt, lastAt, followsAt, letterAt, priorAt, bytesOf, Copied, Known, Sums, Further}
+use Rattle.walk.specs.inner.Rows.{firstAt, lastAt, followsAt, letterAt, priorAt, bytesOf, Copied, Known, Sums, Further}
 use Rattle.walk.proofs.Absolute.{first-out, last-out, follows-from-out}
 
 -- ---- expressions

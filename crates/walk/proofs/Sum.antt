@@ -13,7 +13,7 @@ use native.Mathlib.Nat.{lt-of-not-le}
 use Rattle.sets.specs.Set.{states, setOf, holds}
 use Rattle.sets.proofs.Sets.{holds-empty, holds-join, holds-insert, or-false}
 use Rattle.walk.specs.declared.Shape.{Shape}
-use Rattle.walk.specs.Rows.{firstAt, lastAt, followsAt, letterAt, cap, priorAt, bytesOf, Same, Keeps, Known, Sums, Leafed, Seamed, Nothing, Single, Both, Either, Alike}
+use Rattle.walk.specs.inner.Rows.{firstAt, lastAt, followsAt, letterAt, cap, priorAt, bytesOf, Same, Keeps, Known, Sums, Leafed, Seamed, Nothing, Single, Both, Either, Alike}
 use Rattle.walk.proofs.Absolute.{first-out, follows-to-out, letter-out}
 
 -- ---- counts

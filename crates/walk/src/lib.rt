@@ -19,10 +19,10 @@ ghost use Rattle.sets.specs.Set.{states, setWords, setOf, sigsOf, holds};
 ghost use mathlib.Core.List.{List, _∷_, _++_};
 ghost use Rattle.texts.specs.Exp.{Exp, eps, cat, opt, times, size};
 ghost use Rattle.texts.specs.Grammar.{Text, textReads, Mark, Body, okMark, okBody, spellMark, reads, marked, exp};
-ghost use Rattle.texts.proofs.Reading.{Calm, Stop};
-ghost use Rattle.walk.specs.Rows.{cap, rowsSize, Keeps, Leafed, Entered, Seamed, Copied, Sums, Nothing, Single, Both, Either, Alike, Further};
-ghost use Rattle.marks.specs.Marks.{Atom, okAtom, atomThen};
-ghost use Rattle.walk.specs.Trees.{expAtom, seq, rest};
+ghost use Rattle.texts.specs.inner.Heads.{Calm, Stop};
+ghost use Rattle.walk.specs.inner.Rows.{cap, rowsSize, Keeps, Leafed, Entered, Seamed, Copied, Sums, Nothing, Single, Both, Either, Alike, Further};
+ghost use Rattle.marks.specs.inner.Marks.{Atom, okAtom, atomThen};
+ghost use Rattle.walk.specs.inner.Trees.{expAtom, seq, rest};
 
 // Bytes of a state's row: the set of the states that it may come after, and its byte set.
 pub const ROW: usize = sets::BYTES + sets::SIG_BYTES;

@@ -15,7 +15,7 @@ use borrow.Author.Tests.{le-leb, lt-leb, lt-ltb, le-ltb}
 use Rattle.sets.specs.Set.{states, setWords, num, bit, holds}
 use Rattle.sets.proofs.Laws.{Small}
 use Rattle.sets.proofs.Sets.{Words, or-false, holds-empty, holds-past, set-ext, words-lt}
-use Rattle.words.specs.Further.{further, Strides, Straddles}
+use Rattle.words.specs.inner.Further.{further, Strides, Straddles}
 use Rattle.words.proofs.Bits.{bit-up, bit-under, bit-mod, join-or, up-in, up-under, down, word-bit}
 
 pub further-up : (S d q : ℕ) → q + d < states → holds (further d S) (q + d) ≡ holds S q

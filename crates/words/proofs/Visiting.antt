@@ -13,7 +13,7 @@ use lib.ListN.{getD}
 use Rattle.sets.specs.Set.{num, bit, holds}
 use Rattle.sets.proofs.Laws.{Small, bit-half, bit-zero, bits-ext}
 use Rattle.sets.proofs.Sets.{holds-empty, holds-past}
-use Rattle.words.specs.Next.{Next}
+use Rattle.words.specs.inner.Next.{Next}
 use Rattle.words.proofs.Bits.{down, word-bit}
 
 -- ---- the lowest 1 of a word

@@ -1,2 +1,1 @@
-pub mod Next
-pub mod Further
+pub mod inner

@@ -8,8 +8,8 @@ ghost use Prim.Native.Nat.{ℕ, _+_, _-_, _*_, _^_, _<_, _≤_};
 ghost use lib.Dec.{leb};
 ghost use lib.ListN.{length, getD};
 ghost use Rattle.sets.specs.Set.{states, signatures, setWords, num, setOf, sigsOf, holds};
-ghost use Rattle.words.specs.Next.{Next};
-ghost use Rattle.words.specs.Further.{further, Straddles, Strides};
+ghost use Rattle.words.specs.inner.Next.{Next};
+ghost use Rattle.words.specs.inner.Further.{further, Straddles, Strides};
 
 // ---- the next member
 

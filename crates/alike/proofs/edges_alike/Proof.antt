@@ -9,7 +9,7 @@ use borrow.Author.Tests.{not-true, not-false}
 use Rattle.rules.specs.Scan.{every}
 use Rattle.rules.proofs.Scanning.{every-fails}
 use Rattle.lists.specs.List.{records}
-use Rattle.alike.specs.Alike.{alikeAt, edgesAlike}
+use Rattle.alike.specs.inner.Alike.{alikeAt, edgesAlike}
 use Rattle.alike.proofs.edges_alike.Statement.{statement}
 use Rattle.alike.proofs.edges_alike.Tie as tie
 

@@ -4,7 +4,7 @@ use mathlib.Core.Path.{_≡_, refl, sym, _∙_}
 use Prim.Native.Nat.{ℕ, _-_, _≤_, _<_}
 use native.Mathlib.Omega.{arith}
 use lib.ListN.{length, getD, length-set}
-use Rattle.alike.specs.Alike.{byteValues, Alike}
+use Rattle.alike.specs.inner.Alike.{byteValues, Alike}
 use Rattle.alike.proofs.Alike.{alikes-more}
 use Rattle.alike.proofs.fill_alikes.Statement.{statement}
 use Rattle.alike.proofs.fill_alikes.Tie as tie

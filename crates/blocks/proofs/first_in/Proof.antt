@@ -4,7 +4,7 @@ use mathlib.Core.Path.{_≡_, refl}
 use Prim.Native.Nat.{_≤_, _-_, _+_}
 use native.Mathlib.Omega.{arith}
 use lib.ListN.{getD}
-use Rattle.blocks.specs.Block.{blockSize, hot, met}
+use Rattle.blocks.specs.inner.Ranges.{blockSize, hot, met}
 use Rattle.blocks.proofs.Blocks.{met-more}
 use Rattle.blocks.proofs.first_in.Statement.{statement}
 use Rattle.blocks.proofs.first_in.Tie as tie

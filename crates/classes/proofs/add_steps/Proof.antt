@@ -10,7 +10,7 @@ use Rattle.rules.proofs.Scanning.{choose}
 use Rattle.lists.specs.Automaton.{step}
 use Rattle.lists.proofs.Steps.{step-lt}
 use Rattle.tables.specs.Table.{byteValues, part}
-use Rattle.classes.specs.Loops.{SetsAre}
+use Rattle.classes.specs.inner.Loops.{SetsAre}
 use Rattle.classes.proofs.Records.{step-untaken, untaken-same, sets-from, sets-all, sets-more, sets-kept, join-lt}
 use Rattle.classes.proofs.add_steps.Statement.{statement}
 use Rattle.classes.proofs.add_steps.Tie as tie

@@ -10,7 +10,7 @@ use Rattle.lists.specs.List.{recordSize, records}
 use Rattle.lists.specs.Automaton.{step}
 use Rattle.rules.proofs.Scanning.{choose}
 use Rattle.tables.specs.Table.{byteValues, part}
-use Rattle.classes.specs.Loops.{SetsAre}
+use Rattle.classes.specs.inner.Loops.{SetsAre}
 use Rattle.classes.proofs.Records.{alone, one-record, Filling, filling-start, filling-more, filling-other, filling-end}
 use Rattle.classes.proofs.fill_steps.Statement.{statement}
 use Rattle.classes.proofs.fill_steps.Tie as tie

@@ -9,7 +9,7 @@ use lib.Dec.{eqb}
 use Rattle.rules.specs.Scan.{some}
 use Rattle.rules.proofs.Scanning.{first-at}
 use Rattle.tables.specs.Table.{byteValues, part}
-use Rattle.classes.specs.Loops.{like, parted}
+use Rattle.classes.specs.inner.Loops.{like, parted}
 use Rattle.classes.proofs.Turns.{some-zero, some-more}
 use Rattle.classes.proofs.Parting.{like-self}
 use Rattle.classes.proofs.first_like.Statement.{statement}

@@ -6,7 +6,7 @@ use native.Mathlib.Omega.{arith}
 use lib.ListN.{length}
 use Rattle.sets.specs.Set.{states}
 use Rattle.tables.specs.Table.{byteValues}
-use Rattle.classes.specs.Loops.{lowTo, Filled}
+use Rattle.classes.specs.inner.Loops.{lowTo, Filled}
 use Rattle.classes.proofs.Parting.{low-start, low-end}
 use Rattle.classes.proofs.low_bytes.Statement.{statement}
 use Rattle.classes.proofs.low_bytes.Tie as tie

@@ -6,7 +6,7 @@ use Prim.Native.Nat.{ℕ, _-_, _≤_}
 use native.Mathlib.Omega.{arith}
 use lib.ListN.{length, getD, length-set}
 use Rattle.tables.specs.Table.{byteValues}
-use Rattle.classes.specs.Loops.{Lows}
+use Rattle.classes.specs.inner.Loops.{Lows}
 use Rattle.classes.proofs.Parting.{Numbering, number-start, number-lead, number-other, number-end}
 use Rattle.rules.proofs.Scanning.{choose}
 use Rattle.classes.proofs.number.Statement.{statement}

@@ -5,7 +5,7 @@ use Prim.Native.Nat.{_-_, _≤_}
 use native.Mathlib.Omega.{arith}
 use Rattle.sets.specs.Set.{setOf}
 use Rattle.tables.specs.Table.{byteValues}
-use Rattle.classes.specs.Loops.{SetsAre}
+use Rattle.classes.specs.inner.Loops.{SetsAre}
 use Rattle.classes.proofs.Records.{sets-start, sets-more}
 use Rattle.classes.proofs.put_sets.Statement.{statement}
 use Rattle.classes.proofs.put_sets.Tie as tie

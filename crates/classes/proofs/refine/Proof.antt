@@ -1,7 +1,7 @@
 -- `refine` meets its promise. Assumes nothing.
 use mathlib.Core.Path.{_≡_}
 use native.Mathlib.Omega.{arith}
-use Rattle.classes.specs.Loops.{Parting}
+use Rattle.classes.specs.inner.Loops.{Parting}
 use Rattle.classes.proofs.Parting.{part-start, part-more}
 use Rattle.classes.proofs.refine.Statement.{statement}
 use Rattle.classes.proofs.refine.Tie as tie

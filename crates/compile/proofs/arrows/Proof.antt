@@ -5,8 +5,8 @@ use mathlib.Core.Path.{sym, ap, subst, _∙_}
 use mathlib.Core.Bool.{not}
 use Rattle.sets.specs.Set.{setOf, sigsOf, holds}
 use Rattle.texts.specs.Exp.{size}
-use Rattle.records.specs.Front.{Below}
-use Rattle.compile.specs.Compile.{expOf, freeOf, Arrive}
+use Rattle.records.specs.inner.Front.{Below}
+use Rattle.compile.specs.inner.Code.{expOf, freeOf, Arrive}
 use Rattle.compile.proofs.Listing.{arrive-none, arrows-first, arrows-later, arrows-below, below-with, below-none}
 use Rattle.compile.proofs.arrows.Statement.{statement}
 use Rattle.compile.proofs.arrows.Tie as tie

@@ -7,10 +7,10 @@ use mathlib.Core.Path.{_≡_, sym, refl, subst}
 use Rattle.sets.specs.Set.{states, setOf}
 use Rattle.texts.specs.Exp.{size}
 use Rattle.texts.specs.Records.{recordsOf}
-use Rattle.compile.specs.Compile.{Walked, expOf}
+use Rattle.compile.specs.inner.Code.{Walked, expOf}
 use Rattle.compile.proofs.Listing.{size-most, big-states, big-records, big-list, not-big, gives-21, gives-0, ends-count, all-count, list-length, list-left}
-use Rattle.records.specs.Front.{Below}
-use Rattle.walk.specs.Rows.{Sums}
+use Rattle.records.specs.inner.Front.{Below}
+use Rattle.walk.specs.inner.Rows.{Sums}
 use Rattle.walk.proofs.Edges.{walk-size}
 use Rattle.compile.proofs.build.Statement.{statement}
 use Rattle.compile.proofs.build.Tie as tie

@@ -1,7 +1,7 @@
 -- `compile` meets its promise. Assumes nothing.
 use borrow.Author.Needs.{needs}
 use mathlib.Core.Path.{sym, _∙_, ap}
-use Rattle.parser.specs.Went.{answer}
+use Rattle.parser.specs.inner.Went.{answer}
 use Rattle.compile.proofs.Listing.{judged-good, judged-bad}
 use Rattle.compile.proofs.Exactly.{judged-compiles}
 use Rattle.compile.proofs.compile.Statement.{statement}

@@ -8,9 +8,9 @@ use Rattle.sets.specs.Set.{setOf, sigsOf, holds}
 use Rattle.texts.specs.Exp.{size}
 use Rattle.texts.specs.Grammar.{Text}
 use Rattle.texts.specs.Records.{each, edgesTo}
-use Rattle.records.specs.Front.{Below}
+use Rattle.records.specs.inner.Front.{Below}
 use Rattle.records.proofs.Writing.{each-none}
-use Rattle.compile.specs.Compile.{expOf, freeOf, Walked}
+use Rattle.compile.specs.inner.Code.{expOf, freeOf, Walked}
 use Rattle.compile.proofs.Listing.{edges-more, arrows-count}
 use Rattle.compile.proofs.count_edges.Statement.{statement}
 use Rattle.compile.proofs.count_edges.Tie as tie

@@ -1,7 +1,7 @@
 -- `ends_of` meets its promise. Assumes nothing.
 use borrow.Author.Needs.{needs}
 use Rattle.texts.specs.Exp.{size}
-use Rattle.compile.specs.Compile.{expOf}
+use Rattle.compile.specs.inner.Code.{expOf}
 use Rattle.compile.proofs.Listing.{ends-null, ends-some, ends-below, below-with}
 use Rattle.sets.specs.Set.{setOf}
 use Rattle.compile.proofs.ends_of.Statement.{statement}

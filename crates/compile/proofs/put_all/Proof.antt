@@ -3,7 +3,7 @@ use borrow.Author.Needs.{needs}
 use mathlib.Core.Path.{subst}
 use mathlib.Core.List.{[], _∷_}
 use Rattle.sets.specs.Set.{setOf}
-use Rattle.records.specs.Front.{Writes}
+use Rattle.records.specs.inner.Front.{Writes}
 use Rattle.compile.proofs.Listing.{all-put}
 use Rattle.compile.proofs.put_all.Statement.{statement}
 use Rattle.compile.proofs.put_all.Tie as tie

@@ -4,7 +4,8 @@ use mathlib.Core.Path.{_≡_, refl, sym, ap, _∙_}
 use Prim.Native.Nat.{_+_, _*_, _≤_, _<_, _-_}
 use native.Mathlib.Omega.{arith}
 use lib.ListN.{length, getD}
-use Rattle.feeds.proofs.Going.{Going, start, finish, length-kept}
+use Rattle.feeds.specs.inner.Going.{Going}
+use Rattle.feeds.proofs.Going.{start, finish, length-kept}
 use Rattle.feeds.proofs.Looping.{words-fit}
 use Rattle.extended.specs.declared.Config.{Config}
 use Rattle.extended.specs.Program.{programLength, moved}

@@ -5,7 +5,7 @@ use Prim.Native.Nat.{ℕ, _-_, _≤_, _<_}
 use native.Mathlib.Omega.{arith}
 use lib.ListN.{length, getD, length-set}
 use Rattle.tables.specs.Table.{byteValues}
-use Rattle.fills.specs.Filled.{lowIn}
+use Rattle.fills.specs.inner.Lows.{lowIn}
 use Rattle.fills.proofs.Filling.{low-there, lows-more}
 use Rattle.fills.proofs.put_lows.Statement.{statement}
 use Rattle.fills.proofs.put_lows.Tie as tie

@@ -1,7 +1,7 @@
 -- `link` goes from the last record to the first. Assumes nothing.
 use Prim.Native.Nat.{suc, _≤_, _-_}
 use Rattle.lists.specs.List.{records}
-use Rattle.folds.specs.Fold.{Linked}
+use Rattle.folds.specs.inner.Known.{Linked}
 use borrow.Author.Needs.{needs}
 use native.Mathlib.Omega.{arith}
 use mathlib.Core.Path.{_≡_}

@@ -2,7 +2,8 @@
 use mathlib.Core.Path.{_≡_, sym, _∙_}
 use lib.ListN.{getD}
 use native.Mathlib.Numerals.{add-one}
-use Rattle.folds.specs.Fold.{leading, chiefOf, Numbered}
+use Rattle.folds.specs.inner.Known.{Numbered}
+use Rattle.folds.specs.Fold.{leading, chiefOf}
 use Rattle.folds.proofs.Picks.{counted-most}
 use Rattle.folds.proofs.Chiefs.{folds}
 use Rattle.folds.proofs.Coding.{chief-read, number-none, number-more}

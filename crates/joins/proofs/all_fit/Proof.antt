@@ -7,7 +7,7 @@ use borrow.Author.Tests.{not-true, not-false}
 use Rattle.rules.specs.Scan.{every}
 use Rattle.rules.proofs.Scanning.{choose, every-fails}
 use Rattle.lists.specs.List.{records}
-use Rattle.joins.specs.Join.{fits}
+use Rattle.joins.specs.inner.Found.{fits}
 use Rattle.joins.proofs.Numbering.{taken, roomy}
 use native.Mathlib.Omega.{arith}
 use borrow.Author.Needs.{needs}

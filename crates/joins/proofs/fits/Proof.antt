@@ -1,5 +1,5 @@
 -- `fits` is its definition. Assumes nothing.
-use Rattle.joins.specs.Join.{fits}
+use Rattle.joins.specs.inner.Found.{fits}
 use borrow.Author.Needs.{needs}
 use Rattle.joins.proofs.fits.Statement.{statement}
 use Rattle.joins.proofs.fits.Tie as tie

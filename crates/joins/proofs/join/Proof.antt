@@ -1,7 +1,8 @@
 -- `join` decides on the front of the lent list, and writes behind it. Assumes nothing.
 use mathlib.Core.Bool.{true, false}
 use lib.Dec.{eqb}
-use Rattle.joins.specs.Join.{refusalOf, Plans}
+use Rattle.joins.specs.inner.Found.{Plans}
+use Rattle.joins.specs.Join.{refusalOf}
 use lib.ListN.{take, drop, length}
 use Rattle.rules.proofs.Scanning.{choose}
 use mathlib.Core.Logic.{_⊎_, inl, inr}

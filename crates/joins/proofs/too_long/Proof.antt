@@ -7,7 +7,8 @@ use borrow.Author.Tests.{not-true, not-false}
 use Rattle.rules.proofs.Scanning.{choose}
 use Rattle.lists.specs.List.{records}
 use Rattle.lists.proofs.Listed.{short-list}
-use Rattle.joins.specs.Join.{kept, overfull}
+use Rattle.joins.specs.inner.Found.{overfull}
+use Rattle.joins.specs.Join.{kept}
 use Rattle.joins.proofs.Places.{kept-in, kept-out, kept-most, kept-rest}
 use Rattle.joins.proofs.Deciding.{less-room}
 use native.Mathlib.Omega.{arith}

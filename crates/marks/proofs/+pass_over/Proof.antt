@@ -11,7 +11,7 @@ use mathlib.Core.Bool.{true}
 use mathlib.Core.List.{List, _++_}
 use lib.ListN.{drop}
 use Rattle.texts.specs.Grammar.{Body, okBody, reads}
-use Rattle.texts.proofs.Reading.{Stop}
+use Rattle.texts.specs.inner.Heads.{Stop}
 use Rattle.marks.proofs.Passing.{Ahead, pass-stop, pass-gone, pass-bar, pass-group, pass-leaf}
 use Rattle.marks.proofs.pass_over.Reads as pass-over
 use Rattle.marks.proofs.pass_over.Kinds as pass-over-kinds

@@ -6,7 +6,7 @@ use mathlib.Core.Path.{_≡_}
 use mathlib.Core.Bool.{true}
 use mathlib.Core.List.{List, _∷_, _++_}
 use lib.ListN.{length, drop}
-use Rattle.marks.specs.Marks.{without}
+use Rattle.marks.specs.inner.Marks.{without}
 use Rattle.texts.proofs.Peeling.{gone}
 use Rattle.marks.proofs.Tokens.{class-hit, class-skip}
 use Rattle.marks.proofs.class_end.Statement.{statement}

@@ -12,7 +12,7 @@ use borrow.Author.Tests.{eq-eqb, ne-eqb}
 use Rattle.rules.specs.Rules.{verdict}
 use Rattle.lists.specs.List.{records, listRefusal}
 use Rattle.matrix.specs.Matrix.{byteValues, matrixLength, filled, fillRules}
-use Rattle.matrix.specs.Filling.{markedBytes, markedRecords}
+use Rattle.matrix.specs.inner.Filling.{markedBytes, markedRecords}
 use Rattle.matrix.proofs.Writing.{zeros-long}
 use Rattle.matrix.proofs.Filling.{fill-passes, edge-placed, all-filled}
 use Rattle.matrix.proofs.fill.Statement.{statement}

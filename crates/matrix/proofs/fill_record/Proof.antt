@@ -9,7 +9,7 @@ use native.Mathlib.Numerals.{add-one}
 use Rattle.sets.specs.Set.{states}
 use Rattle.lists.specs.List.{from, target}
 use Rattle.matrix.specs.Matrix.{byteValues, cellAt}
-use Rattle.matrix.specs.Filling.{marked, markedBytes}
+use Rattle.matrix.specs.inner.Filling.{marked, markedBytes}
 use Rattle.matrix.proofs.Filling.{no-edge}
 use Rattle.matrix.proofs.fill_record.Statement.{statement}
 use Rattle.matrix.proofs.fill_record.Tie as tie

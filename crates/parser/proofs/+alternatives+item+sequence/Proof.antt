@@ -8,7 +8,7 @@ use mathlib.Core.Logic.{⊎-elim, _⊎_, inl, inr}
 use lib.ListN.{length, drop, getD}
 use Rattle.texts.specs.Acceptor.{live, fresh, verdict}
 use Rattle.texts.specs.Grammar.{amid, special}
-use Rattle.parser.specs.Went.{went, Ahead, Halts, Pauses}
+use Rattle.parser.specs.inner.Went.{went, Ahead, Halts, Pauses}
 use Rattle.parser.proofs.Ahead.{later}
 use Rattle.parser.proofs.Moves.{item-bar, item-open, item-class, item-esc, item-dot, item-bad, item-plain, item-deep, group-close, group-cut}
 use borrow.Fn.Kinds.{In}

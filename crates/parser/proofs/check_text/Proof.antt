@@ -4,7 +4,7 @@ use native.Mathlib.Omega.{arith}
 use Prim.Native.Nat.{ℕ, _<_, _≤_}
 use mathlib.Core.Path.{_≡_, refl, sym, ap, subst, _∙_}
 use lib.ListN.{length, drop, getD}
-use Rattle.parser.specs.Went.{went, Halts}
+use Rattle.parser.specs.inner.Went.{went, Halts}
 use Rattle.parser.proofs.Moves.{whole-good, whole-closed}
 use Rattle.parser.proofs.check_text.Statement.{statement}
 use Rattle.parser.proofs.check_text.Tie as tie

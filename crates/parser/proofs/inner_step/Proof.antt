@@ -3,7 +3,7 @@ use borrow.Author.Needs.{needs}
 use native.Mathlib.Omega.{arith}
 use Rattle.texts.specs.Acceptor.{mode}
 use Rattle.texts.specs.Grammar.{isHex}
-use Rattle.parser.specs.Went.{kindOf, stateOf, modeOf}
+use Rattle.parser.specs.inner.Went.{kindOf, stateOf, modeOf}
 use Rattle.parser.specs.declared.Inner.{Inner}
 use Rattle.parser.proofs.Steps.{pick-state}
 use Prim.Native.Nat.{ℕ}

@@ -1,7 +1,7 @@
 -- `inside` meets its promise. Assumes nothing.
 use borrow.Author.Needs.{needs}
 use native.Mathlib.Omega.{arith}
-use Rattle.parser.specs.Went.{counted, Within, went, Ahead, modeOf, kindOf, stateOf}
+use Rattle.parser.specs.inner.Went.{counted, Within, went, Ahead, modeOf, kindOf, stateOf}
 use Prim.Native.Nat.{ℕ, _≤_, _<_, _+_, _-_}
 use mathlib.Core.Path.{_≡_, refl, sym, ap, subst, _∙_}
 use lib.ListN.{length, drop, getD}

@@ -7,7 +7,7 @@ use lib.ListN.{length}
 use Rattle.sets.specs.Set.{setOf}
 use Rattle.tables.specs.Table.{splitSize, part}
 use Rattle.classes.proofs.Fronts.{placed-length}
-use Rattle.build.specs.Loops.{Laid}
+use Rattle.build.specs.inner.Loops.{Laid}
 use Rattle.build.proofs.Laying.{laid-none, laid-more}
 use Rattle.prepares.specs.Prepare.{bareSplit}
 use Rattle.prepares.proofs.Right.{bare-size}

@@ -9,7 +9,7 @@ use lib.Seq.{length-take-le}
 use Rattle.sets.proofs.Placing.{length-placed}
 use Rattle.tables.specs.Table.{splitSize}
 use Rattle.build.specs.Build.{over}
-use Rattle.build.specs.Loops.{setsOf}
+use Rattle.build.specs.inner.Loops.{setsOf}
 use Rattle.fills.specs.Filled.{indexOf}
 use Rattle.prepares.specs.Prepare.{splitsOf, madeIndex}
 use Rattle.prepares.proofs.Found.{over-long, bare-over, bare-length, bare-front, made-length, made-over, fillable}

@@ -8,7 +8,7 @@ use native.Mathlib.Omega.{arith}
 use lib.ListN.{length}
 use Rattle.lists.specs.List.{listRefusal}
 use Rattle.tables.specs.Table.{mostSplits}
-use Rattle.build.specs.Loops.{setsOf}
+use Rattle.build.specs.inner.Loops.{setsOf}
 use Rattle.build.proofs.Exploring.{sets-length}
 use Rattle.prepares.specs.Prepare.{splitsOf, madeIndex, tooShort}
 use Rattle.prepares.proofs.Found.{over-same, over-long, bare-length, made-length}

@@ -3,7 +3,7 @@ use borrow.Author.Needs.{needs}
 use mathlib.Core.Path.{_≡_}
 use native.Mathlib.Omega.{arith}
 use lib.ListN.{length}
-use Rattle.prepares.specs.Loops.{Leads}
+use Rattle.prepares.specs.inner.Loops.{Leads}
 use Rattle.prepares.proofs.Found.{alikes-lead, seeks}
 use Rattle.prepares.proofs.seek.Statement.{statement}
 use Rattle.prepares.proofs.seek.Tie as tie

@@ -6,7 +6,7 @@ use native.Mathlib.Omega.{arith}
 use Rattle.lists.specs.Automaton.{step}
 use Rattle.lists.proofs.Steps.{step-lt}
 use Rattle.tables.specs.Table.{byteValues, mostSplits, part}
-use Rattle.build.specs.Loops.{Added}
+use Rattle.build.specs.inner.Loops.{Added}
 use Rattle.build.proofs.Reached.{reach-step}
 use Rattle.build.proofs.Exploring.{Growing, grow-start, grow-more, grow-full, grow-end}
 use Rattle.prepares.proofs.Found.{there, added}

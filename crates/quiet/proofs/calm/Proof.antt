@@ -5,7 +5,7 @@ use Prim.Native.Nat.{ℕ, _≤_, _<_, _-_, _+_, _*_}
 use native.Mathlib.Omega.{arith}
 use lib.ListN.{length}
 use Rattle.entries.specs.Entry.{limit, costAt}
-use Rattle.quiet.specs.Moves.{Moves}
+use Rattle.quiet.specs.inner.Moves.{Moves}
 use Rattle.quiet.proofs.Moving.{still, join, on}
 use Rattle.quiet.proofs.calm.Statement.{statement}
 use Rattle.quiet.proofs.calm.Tie as tie

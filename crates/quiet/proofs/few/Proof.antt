@@ -5,7 +5,7 @@ use Prim.Native.Nat.{_≤_, _<_, _-_, _+_, _*_}
 use native.Mathlib.Omega.{arith}
 use lib.ListN.{length}
 use Rattle.entries.specs.Entry.{limit}
-use Rattle.quiet.specs.Moves.{Moves}
+use Rattle.quiet.specs.inner.Moves.{Moves}
 use Rattle.quiet.proofs.Moving.{still, on}
 use Rattle.quiet.proofs.few.Statement.{statement}
 use Rattle.quiet.proofs.few.Tie as tie

@@ -5,7 +5,7 @@ use native.Mathlib.Omega.{arith}
 use lib.ListN.{length}
 use Rattle.blocks.proofs.Blocks.{block-hit, block-clear}
 use Rattle.entries.specs.Entry.{costAt}
-use Rattle.quiet.specs.Moves.{Moves}
+use Rattle.quiet.specs.inner.Moves.{Moves}
 use Rattle.quiet.proofs.Moving.{stays-on, none-yet}
 use Rattle.quiet.proofs.skip.Statement.{statement}
 use Rattle.quiet.proofs.skip.Tie as tie

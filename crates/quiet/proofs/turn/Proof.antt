@@ -4,7 +4,7 @@ use mathlib.Core.Path.{refl}
 use Prim.Native.Nat.{ℕ, _<_, _-_, _+_}
 use native.Mathlib.Omega.{arith}
 use Rattle.entries.specs.Entry.{limit}
-use Rattle.quiet.specs.Moves.{Moves}
+use Rattle.quiet.specs.inner.Moves.{Moves}
 use Rattle.quiet.proofs.Moving.{still, on}
 use Rattle.quiet.proofs.turn.Statement.{statement}
 use Rattle.quiet.proofs.turn.Tie as tie

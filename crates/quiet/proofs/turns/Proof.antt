@@ -3,7 +3,7 @@ use mathlib.Core.Path.{refl}
 use Prim.Native.Nat.{_≤_, _<_, _-_, _+_, _*_}
 use native.Mathlib.Omega.{arith}
 use Rattle.entries.specs.Entry.{limit}
-use Rattle.quiet.specs.Moves.{Moves}
+use Rattle.quiet.specs.inner.Moves.{Moves}
 use Rattle.quiet.proofs.Moving.{still, join}
 use Rattle.quiet.proofs.turns.Statement.{statement}
 use Rattle.quiet.proofs.turns.Tie as tie

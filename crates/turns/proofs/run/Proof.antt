@@ -6,9 +6,10 @@ use mathlib.Core.Bool.{true, false, true≢false}
 use Prim.Native.Nat.{ℕ, _≤_, _<_, _-_, _+_, _*_}
 use native.Mathlib.Omega.{arith}
 use lib.ListN.{length}
-use Rattle.blocks.specs.Block.{wordAt, hot}
+use Rattle.blocks.specs.inner.Ranges.{hot}
+use Rattle.blocks.specs.Block.{wordAt}
 use Rattle.entries.specs.Entry.{limit}
-use Rattle.turns.specs.Goes.{Goes, Strides}
+use Rattle.turns.specs.inner.Goes.{Goes, Strides}
 use Rattle.quiet.proofs.Moving.{all-hot}
 use Rattle.turns.proofs.Striding.{quietly, here, then, led-to}
 use Rattle.turns.proofs.run.Statement.{statement}

@@ -7,7 +7,7 @@ use Prim.Native.Nat.{_≤_, _<_, _-_, _+_, _*_}
 use native.Mathlib.Omega.{arith}
 use lib.ListN.{length}
 use Rattle.entries.specs.Entry.{limit}
-use Rattle.turns.specs.Goes.{Goes}
+use Rattle.turns.specs.inner.Goes.{Goes}
 use Rattle.turns.proofs.Striding.{quietly, here, then, not-told, told-many, told-within, followed, full, lost}
 use Rattle.turns.proofs.stretch.Statement.{statement}
 use Rattle.turns.proofs.stretch.Tie as tie

@@ -9,9 +9,9 @@ use mathlib.Core.List.{List, _++_}
 use lib.ListN.{length, drop, getD}
 use Rattle.texts.specs.Exp.{Exp}
 use Rattle.texts.specs.Grammar.{Body, okBody, reads, leafHas}
-use Rattle.texts.proofs.Reading.{Stop}
+use Rattle.texts.specs.inner.Heads.{Stop}
 use Rattle.sets.specs.Set.{states, setOf, sigsOf}
-use Rattle.walk.specs.Rows.{cap, rowsSize, Keeps, Sums}
+use Rattle.walk.specs.inner.Rows.{cap, rowsSize, Keeps, Sums}
 use Rattle.walk.proofs.Sum.{cap-most, cap-least, keeps-refl, keeps-then, keeps-less, seam-keeps, sum-eps, sum-one, sum-plus, sum-opt}
 use Rattle.walk.proofs.Copying.{cap-low}
 use Rattle.walk.proofs.Bodies.{Left, Alts, seq-start, seq-over, seq-more, alts-first, alts-over, alts-more, item-never, item-bare, item-star, item-plus, item-maybe, item-rep, atom-group, atom-leaf}

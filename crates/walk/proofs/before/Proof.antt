@@ -4,7 +4,7 @@ use Prim.Native.Nat.{_≤_, _+_}
 use mathlib.Core.Path.{sym, subst, _∙_}
 use Rattle.texts.specs.Exp.{cat, size}
 use Rattle.sets.specs.Set.{states, setOf}
-use Rattle.walk.specs.Rows.{cap}
+use Rattle.walk.specs.inner.Rows.{cap}
 use Rattle.walk.proofs.Sum.{cap-most, seam-keeps, keeps-refl, sum-cat, sum-opt}
 use Rattle.walk.proofs.before.Statement.{statement}
 use Rattle.walk.proofs.before.Tie as tie

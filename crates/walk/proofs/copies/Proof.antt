@@ -5,7 +5,7 @@ use Prim.Native.Nat.{_≤_, _<_, _-_, _+_, _*_}
 use mathlib.Core.Path.{_≡_, sym, subst, _∙_}
 use Rattle.texts.specs.Exp.{Exp, times}
 use Rattle.sets.specs.Set.{states}
-use Rattle.walk.specs.Rows.{Keeps, Sums}
+use Rattle.walk.specs.inner.Rows.{Keeps, Sums}
 use Rattle.walk.proofs.Sum.{cap-most, keeps-refl, keeps-then, keeps-less}
 use Rattle.walk.proofs.Copying.{some-copies, product-most, sum-none, sum-lost, copies-none, copies-more, copies-last, turn-fits, turn-far, copied-keeps}
 use Rattle.walk.proofs.copies.Statement.{statement}

@@ -5,8 +5,8 @@ use Prim.Native.Nat.{_<_, _+_, _*_, _^_}
 use mathlib.Core.Path.{_≡_, sym, ap, subst, _∙_}
 use lib.ListN.{length}
 use Rattle.sets.specs.Set.{signatures, setSize, setOf, sigsOf}
-use Rattle.walk.specs.Rows.{rowSize}
-use Rattle.words.specs.Further.{further}
+use Rattle.walk.specs.inner.Rows.{rowSize}
+use Rattle.words.specs.inner.Further.{further}
 use Rattle.walk.proofs.Buffer.{sigs-at-lt}
 use Rattle.walk.proofs.Loops.{copied-one}
 use Rattle.walk.proofs.copy_row.Statement.{statement}

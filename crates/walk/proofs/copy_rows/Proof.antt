@@ -3,7 +3,7 @@ use borrow.Author.Needs.{needs}
 use native.Mathlib.Omega.{arith}
 use Prim.Native.Nat.{_≤_, _-_}
 use mathlib.Core.Path.{_≡_, subst, _∙_}
-use Rattle.walk.specs.Rows.{Copied}
+use Rattle.walk.specs.inner.Rows.{Copied}
 use Rattle.walk.proofs.Loops.{copied-none, copied-more}
 use Rattle.walk.proofs.copy_rows.Statement.{statement}
 use Rattle.walk.proofs.copy_rows.Tie as tie

@@ -5,7 +5,7 @@ use mathlib.Core.Path.{sym, ap, subst, _∙_}
 use Rattle.sets.specs.Set.{states, setWords, setOf, join}
 use Rattle.sets.proofs.Sets.{words-lt, set-at-lt}
 use Rattle.sets.proofs.Whole.{valid-of}
-use Rattle.walk.specs.Rows.{rowSize, priorAt}
+use Rattle.walk.specs.inner.Rows.{rowSize, priorAt}
 use Rattle.walk.proofs.Loops.{join-lt, entered}
 use Rattle.walk.proofs.enter.Statement.{statement}
 use Rattle.walk.proofs.enter.Tie as tie

@@ -7,7 +7,7 @@ use lib.ListN.{length}
 use Rattle.sets.specs.Set.{setWords, sigWords, setBytes, placed, sigsOf}
 use Rattle.sets.proofs.Sets.{words-lt, empty-words}
 use Rattle.sets.proofs.Whole.{sigs-valid-of}
-use Rattle.walk.specs.Rows.{rowSize}
+use Rattle.walk.specs.inner.Rows.{rowSize}
 use Rattle.walk.proofs.Loops.{leafed, leafed-none}
 use Rattle.walk.proofs.put_leaf.Statement.{statement}
 use Rattle.walk.proofs.put_leaf.Tie as tie

@@ -5,7 +5,7 @@ use Prim.Native.Nat.{_≤_, _<_, _-_, _+_}
 use mathlib.Core.Path.{_≡_, _∙_, subst}
 use mathlib.Core.Bool.{true}
 use Rattle.sets.specs.Set.{setOf, holds}
-use Rattle.walk.specs.Rows.{Seamed}
+use Rattle.walk.specs.inner.Rows.{Seamed}
 use Rattle.walk.proofs.Loops.{seam-none, seam-in, seam-skip}
 use Rattle.walk.proofs.seam.Statement.{statement}
 use Rattle.walk.proofs.seam.Tie as tie

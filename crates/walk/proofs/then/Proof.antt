@@ -4,7 +4,7 @@ use native.Mathlib.Omega.{arith}
 use Prim.Native.Nat.{_+_}
 use mathlib.Core.Path.{refl, ap, subst, _∙_}
 use Rattle.sets.specs.Set.{setOf, join}
-use Rattle.walk.specs.Rows.{Seamed}
+use Rattle.walk.specs.inner.Rows.{Seamed}
 use Rattle.walk.proofs.Sum.{cap-least, cap-most}
 use Rattle.walk.proofs.then.Statement.{statement}
 use Rattle.walk.proofs.then.Tie as tie

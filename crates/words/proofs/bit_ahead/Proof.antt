@@ -6,7 +6,7 @@ use lib.ListN.{length, getD}
 use mathlib.Core.Path.{_≡_, subst}
 use mathlib.Core.Bool.{false}
 use Rattle.sets.specs.Set.{num, holds}
-use Rattle.words.specs.Next.{Next}
+use Rattle.words.specs.inner.Next.{Next}
 use Rattle.words.proofs.Visiting.{none-more, next-in, next-none}
 use Rattle.words.proofs.bit_ahead.Statement.{statement}
 use Rattle.words.proofs.bit_ahead.Tie as tie

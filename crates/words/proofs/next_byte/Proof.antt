@@ -5,7 +5,7 @@ use Prim.Native.Nat.{_*_}
 use mathlib.Core.Path.{subst}
 use Rattle.sets.specs.Set.{sigsOf}
 use Rattle.sets.proofs.Whole.{sigs-valid-of}
-use Rattle.words.specs.Next.{Next}
+use Rattle.words.specs.inner.Next.{Next}
 use Rattle.words.proofs.next_byte.Statement.{statement}
 use Rattle.words.proofs.next_byte.Tie as tie
 

@@ -5,7 +5,7 @@ use Prim.Native.Nat.{_*_}
 use mathlib.Core.Path.{subst}
 use Rattle.sets.specs.Set.{states, setOf}
 use Rattle.sets.proofs.Whole.{valid-of}
-use Rattle.words.specs.Next.{Next}
+use Rattle.words.specs.inner.Next.{Next}
 use Rattle.words.proofs.Visiting.{next-cut, next-kept}
 use Rattle.words.proofs.next_state.Statement.{statement}
 use Rattle.words.proofs.next_state.Tie as tie

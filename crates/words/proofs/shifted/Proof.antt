@@ -8,7 +8,7 @@ use mir.Val.{Fits}
 use mir.Syntax.{w64}
 use Rattle.sets.specs.Set.{setWords}
 use Rattle.sets.proofs.Laws.{Small, small-zeros, small-set}
-use Rattle.words.specs.Further.{Strides}
+use Rattle.words.specs.inner.Further.{Strides}
 use Rattle.words.proofs.Further.{words-further, stride-more}
 use Rattle.words.proofs.shifted.Statement.{statement}
 use Rattle.words.proofs.shifted.Tie as tie

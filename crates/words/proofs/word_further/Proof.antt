@@ -4,7 +4,7 @@ use native.Mathlib.Omega.{arith}
 use Prim.Native.Nat.{_-_, _/_, _%_}
 use mathlib.Core.Path.{subst}
 use lib.ListN.{getD}
-use Rattle.words.specs.Further.{Straddles}
+use Rattle.words.specs.inner.Further.{Straddles}
 use Rattle.words.proofs.Further.{stride-under, stride-at, stride-over}
 use Rattle.words.proofs.word_further.Statement.{statement}
 use Rattle.words.proofs.word_further.Tie as tie

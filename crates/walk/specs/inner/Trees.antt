@@ -2,7 +2,7 @@
 use Prim.Native.Nat.{ℕ}
 use mathlib.Core.Bool.{Bool}
 use mathlib.Core.List.{List, _∷_, _++_}
-use Rattle.marks.specs.Marks.{Atom, byte, brackets}
+use Rattle.marks.specs.inner.Marks.{Atom, byte, brackets}
 use Rattle.texts.specs.Exp.{Exp, one, eps, cat}
 use Rattle.texts.specs.Grammar.{Leaf, Body, end, bar, leaf, group, okLeaf, okBody, spellLeaf, reads, leafHas, marked, exp}
 

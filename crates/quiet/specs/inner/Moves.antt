@@ -1,7 +1,7 @@
 -- What the loops over quiet bytes promise: from byte i at place p to byte j at place q, whatever the splits are, wherever the feed began, and whatever it told before.
 use Prim.Native.Nat.{ℕ, _+_}
 use mathlib.Core.List.{List}
-use Rattle.feeds.proofs.Going.{Going}
+use Rattle.feeds.specs.inner.Going.{Going}
 use Rattle.entries.specs.Stand.{Stand, standsAt, indexed}
 
 -- over bytes that tell nothing, for n rows

@@ -5,7 +5,7 @@ use mathlib.Core.Bool.{true, false}
 use mathlib.Core.List.{List}
 use lib.ListN.{length}
 use Rattle.feeds.specs.Engine.{room, consumed}
-use Rattle.feeds.proofs.Going.{Going}
+use Rattle.feeds.specs.inner.Going.{Going}
 use Rattle.entries.specs.Entry.{limit}
 use Rattle.entries.specs.Stand.{Stand, standsAt, indexed}
 use Rattle.turns.specs.declared.Stands.{Stands}

@@ -7,8 +7,8 @@ use lib.ListN.{length}
 use Rattle.lists.specs.Automaton.{step}
 use Rattle.tables.specs.Table.{byteValues, mostSplits}
 use Rattle.build.specs.Build.{Many, Reached}
-use Rattle.build.specs.Loops.{setsOf}
-use Rattle.fills.specs.Filled.{Led}
+use Rattle.build.specs.inner.Loops.{setsOf}
+use Rattle.fills.specs.inner.Lows.{Led}
 
 -- where D has for a byte a lower one, every set steps alike on both
 abbrev pub Leads : List ℕ → List ℕ → Type 0

@@ -8,7 +8,7 @@ use mathlib.Core.List.{List, [], _∷_, _++_}
 use lib.Dec.{leb, ltb, eqb}
 use Rattle.texts.specs.Exp.{Exp, one, eps, cat, alt, plus, size, null}
 use Rattle.sets.specs.Set.{states, setSize, sigSize, setOf, sigsOf, num, setAt, sigsAt, holds, join, insert}
-use Rattle.words.specs.Further.{further}
+use Rattle.words.specs.inner.Further.{further}
 use Rattle.walk.specs.declared.Shape.{Shape}
 
 unfoldable pub firstAt : ℕ → Exp → ℕ → Bool

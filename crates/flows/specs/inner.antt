@@ -1,0 +1,3 @@
+pub mod Ran
+pub mod Told
+pub mod Leaves
