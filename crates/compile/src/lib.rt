@@ -172,17 +172,17 @@ fn build(text: &[u8], g: u8, list: &mut [u8]) -> Compiled
     let whole = walk::walk(text, &mut rows);
     let n = whole.size;
     if sets::STATES <= n {
-        return refused(21, 0);
+        return refused(rules::TOO_BIG, 0);
     }
     let m = n + 1;
     let bound = is_bound(text);
     let ends = ends_of(whole);
     let count = count_edges(&rows, whole, bound, m) + 1 + weigh(ends, 1);
     if lists::MOST_RECORDS < count {
-        return refused(21, 0);
+        return refused(rules::TOO_BIG, 0);
     }
     if list.len() / 8 < count {
-        return refused(21, 0);
+        return refused(rules::TOO_BIG, 0);
     }
     put_all(&rows, whole, bound, g, list, m, ends);
     sort(list, 0, count, &mut rows);
@@ -200,7 +200,7 @@ pub fn compile(text: &[u8], signature: u8, list: &mut [u8]) -> Compiled
     let parsed = check_text(text);
     match parsed {
         Parsed::Good => build(text, signature, list),
-        Parsed::Bad(p) => refused(19, p),
-        Parsed::Deep => refused(20, 0),
+        Parsed::Bad(p) => refused(rules::BAD_TEXT, p),
+        Parsed::Deep => refused(rules::TOO_DEEP, 0),
     }
 }

@@ -189,7 +189,7 @@ pub fn check(moves: &[u8], programs: &[u8]) -> u32
     ensures { λ r. ⌜ r ≡ machineRefusal (now (moves .entry)) (now (programs .entry)) ⌝ }
 {
     if bad_machine(moves, programs) {
-        return 24;
+        return rules::MACHINE;
     }
     rules::PASSED
 }
@@ -437,14 +437,14 @@ fn flow_refusal(states: usize, flow: &[u8], start: u64, piece: &[u8]) -> u32
     ensures { λ r. ⌜ r ≡ verdict (flowRules states (now (flow .entry)) start (now (piece .entry))) ⌝ }
 {
     if bad_flow(states, flow) {
-        return 4;
+        return rules::FLOW_RECORD;
     }
     let offset = offset_of(flow);
     if start != offset {
-        return 5;
+        return rules::OTHER_START;
     }
     if piece.len() as u64 > feeds::MOST_OFFSET - offset {
-        return 6;
+        return rules::TOO_LONG;
     }
     rules::PASSED
 }
@@ -454,7 +454,7 @@ pub fn feed_refusal(moves: &[u8], programs: &[u8], flow: &[u8], start: u64, piec
     ensures { λ r. ⌜ r ≡ verdict (feedRules (now (moves .entry)) (now (programs .entry)) (now (flow .entry)) start (now (piece .entry))) ⌝ }
 {
     if bad_machine(moves, programs) {
-        return 24;
+        return rules::MACHINE;
     }
     flow_refusal(moves.len() / X_MOVES_SIZE, flow, start, piece)
 }
@@ -488,10 +488,10 @@ fn open_refusal(moves: &[u8], programs: &[u8], flow: &[u8]) -> u32
     ensures { λ r. ⌜ r ≡ verdict (firstRules (now (moves .entry)) (now (programs .entry)) (now (flow .entry))) ⌝ }
 {
     if bad_machine(moves, programs) {
-        return 24;
+        return rules::MACHINE;
     }
     if flow.len() != X_FLOW_SIZE {
-        return 4;
+        return rules::FLOW_RECORD;
     }
     rules::PASSED
 }
@@ -521,7 +521,7 @@ pub fn open_flow(moves: &[u8], programs: &[u8], flow: &mut [u8], pairs: &mut [u3
     let n = tell_alerts(pairs, 0, alerts, 0);
     if room < n {
         return Opened {
-            refusal: 15,
+            refusal: rules::NO_ROOM,
             pairs: 0,
         };
     }

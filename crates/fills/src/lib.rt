@@ -227,7 +227,7 @@ fn fill_refusal(
         return sized;
     }
     if entries::wrong_index(splits, index) {
-        return 8;
+        return rules::TABLE_LISTS;
     }
     tables::check_table(list, bound, classes, parts, rows, splits)
 }

@@ -80,14 +80,14 @@ pub fn flow_refusal(known: bool, flow: &[u8], start: u64, piece: &[u8]) -> u32
     ensures { λ r. ⌜ r ≡ verdict (flowRules known (now (flow .entry)) start (now (piece .entry))) ⌝ }
 {
     if bad_flow(flow) | !known {
-        return 4;
+        return rules::FLOW_RECORD;
     }
     let offset = offset_of(flow);
     if start != offset {
-        return 5;
+        return rules::OTHER_START;
     }
     if piece.len() as u64 > feeds::MOST_OFFSET - offset {
-        return 6;
+        return rules::TOO_LONG;
     }
     rules::PASSED
 }

@@ -321,7 +321,7 @@ pub fn fold(list: &[u8], out: &mut [u8]) -> Folded
     let long = lists::RECORD_SIZE * count(list, &leads, top);
     if out.len() < long {
         return Folded {
-            refusal: 28,
+            refusal: rules::LIST_ROOM,
             length: 0,
         };
     }

@@ -18,9 +18,6 @@ ghost use Rattle.entries.specs.Entry.{entrySize, entryPlace, telling, limit, ba
 ghost use Rattle.entries.specs.Stand.{soughtOf, holdsAt, namedBy, standRules, standFeed, stoodAt};
 ghost use Rattle.turns.specs.inner.Goes.{Strides};
 
-// The refusal of a byte at a place that has no whole entry.
-const HALTED: u32 = 14;
-
 // A place has a whole entry where one byte and so many more stand from it on.
 const REST: usize = entries::ENTRY_SIZE - 1;
 
@@ -108,7 +105,7 @@ fn feed_refusal(
         return rules::PASSED;
     }
     if entries::bad_index(splits, index) {
-        return 8;
+        return rules::TABLE_LISTS;
     }
     rules::PASSED
 }
@@ -207,7 +204,7 @@ fn halted(index: &[u8], place: usize, bytes: usize, len: usize) -> u32
     if place < index.len() - REST {
         return rules::PASSED;
     }
-    HALTED
+    rules::NO_SPLIT
 }
 
 // Writes the set that stands at a place of the splits in front of a record, where the bytes of both are all there.

@@ -415,11 +415,11 @@ fn decide(a: &[u8], used: usize, lent: usize, b: &[u8]) -> Plan
     }
     let y = find_outline(b);
     if y.refusal != rules::PASSED {
-        return stopped(27);
+        return stopped(rules::OTHER_LIST);
     }
     let n = name_states(x, y);
     if (lent < used) | too_long(a, lent, n, b) | !all_fit(n, y.top, b) {
-        return stopped(28);
+        return stopped(rules::LIST_ROOM);
     }
     Plan {
         refusal: rules::PASSED,

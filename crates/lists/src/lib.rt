@@ -215,13 +215,13 @@ pub fn check_list(list: &[u8]) -> u32
     ensures { λ r. ⌜ r ≡ listRefusal (now (list .entry)) ⌝ }
 {
     if bad_length(list) {
-        return 1;
+        return rules::LIST_LENGTH;
     }
     if bad_record(list) {
-        return 2;
+        return rules::LIST_RECORD;
     }
     if no_start(list) {
-        return 3;
+        return rules::NO_START;
     }
     rules::PASSED
 }
@@ -464,7 +464,7 @@ pub fn survey_list(list: &[u8], flow: &[u8]) -> Survey
 {
     if bad_length(list) {
         return Survey {
-            refusal: 1,
+            refusal: rules::LIST_LENGTH,
             known: false,
         };
     }
@@ -477,7 +477,7 @@ pub fn survey_list(list: &[u8], flow: &[u8]) -> Survey
         let end = block_end(i, n);
         if !put_from(list, i, end, &mut w) {
             return Survey {
-                refusal: 2,
+                refusal: rules::LIST_RECORD,
                 known: false,
             };
         }
@@ -486,13 +486,13 @@ pub fn survey_list(list: &[u8], flow: &[u8]) -> Survey
     }
     if !good_from(list, i, n) {
         return Survey {
-            refusal: 2,
+            refusal: rules::LIST_RECORD,
             known: false,
         };
     }
     if no_start(list) {
         return Survey {
-            refusal: 3,
+            refusal: rules::NO_START,
             known: false,
         };
     }

@@ -85,7 +85,7 @@ fn fill_refusal(list: &[u8], n: usize, matrix: &[u8]) -> u32
         return listed;
     }
     if matrix.len() != ROW_SIZE * n {
-        return 8;
+        return rules::TABLE_LISTS;
     }
     rules::PASSED
 }
@@ -211,7 +211,7 @@ fn feed_refusal(list: &[u8], n: usize, matrix: &[u8], flow: &[u8], start: u64, p
         return met;
     }
     if matrix.len() != ROW_SIZE * n {
-        return 8;
+        return rules::TABLE_LISTS;
     }
     rules::PASSED
 }

@@ -24,7 +24,7 @@ fn open_refusal(list: &[u8], flow: &[u8]) -> u32
         return listed;
     }
     if flow.len() != flows::FLOW_SIZE {
-        return 4;
+        return rules::FLOW_RECORD;
     }
     rules::PASSED
 }
@@ -45,7 +45,7 @@ pub fn open_flow(list: &[u8], flow: &mut [u8], pairs: &mut [u32]) -> Opened
     let fits = told.fits;
     if !fits {
         return Opened {
-            refusal: 15,
+            refusal: rules::NO_ROOM,
             pairs: 0,
         };
     }

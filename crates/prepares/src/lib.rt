@@ -178,7 +178,7 @@ pub fn prepare(list: &[u8], splits: &mut [u8], index: &mut [u8]) -> Made
     }
     if too_short(splits.len(), index.len()) {
         return Made {
-            refusal: 17,
+            refusal: rules::LENT_LISTS,
             splits: 0,
             index: 0,
         };
@@ -190,7 +190,7 @@ pub fn prepare(list: &[u8], splits: &mut [u8], index: &mut [u8]) -> Made
         classes::clear(splits, 0);
         classes::clear(index, 0);
         return Made {
-            refusal: 16,
+            refusal: rules::TOO_MANY,
             splits: 0,
             index: 0,
         };

@@ -159,7 +159,7 @@ fn tell_run(
         × (now (work .exit) ≡ cond (eqb end states) (now (work .entry)) (placed (now (work .entry)) 0 (fronts (now (list .entry)) (setOf first) (now (piece .entry)) n))) ⌝ }
 {
     if end == sets::STATES {
-        return 26;
+        return rules::NOT_DUE;
     }
     keep_fronts(list, first, piece, n, work);
     trace_back(list, piece, n, work, end, run);
@@ -183,17 +183,17 @@ fn place_refusal(
         return met;
     }
     if offset < start {
-        return 25;
+        return rules::PLACE;
     }
     if (piece.len() as u64) < offset - start {
-        return 25;
+        return rules::PLACE;
     }
     let n = (offset - start) as usize;
     if run.len() < n + 1 {
-        return 25;
+        return rules::PLACE;
     }
     if work.len() < sets::BYTES * (n + 1) {
-        return 25;
+        return rules::PLACE;
     }
     rules::PASSED
 }
@@ -286,14 +286,14 @@ pub fn find_edge(list: &[u8], from: u32, byte: u32, to: u32) -> Found
     }
     if 255 < byte {
         return Found {
-            refusal: 26,
+            refusal: rules::NOT_DUE,
             place: 0,
         };
     }
     let place = first_edge(list, from as usize, byte as u8, to as usize);
     if place == lists::records(list) {
         return Found {
-            refusal: 26,
+            refusal: rules::NOT_DUE,
             place: 0,
         };
     }

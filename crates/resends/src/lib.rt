@@ -15,7 +15,7 @@ pub const HELD_SIZE: usize = 4096;
 const HALF: u32 = 2147483648;
 
 // The refusal of a segment.
-pub const NOT_TAKEN: u32 = 18;
+pub const NOT_TAKEN: u32 = rules::SEGMENT;
 
 // How many bytes are held where the held place is free.
 const FREE: u32 = 0;

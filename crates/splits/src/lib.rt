@@ -17,9 +17,6 @@ ghost use Rattle.tables.specs.Table.{table, classCount, partCount, splitCount, 
 ghost use Rattle.splits.specs.Split.{split, splitRules, splitFeed};
 ghost use Rattle.splits.specs.inner.Taken.{TakesSlots, TakesStep};
 
-// The refusal of a byte that the table does not move.
-const HALTED: u32 = 14;
-
 // What a split gives for a byte: whether it halts there, the slots taken, and the union of their rows.
 struct Taken {
     halts: bool,
@@ -146,7 +143,7 @@ fn feed_bytes(
         let f = ran.frontier;
         let t = split_step(classes, parts, rows, splits, k, bound, f, piece[i]);
         if t.halts {
-            ran.refusal = HALTED;
+            ran.refusal = rules::NO_SPLIT;
             return ran;
         }
         let next = t.next;

@@ -167,10 +167,10 @@ pub fn size_refusal(bound: u64, classes: &[u8], parts: &[u8], rows: &[u8], split
     ensures { λ r. ⌜ r ≡ verdict (sizeRules bound (table (now (classes .entry)) (now (parts .entry)) (now (rows .entry)) (now (splits .entry)))) ⌝ }
 {
     if (bound == 0) | (MOST_BOUND < bound) {
-        return 7;
+        return rules::BOUND;
     }
     if bad_lengths(classes, parts, rows, splits) {
-        return 8;
+        return rules::TABLE_LISTS;
     }
     rules::PASSED
 }
@@ -221,7 +221,7 @@ pub fn rising_refusal(bound: u64, classes: &[u8], parts: &[u8], rows: &[u8], spl
         return sized;
     }
     if !ordered(splits) {
-        return 9;
+        return rules::SPLIT_RECORD;
     }
     rules::PASSED
 }
@@ -481,19 +481,19 @@ fn entries_refusal(
 {
     let k = class_count(classes);
     if !splits_good(splits, part_count(parts), bound) {
-        return 9;
+        return rules::SPLIT_RECORD;
     }
     if !rows_good(list, classes, parts, rows, k) {
-        return 10;
+        return rules::WRONG_ROW;
     }
     if !unions_good(parts, splits) {
-        return 11;
+        return rules::WRONG_UNION;
     }
     if split_count(splits) <= find_sorted(splits, lists::start_set(list)) {
-        return 12;
+        return rules::NO_START_SPLIT;
     }
     if !leads(classes, rows, splits, k) {
-        return 13;
+        return rules::NOT_CLOSED;
     }
     rules::PASSED
 }
