@@ -181,7 +181,7 @@ fn build(text: &[u8], g: u8, list: &mut [u8]) -> Compiled
     if lists::MOST_RECORDS < count {
         return refused(rules::TOO_BIG, 0);
     }
-    if list.len() / 8 < count {
+    if list.len() / lists::RECORD_SIZE < count {
         return refused(rules::TOO_BIG, 0);
     }
     put_all(&rows, whole, bound, g, list, m, ends);
@@ -189,7 +189,7 @@ fn build(text: &[u8], g: u8, list: &mut [u8]) -> Compiled
     Compiled {
         refusal: 0,
         place: 0,
-        length: 8 * count,
+        length: lists::RECORD_SIZE * count,
     }
 }
 

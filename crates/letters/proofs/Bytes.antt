@@ -16,12 +16,6 @@ use Rattle.texts.proofs.Reading.{assoc, members-head, member-head, members-care
 use Rattle.texts.proofs.Peeling.{peel-lt, peel-at, peel-tail, gone}
 use Rattle.sets.specs.Set.{holds}
 
-pub past-end : (T : List ℕ) (i : ℕ) → length T ≤ i → 0 ≡ getD T i 0
-past-end [] zero h = refl
-past-end [] (suc i) h = refl
-past-end (c ∷ T) zero h = absurd (omega arith)
-past-end (c ∷ T) (suc i) h = past-end T i (omega arith)
-
 -- ---- single bytes
 
 module _ (T : List ℕ) (n : ℕ) (y : List ℕ) where

@@ -12,7 +12,7 @@ ghost use lib.ListN.{length, drop, getD};
 ghost use Rattle.texts.specs.Records.{runs};
 ghost use Rattle.texts.specs.inner.Heads.{headOf};
 ghost use Rattle.sets.specs.Set.{sigsOf, holds, join};
-ghost use Rattle.texts.specs.Grammar.{Single, Member, Leaf, amid, isDigit, hexValue, value, okSingle, okMembers, okLeaf, spell, spellMembers, spellLeaf, membersHave, memberHas, okMember, spellMember, leafHas};
+ghost use Rattle.texts.specs.Grammar.{Single, Member, Leaf, amid, value, okSingle, okMembers, okLeaf, spell, spellMembers, spellLeaf, membersHave, memberHas, okMember, spellMember, leafHas};
 
 // A single byte's value, and the place after it.
 struct One {
@@ -26,58 +26,16 @@ struct Added {
     next: usize,
 }
 
-// A byte as a number.
-fn wide(c: u8) -> usize
-    ensures { λ r. ⌜ (r ≡ c) × (r < 256) ⌝ }
-{
-    c as usize
-}
-
-// The byte at a place; past the end that is 0.
-fn byte_at(text: &[u8], i: usize) -> u8
-    ensures { λ r. ⌜ r ≡ getD (now (text .entry)) i 0 ⌝ }
-{
-    if i < text.len() { text[i] } else { 0 }
-}
-
-// Says whether a byte is a decimal digit.
-fn is_digit(c: u8) -> bool
-    ensures { λ r. ⌜ r ≡ isDigit c ⌝ }
-{
-    (48 <= c) & (c <= 57)
-}
-
-// The difference, or 0.
-fn less(a: usize, b: usize) -> usize
-    ensures { λ r. ⌜ r ≡ a - b ⌝ }
-{
-    if b <= a { a - b } else { 0 }
-}
-
-// The value of a hex digit.
-fn hex_value(c: u8) -> usize
-    ensures { λ r. ⌜ (r ≡ hexValue c) × (r < 256) ⌝ }
-{
-    let x = wide(c);
-    if is_digit(c) {
-        return less(x, 48);
-    }
-    if x <= 70 {
-        return less(x, 55);
-    }
-    less(x, 87)
-}
-
 // The single byte at a place.
 fn single_of(text: &[u8], at: usize) -> One
     requires { ⌜ at ≤ length (now text) ⌝ }
     ensures { λ r. ⌜ (at < r .next) × (r .next ≤ at + 4) × ((out : List ℕ) (s : Single) (y : List ℕ) → amid 92 out ≡ true → okSingle out s ≡ true → drop at (now (text .entry)) ≡ spell s ++ y → (r .value ≡ value s) × (drop (r .next) (now (text .entry)) ≡ y)) ⌝ }
 {
-    let c = byte_at(text, at);
-    if c == 92 {
-        if byte_at(text, at + 1) == 120 {
-            let a = hex_value(byte_at(text, at + 2));
-            let b = hex_value(byte_at(text, at + 3));
+    let c = lists::byte_at(text, at);
+    if c == b'\\' {
+        if lists::byte_at(text, at + 1) == b'x' {
+            let a = texts::hex_value(lists::byte_at(text, at + 2));
+            let b = texts::hex_value(lists::byte_at(text, at + 3));
             return One {
                 value: 16 * a + b,
                 next: at + 4,
@@ -89,7 +47,7 @@ fn single_of(text: &[u8], at: usize) -> One
         };
     }
     One {
-        value: wide(c),
+        value: texts::wide(c),
         next: at + 1,
     }
 }
@@ -99,9 +57,9 @@ fn white(text: &[u8], at: usize) -> bool
     requires { ⌜ at ≤ length (now text) ⌝ }
     ensures { λ r. ⌜ r ≡ (eqb (getD (now (text .entry)) at 0) 92 && eqb (getD (now (text .entry)) (at + 1) 0) 115) ⌝ }
 {
-    let a = byte_at(text, at);
-    let b = byte_at(text, at + 1);
-    (a == 92) & (b == 115)
+    let a = lists::byte_at(text, at);
+    let b = lists::byte_at(text, at + 1);
+    (a == b'\\') & (b == b's')
 }
 
 // A set, with the bytes of the member at a place.
@@ -119,7 +77,7 @@ fn member_of(text: &[u8], at: usize, set: SigSet) -> Added
     let low = single_of(text, at);
     let p = low.next;
     if p < text.len() {
-        if text[p] == 45 {
+        if text[p] == b'-' {
             let high = single_of(text, p + 1);
             return Added {
                 set: span(set, low.value, high.value),
@@ -141,7 +99,7 @@ fn class_set(text: &[u8], at: usize) -> SigSet
     let mut next = at;
     let mut set = SigSet::EMPTY;
     while next < text.len() {
-        if text[next] == 93 {
+        if text[next] == b']' {
             return set;
         }
         let more = member_of(text, next, set);
@@ -158,13 +116,13 @@ pub fn leaf_set(text: &[u8], at: usize) -> SigSet
 {
     let none = SigSet::EMPTY;
     let c = text[at];
-    if c == 46 {
+    if c == b'.' {
         return span(none, 0, 255);
     }
-    if c == 91 {
+    if c == b'[' {
         let n = text.len();
         if at + 1 < n {
-            if text[at + 1] == 94 {
+            if text[at + 1] == b'^' {
                 let inner = class_set(text, at + 2);
                 return others(inner);
             }

@@ -70,13 +70,6 @@ pub fn past(i: usize, n: usize) -> usize
     if i < n { i + 1 } else { i }
 }
 
-// Says whether a byte is a decimal digit.
-fn is_digit(c: u8) -> bool
-    ensures { λ r. ⌜ r ≡ isDigit c ⌝ }
-{
-    (b'0' <= c) & (c <= b'9')
-}
-
 // One more digit; what is past 300 stays past it.
 fn more(v: usize, c: u8) -> usize
     ensures { λ r. ⌜ (r ≤ 4000) × (v ≤ 300 → 48 ≤ c → r ≡ 10 * v + (c - 48)) ⌝ }
@@ -98,7 +91,7 @@ fn digits(text: &[u8], at: usize) -> Figure
     let mut v: usize = 0;
     while next < text.len() {
         let c = text[next];
-        if is_digit(c) {
+        if texts::is_digit(c) {
             v = more(v, c);
             next = next + 1;
         } else {

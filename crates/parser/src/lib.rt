@@ -5,7 +5,7 @@ ghost use mathlib.Core.Bool.{Bool, true, false, cond};
 ghost use Prim.Native.Nat.{ℕ, _≤_, _<_, _+_, _*_, _-_};
 ghost use lib.ListN.{length, drop, getD};
 ghost use lib.Dec.{eqb};
-ghost use Rattle.texts.specs.Grammar.{amid, special, classSpecial, isDigit, isHex, hexValue};
+ghost use Rattle.texts.specs.Grammar.{amid, special, classSpecial, isHex};
 ghost use Rattle.texts.specs.Acceptor.{begin, fresh, after, esc, lone1, cesc, chex2, to, tesc, thex1, thex2, num, live, can, members, mode, verdict};
 ghost use Rattle.parser.specs.inner.Went.{stateOf, modeOf, kindOf, pick, counted, Within, went, Ahead, Pauses, Halts, answer};
 
@@ -19,19 +19,19 @@ pub enum Inner {
     Opened,
     Caret,
     Member,
-    Lone(u64),
+    Lone(usize),
     ClassEsc,
     ClassHex1,
     ClassHex2(u8),
-    To(u64),
-    ToEsc(u64),
-    ToHex1(u64),
-    ToHex2(u64, u8),
+    To(usize),
+    ToEsc(usize),
+    ToHex1(usize),
+    ToHex2(usize, u8),
 }
 
 // A number of a repeat with the place after its end; or where it is bad.
 pub enum Count {
-    Is(u64, usize),
+    Is(usize, usize),
     Not(usize),
 }
 
@@ -49,75 +49,40 @@ pub enum Parsed {
     Deep,
 }
 
-// A byte as a number.
-fn wide(c: u8) -> u64
-    ensures { λ r. ⌜ (r ≡ c) × (r < 256) ⌝ }
-{
-    c as u64
-}
-
-// Says whether a byte is a decimal digit.
-fn is_digit(c: u8) -> bool
-    ensures { λ r. ⌜ r ≡ isDigit c ⌝ }
-{
-    (48 <= c) & (c <= 57)
-}
-
 // Says whether a byte is a hex digit.
 fn is_hex(c: u8) -> bool
     ensures { λ r. ⌜ r ≡ isHex c ⌝ }
 {
-    is_digit(c) | ((65 <= c) & (c <= 70)) | ((97 <= c) & (c <= 102))
-}
-
-// The value of a hex digit.
-fn hex_value(c: u8) -> u64
-    ensures { λ r. ⌜ (r ≡ hexValue c) × (r < 256) ⌝ }
-{
-    let x = wide(c);
-    if is_digit(c) {
-        return less(x, 48);
-    }
-    if x <= 70 {
-        return less(x, 55);
-    }
-    less(x, 87)
-}
-
-// The difference, 0 where there is none.
-fn less(a: u64, b: u64) -> u64
-    ensures { λ r. ⌜ r ≡ a - b ⌝ }
-{
-    if b <= a { a - b } else { 0 }
+    texts::is_digit(c) | ((b'A' <= c) & (c <= b'F')) | ((b'a' <= c) & (c <= b'f'))
 }
 
 // Says whether a byte does not stand for itself.
 fn is_special(c: u8) -> bool
     ensures { λ r. ⌜ r ≡ amid c special ⌝ }
 {
-    (c == 92)
-        | ((c == 46)
-            | ((c == 91)
-                | ((c == 93)
-                    | ((c == 40)
-                        | ((c == 41)
-                            | ((c == 124)
-                                | ((c == 42)
-                                    | ((c == 43)
-                                        | ((c == 63)
-                                            | ((c == 123)
-                                                | ((c == 125) | ((c == 94) | false))))))))))))
+    (c == b'\\')
+        | ((c == b'.')
+            | ((c == b'[')
+                | ((c == b']')
+                    | ((c == b'(')
+                        | ((c == b')')
+                            | ((c == b'|')
+                                | ((c == b'*')
+                                    | ((c == b'+')
+                                        | ((c == b'?')
+                                            | ((c == b'{')
+                                                | ((c == b'}') | ((c == b'^') | false))))))))))))
 }
 
 // Says whether a byte does not stand for itself in a class.
 fn class_special(c: u8) -> bool
     ensures { λ r. ⌜ r ≡ amid c classSpecial ⌝ }
 {
-    (c == 92) | ((c == 91) | ((c == 93) | ((c == 94) | ((c == 45) | false))))
+    (c == b'\\') | ((c == b'[') | ((c == b']') | ((c == b'^') | ((c == b'-') | false))))
 }
 
 // The value, with at most so many more digits, can become a number from low to 300.
-fn can_end(low: u64, r: u64, v: u64) -> bool
+fn can_end(low: usize, r: usize, v: usize) -> bool
     ensures { λ b. ⌜ b ≡ can low r v ⌝ }
 {
     if v > 300 {
@@ -128,7 +93,7 @@ fn can_end(low: u64, r: u64, v: u64) -> bool
         return now;
     }
     let mut any = false;
-    let mut d: u64 = 0;
+    let mut d: usize = 0;
     while d < 10 {
         let one = can_end(low, r - 1, 10 * v + d);
         any = any | one;
@@ -143,13 +108,13 @@ fn can_end(low: u64, r: u64, v: u64) -> bool
 fn esc_step(c: u8) -> Inner
     ensures { λ r. ⌜ ((d : ℕ) → stateOf d r ≡ mode d esc c) ⌝ }
 {
-    if c == 110 {
+    if c == b'n' {
         return Inner::After;
     }
-    if c == 115 {
+    if c == b's' {
         return Inner::After;
     }
-    if c == 120 {
+    if c == b'x' {
         return Inner::Hex1;
     }
     Inner::Dead
@@ -169,26 +134,26 @@ fn hex_step(c: u8, next: Inner) -> Inner
 fn member_step(c: u8) -> Inner
     ensures { λ r. ⌜ ((d : ℕ) → stateOf d r ≡ members d c) ⌝ }
 {
-    if c == 92 {
+    if c == b'\\' {
         return Inner::ClassEsc;
     }
     if class_special(c) {
         return Inner::Dead;
     }
-    Inner::Lone(wide(c))
+    Inner::Lone(texts::wide(c))
 }
 
 // After a backslash in a class.
 fn class_esc_step(c: u8) -> Inner
     ensures { λ r. ⌜ ((d : ℕ) → stateOf d r ≡ mode d cesc c) ⌝ }
 {
-    if c == 110 {
+    if c == b'n' {
         return Inner::Lone(10);
     }
-    if c == 115 {
+    if c == b's' {
         return Inner::Member;
     }
-    if c == 120 {
+    if c == b'x' {
         return Inner::ClassHex1;
     }
     Inner::Dead
@@ -199,49 +164,49 @@ fn class_hex_step(a: u8, c: u8) -> Inner
     ensures { λ r. ⌜ ((d : ℕ) → stateOf d r ≡ mode d (chex2 a) c) ⌝ }
 {
     if is_hex(c) {
-        return Inner::Lone(16 * hex_value(a) + hex_value(c));
+        return Inner::Lone(16 * texts::hex_value(a) + texts::hex_value(c));
     }
     Inner::Dead
 }
 
 // After the minus of a range from v.
-fn to_step(v: u64, c: u8) -> Inner
+fn to_step(v: usize, c: u8) -> Inner
     ensures { λ r. ⌜ ((d : ℕ) → stateOf d r ≡ mode d (to v) c) ⌝ }
 {
-    if c == 92 {
+    if c == b'\\' {
         return Inner::ToEsc(v);
     }
     if class_special(c) {
         return Inner::Dead;
     }
-    if wide(c) < v {
+    if texts::wide(c) < v {
         return Inner::Dead;
     }
     Inner::Member
 }
 
 // After a backslash at the high end of a range from v.
-fn to_esc_step(v: u64, c: u8) -> Inner
+fn to_esc_step(v: usize, c: u8) -> Inner
     ensures { λ r. ⌜ ((d : ℕ) → stateOf d r ≡ mode d (tesc v) c) ⌝ }
 {
-    if c == 110 {
+    if c == b'n' {
         if v <= 10 {
             return Inner::Member;
         }
         return Inner::Dead;
     }
-    if c == 120 {
+    if c == b'x' {
         return Inner::ToHex1(v);
     }
     Inner::Dead
 }
 
 // At the first hex digit of the high end of a range from v.
-fn to_hex_step(v: u64, c: u8) -> Inner
+fn to_hex_step(v: usize, c: u8) -> Inner
     ensures { λ r. ⌜ ((d : ℕ) → stateOf d r ≡ mode d (thex1 v) c) ⌝ }
 {
     if is_hex(c) {
-        if v <= 16 * hex_value(c) + 15 {
+        if v <= 16 * texts::hex_value(c) + 15 {
             return Inner::ToHex2(v, c);
         }
         return Inner::Dead;
@@ -250,11 +215,11 @@ fn to_hex_step(v: u64, c: u8) -> Inner
 }
 
 // At the second hex digit of the high end of a range from v; a is the first.
-fn to_last_step(v: u64, a: u8, c: u8) -> Inner
+fn to_last_step(v: usize, a: u8, c: u8) -> Inner
     ensures { λ r. ⌜ ((d : ℕ) → stateOf d r ≡ mode d (thex2 v a) c) ⌝ }
 {
     if is_hex(c) {
-        if v <= 16 * hex_value(a) + hex_value(c) {
+        if v <= 16 * texts::hex_value(a) + texts::hex_value(c) {
             return Inner::Member;
         }
         return Inner::Dead;
@@ -273,13 +238,13 @@ fn open_step(c: u8, n: u8, then: Inner) -> Inner
 }
 
 // After a single byte v of a class, which a minus may make a range.
-fn lone_step(v: u64, c: u8) -> Inner
+fn lone_step(v: usize, c: u8) -> Inner
     ensures { λ r. ⌜ ((d : ℕ) → stateOf d r ≡ mode d (lone1 v) c) ⌝ }
 {
-    if c == 93 {
+    if c == b']' {
         return Inner::After;
     }
-    open_step(c, 45, Inner::To(v))
+    open_step(c, b'-', Inner::To(v))
 }
 
 // One byte inside an escape or a class.
@@ -293,9 +258,9 @@ fn inner_step(m: Inner, c: u8) -> Inner
         Inner::Esc => esc_step(c),
         Inner::Hex1 => hex_step(c, Inner::Hex2),
         Inner::Hex2 => hex_step(c, Inner::After),
-        Inner::Opened => open_step(c, 94, Inner::Caret),
+        Inner::Opened => open_step(c, b'^', Inner::Caret),
         Inner::Caret => member_step(c),
-        Inner::Member => open_step(c, 93, Inner::After),
+        Inner::Member => open_step(c, b']', Inner::After),
         Inner::Lone(v) => lone_step(v, c),
         Inner::ClassEsc => class_esc_step(c),
         Inner::ClassHex1 => hex_step(c, Inner::ClassHex2(c)),
@@ -308,7 +273,7 @@ fn inner_step(m: Inner, c: u8) -> Inner
 }
 
 // 0: nothing may come; 1: the item is over; 2: neither.
-fn kind(m: Inner) -> u64
+fn kind(m: Inner) -> usize
     ensures { λ r. ⌜ r ≡ kindOf m ⌝ }
 {
     match m {
@@ -332,13 +297,13 @@ fn kind(m: Inner) -> u64
 }
 
 // The digits of a number from a place on, and the byte that ends it.
-fn number(text: &[u8], at: usize, second: bool, end: u8, low: u64) -> Count
+fn number(text: &[u8], at: usize, second: bool, end: u8, low: usize) -> Count
     requires { ⌜ (at ≤ length (now text)) × (end ≡ cond second 125 44) ⌝ }
     ensures { λ r. ⌜ ((d : ℕ) → d ≤ 16 → verdict (live d (num second low 3 0)) at (drop at (now (text .entry))) ≡ counted (now (text .entry)) d second r) × Within at (length (now (text .entry))) r ⌝ }
 {
     let mut next = at;
-    let mut r: u64 = 3;
-    let mut v: u64 = 0;
+    let mut r: usize = 3;
+    let mut v: usize = 0;
     while next < text.len() {
         let c = text[next];
         if c == end {
@@ -350,8 +315,8 @@ fn number(text: &[u8], at: usize, second: bool, end: u8, low: u64) -> Count
         if r == 0 {
             return Count::Not(next);
         }
-        if is_digit(c) {
-            let w = 10 * v + less(wide(c), 48);
+        if texts::is_digit(c) {
+            let w = 10 * v + texts::less(texts::wide(c), 48);
             if can_end(low, r - 1, w) {
                 r = r - 1;
                 v = w;
@@ -371,10 +336,10 @@ fn repeat(text: &[u8], at: usize) -> Went
     requires { ⌜ at ≤ length (now text) ⌝ }
     ensures { λ r. ⌜ ((d : ℕ) → d ≤ 16 → verdict (live d (num false 0 3 0)) at (drop at (now (text .entry))) ≡ went (now (text .entry)) d r) × Ahead at (length (now (text .entry))) r ⌝ }
 {
-    let least = number(text, at, false, 44, 0);
+    let least = number(text, at, false, b',', 0);
     match least {
         Count::Is(m, p) => {
-            let most = number(text, p, true, 125, m);
+            let most = number(text, p, true, b'}', m);
             match most {
                 Count::Is(_, q) => Went::On(q),
                 Count::Not(q) => Went::Bad(q),
@@ -391,10 +356,10 @@ fn mark(text: &[u8], at: usize) -> Went
 {
     if at < text.len() {
         let c = text[at];
-        if c == 123 {
+        if c == b'{' {
             return repeat(text, at + 1);
         }
-        if (c == 42) | (c == 43) | (c == 63) {
+        if (c == b'*') | (c == b'+') | (c == b'?') {
             return Went::On(at + 1);
         }
         return Went::On(at);
@@ -427,7 +392,7 @@ fn inside(text: &[u8], at: usize, from: Inner) -> Went
 // ---- alternatives, sequences and items
 
 // Sequences with bars between them, up to a closing bracket or the end.
-fn alternatives(text: &[u8], at: usize, depth: u64) -> Went
+fn alternatives(text: &[u8], at: usize, depth: usize) -> Went
     requires { ⌜ (at ≤ length (now text)) × (depth ≤ 16) ⌝ }
     ensures { λ r. ⌜ (verdict (live depth fresh) at (drop at (now (text .entry))) ≡ went (now (text .entry)) depth r) × Ahead at (length (now (text .entry))) r × Halts (now (text .entry)) r ⌝ }
 {
@@ -437,7 +402,7 @@ fn alternatives(text: &[u8], at: usize, depth: u64) -> Went
         match part {
             Went::On(p) => {
                 if p < text.len() {
-                    if text[p] == 124 {
+                    if text[p] == b'|' {
                         next = p + 1;
                     } else {
                         return Went::On(p);
@@ -457,17 +422,17 @@ fn alternatives(text: &[u8], at: usize, depth: u64) -> Went
 }
 
 // Items one after the other, up to a bar, a closing bracket or the end.
-fn sequence(text: &[u8], at: usize, depth: u64) -> Went
+fn sequence(text: &[u8], at: usize, depth: usize) -> Went
     requires { ⌜ (at ≤ length (now text)) × (depth ≤ 16) ⌝ }
     ensures { λ r. ⌜ (verdict (live depth fresh) at (drop at (now (text .entry))) ≡ went (now (text .entry)) depth r) × Ahead at (length (now (text .entry))) r × Pauses (now (text .entry)) r ⌝ }
 {
     let mut next = at;
     while next < text.len() {
         let c = text[next];
-        if c == 124 {
+        if c == b'|' {
             return Went::On(next);
         }
-        if c == 41 {
+        if c == b')' {
             return Went::On(next);
         }
         let one = item(text, next, depth);
@@ -487,12 +452,12 @@ fn sequence(text: &[u8], at: usize, depth: u64) -> Went
 }
 
 // One item with its mark; an opening bracket is one deeper.
-fn item(text: &[u8], at: usize, depth: u64) -> Went
+fn item(text: &[u8], at: usize, depth: usize) -> Went
     requires { ⌜ (at < length (now text)) × (depth ≤ 16) × (getD (now text) at 0 ≡ 124 → ⊥) × (getD (now text) at 0 ≡ 41 → ⊥) ⌝ }
     ensures { λ r. ⌜ (verdict (live depth fresh) at (drop at (now (text .entry))) ≡ went (now (text .entry)) depth r) × Ahead (at + 1) (length (now (text .entry))) r ⌝ }
 {
     let c = text[at];
-    if c == 40 {
+    if c == b'(' {
         if depth == 16 {
             return Went::Deep;
         }
@@ -512,13 +477,13 @@ fn item(text: &[u8], at: usize, depth: u64) -> Went
             }
         }
     }
-    if c == 91 {
+    if c == b'[' {
         return inside(text, at + 1, Inner::Opened);
     }
-    if c == 92 {
+    if c == b'\\' {
         return inside(text, at + 1, Inner::Esc);
     }
-    if c == 46 {
+    if c == b'.' {
         return mark(text, at + 1);
     }
     if is_special(c) {
@@ -532,7 +497,7 @@ fn front(text: &[u8]) -> usize
     ensures { λ r. ⌜ (verdict (live 0 begin) 0 (now (text .entry)) ≡ verdict (live 0 fresh) r (drop r (now (text .entry)))) × (r ≤ length (now (text .entry))) ⌝ }
 {
     if 0 < text.len() {
-        if text[0] == 94 {
+        if text[0] == b'^' {
             return 1;
         }
         return 0;

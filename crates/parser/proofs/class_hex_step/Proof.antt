@@ -12,7 +12,6 @@ use Rattle.parser.proofs.class_hex_step.Statement.{statement}
 use Rattle.parser.proofs.class_hex_step.Tie as tie
 use Rattle.parser.proofs.class_hex_step.Reads as reads
 use Rattle.parser.proofs.class_hex_step.Lts as lts
-use Rattle.parser.proofs.hex_value.Reads as hex-value-reads
 use Rattle.parser.proofs.is_hex.Reads as is-hex-reads
 
 is-hex-requires : tie.Need-is-hex-requires

@@ -15,9 +15,6 @@ use Rattle.parser.proofs.number.Tie as tie
 use Rattle.parser.proofs.number.Reads as reads
 use Rattle.parser.proofs.number.Lts as lts
 use Rattle.parser.proofs.can_end.Reads as can-end-reads
-use Rattle.parser.proofs.is_digit.Reads as is-digit-reads
-use Rattle.parser.proofs.less.Reads as less-reads
-use Rattle.parser.proofs.wide.Reads as wide-reads
 
 abbrev Inv-loop : tie.InvT-loop
 Inv-loop text at second end low next₀ r₀ v₀ next r v = (at ≤ next) × (next ≤ length text) × (r ≤ 3) × (v ≤ 300) × ((d : ℕ) → d ≤ 16 → verdict (live d (num second low 3 0)) at (drop at text) ≡ verdict (live d (num second low r v)) next (drop next text))
