@@ -21,9 +21,15 @@ class Missing(Exception):
 
 # Words of a command
 
+def packaged():
+    """Whether this is an installed package and no repository: there all is built."""
+    return not os.path.exists(os.path.join(ROOT, "crates.txt"))
+
+
 def name():
-    """The command's name, from the repository on."""
-    return os.path.relpath(os.path.abspath(sys.argv[0]), ROOT)
+    """The command's name: from the repository on, or that of the package."""
+    path = os.path.relpath(os.path.abspath(sys.argv[0]), ROOT)
+    return "rugbemasho-" + os.path.basename(path) if packaged() else path
 
 
 def version():
@@ -115,6 +121,8 @@ def compiler():
 
 def over_archive(program):
     """The words that run bindings/c/PROGRAM.c over the archive. Both are made where they are missing or old; what that needs is looked for first."""
+    if packaged():
+        return ([] if platform.machine() == "x86_64" else ["qemu-x86_64"]) + [os.path.join(ROOT, "target", program)]
     words, before = compiler()
     if subprocess.run([os.path.join(TOOLS, "build-c")], stdout=subprocess.DEVNULL, check=False).returncode != 0:
         raise Missing("there is no archive: tools/build-c makes it")

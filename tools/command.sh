@@ -124,8 +124,16 @@ prove() {
         stop 2 "not proved and built; the prover's text is in $log"
 }
 
+# Whether this is an installed package and no repository: there all is built.
+packaged() { [ ! -e "$root/crates.txt" ]; }
+
 # over_archive NAME: makes target/NAME of bindings/c/NAME.c and the archive, where it is missing or old, and the archive before it.
 over_archive() {
+    if packaged; then
+        program=$root/target/$1 emulator=''
+        [ "$(uname -m)" = x86_64 ] || emulator=qemu-x86_64
+        return
+    fi
     need_compiler
     "$root/tools/build-c" >/dev/null || exit 2
     program=$root/target/$1 archive=$root/target/staticlib/libwatch_c.a

@@ -1,15 +1,18 @@
-//! Links the proved archive, libwatch_c.a. It is looked for in the folder that `WATCH_LIB_DIR` names, where that is set; else in
-//! the repository's `target/staticlib/`, where `tools/build-c` makes it.
+//! Links the proved archive, libwatch_c.a. It is looked for in the folder that `WATCH_LIB_DIR`
+//! names, where that is set; else in the repository's `target/staticlib/`, where `tools/build-c`
+//! makes it.
 //!
-//! `cargo check` and `cargo doc` need no archive, and work for every target. So where there is none, or the target is none that it is made
-//! for, that is a warning and nothing is linked: only a program then fails, at its link, by the names of the functions that it lacks.
+//! `cargo check` and `cargo doc` need no archive, and work for every target. So where there is
+//! none, or the target is none that it is made for, that is a warning and nothing is linked: only a
+//! program then fails, at its link, by the names of the functions that it lacks.
 
 use std::env;
 use std::path::PathBuf;
 
 const ARCHIVE: &str = "libwatch_c.a";
 
-/// Whether the archive is made for the target: x86-64 with pointers of 64 bits, the System V calling convention and ELF.
+/// Whether the archive is made for the target: x86-64 with pointers of 64 bits, the System V
+/// calling convention and ELF.
 fn made_for_target() -> bool {
     let is = |name: &str, value: &str| env::var(name).map_or(false, |found| found == value);
     let elsewhere = is("CARGO_CFG_TARGET_OS", "windows")

@@ -1,11 +1,13 @@
-//! Watches a flow by the list of `examples/two-breakfasts`, as the program does, over the Rust face.
+//! Watches a flow by the list of `examples/two-breakfasts`, as the program does, over the Rust
+//! face.
 //!
 //!     cargo run --example breakfast [FLOW [RULES]]
 //!
-//! Without arguments it takes the flow `examples/two-breakfasts/twice` and the list beside it. Writes a line for each pair, signature
-//! and offset, and last `end` and the offset, or `refused` and the number. The flow arrives in pieces of 7 bytes, and between them its
-//! record is all that is kept, as if the box had been switched off. The exit status is 0 where the flow ended, 1 where it was refused, 2
-//! where a file could not be read or a line not be written.
+//! Without arguments it takes the flow `examples/two-breakfasts/twice` and the list beside it.
+//! Writes a line for each pair, signature and offset, and last `end` and the offset, or `refused`
+//! and the number. The flow arrives in pieces of 7 bytes, and between them its record is all that
+//! is kept, as if the box had been switched off. The exit status is 0 where the flow ended, 1 where
+//! it was refused, 2 where a file could not be read or a line not be written.
 
 use std::io::{self, Read, Write};
 use std::path::{Path, PathBuf};
@@ -34,7 +36,8 @@ fn next_piece<'p>(flow: &mut impl Read, piece: &'p mut [u8; PIECE]) -> io::Resul
     Ok(&piece[..filled])
 }
 
-/// Feeds a piece to the flow whose record was saved, and saves it again. Its pairs are written as lines.
+/// Feeds a piece to the flow whose record was saved, and saves it again. Its pairs are written as
+/// lines.
 fn feed(
     list: &List,
     saved: &mut [u8; FLOW_SIZE],
@@ -81,7 +84,8 @@ fn watch(rules: &[u8], mut flow: impl Read, out: &mut impl Write) -> io::Result<
     }
 }
 
-/// Watches the flow in a file by the list in another. Answers whether the flow ended, and was not refused.
+/// Watches the flow in a file by the list in another. Answers whether the flow ended, and was not
+/// refused.
 pub fn breakfast(flow: &Path, rules: &Path, out: &mut impl Write) -> io::Result<bool> {
     // One byte more than the longest list shows that a list is too long.
     let mut list = Vec::new();

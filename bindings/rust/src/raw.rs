@@ -1,13 +1,15 @@
-//! The functions of the archive as they are: numbers, pointers and lengths. `include/watch.h` says the same in C.
-//! tools/face writes this file.
+//! The functions of the archive as they are: numbers, pointers and lengths. `include/watch.h` says
+//! the same in C. tools/face writes this file.
 //!
-//! The rest of this crate is a safe face over them; these are here for callers that hold foreign buffers, and for tests.
+//! The rest of this crate is a safe face over them; these are here for callers that hold foreign
+//! buffers, and for tests.
 //!
 //! # Safety
 //!
-//! Of every function here: each pointer is valid for its length, which counts items and not bytes, for reads, and a `*mut` for writes too;
-//! each is aligned as its type; what is written overlaps nothing else of the call; nobody else writes any of the buffers, or reads one that
-//! is written, during the call. A pointer with length 0 may dangle. There is no wrong content.
+//! Of every function here: each pointer is valid for its length, which counts items and not bytes,
+//! for reads, and a `*mut` for writes too; each is aligned as its type; what is written overlaps
+//! nothing else of the call; nobody else writes any of the buffers, or reads one that is written,
+//! during the call. A pointer with length 0 may dangle. There is no wrong content.
 
 /// What an opening answers.
 #[repr(C)]

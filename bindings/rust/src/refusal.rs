@@ -1,7 +1,11 @@
+//! The refusals by name. tools/face writes the tables between the marks.
+
 use core::fmt;
 
-/// Why a call was refused. Each has a [`number`](Refusal::number), 1 to 22 or 24 to 28; of several that apply, the lowest is given, but 17 before 16, 18 of a
-/// segment's sizes before all others, 24 before all others that are not of a list, and of 19 and 20 the one that stands first in the text.
+/// Why a call was refused. Each has a [`number`](Refusal::number), 1 to 22 or 24 to 28; of several
+/// that apply, the lowest is given, but 17 before 16, 18 of a segment's sizes before all others, 24
+/// before all others that are not of a list, and of 19 and 20 the one that stands first in the
+/// text.
 ///
 /// ```
 /// use watch::{List, Refusal, MOST_LIST, RECORD_SIZE};
@@ -145,6 +149,7 @@ impl Refusal {
     ];
 
     /// The refusal's number, 1 to 22 or 24 to 28.
+    #[must_use]
     pub const fn number(self) -> u32 {
         self as u32
     }
@@ -157,6 +162,7 @@ impl Refusal {
     /// assert_eq!(Refusal::from_number(5), Some(Refusal::OtherStart));
     /// assert_eq!(Refusal::from_number(0), None);
     /// ```
+    #[must_use]
     pub fn from_number(number: u32) -> Option<Refusal> {
         Refusal::ALL.iter().copied().find(|refusal| refusal.number() == number)
     }
@@ -171,6 +177,7 @@ impl Refusal {
 }
 
 impl fmt::Display for Refusal {
+    #[rustfmt::skip]
     fn fmt(&self, f: &mut fmt::Formatter<'_>) -> fmt::Result {
         f.write_str(match self {
             // (face: texts)
@@ -281,99 +288,3 @@ impl fmt::Display for Refusal {
 
 #[cfg(feature = "std")]
 impl std::error::Error for Refusal {}
-
-/// Why a split feed did not end well.
-///
-/// A feed that is [`Refused`](SplitError::Refused) changed nothing. One that [`Halted`](SplitError::Halted) has consumed the bytes
-/// before the byte at which refusal 14 was found: the flow stands there, and the pairs up to there are in the buffer. So the pairs of a
-/// halted feed are not to be thrown away:
-///
-/// ```
-/// use watch::{pairs_in, Pair, SplitError, Flow, Table};
-///
-/// /// Feeds a piece and hands on every pair that it tells, also those before a refusal.
-/// fn told(flow: &mut Flow, table: &Table, piece: &[u8], words: &mut [u32]) -> (Vec<Pair>, Option<SplitError>) {
-///     let start = u64::from(flow.offset());
-///     match flow.split_feed(table, start, piece, words) {
-///         Ok(fed) => (fed.told(words).collect(), None),
-///         Err(error) => (pairs_in(&words[..2 * error.pairs()]).collect(), Some(error)),
-///     }
-/// }
-/// ```
-#[derive(Clone, Copy, Debug, PartialEq, Eq, Hash)]
-#[non_exhaustive]
-pub enum SplitError {
-    /// A refusal 1 to 9. No buffer has changed.
-    Refused(Refusal),
-    /// Refusal 14, at the byte after those consumed.
-    #[non_exhaustive]
-    Halted {
-        /// Bytes consumed before that byte.
-        bytes: usize,
-        /// Pairs written for them.
-        pairs: usize,
-    },
-    /// Refusal 4 after a pause: a table that has not passed the check has led to a state that no record of the list names, and
-    /// [`split_feed_all`](crate::Flow::split_feed_all) can't go on from there.
-    #[non_exhaustive]
-    Foreign {
-        /// Bytes consumed up to the pause.
-        bytes: usize,
-        /// Pairs handed on for them.
-        pairs: usize,
-    },
-}
-
-impl SplitError {
-    /// The refusal: the one that it carries, or [`Refusal::NoSplit`] (14) where the feed halted.
-    pub fn refusal(&self) -> Refusal {
-        match self {
-            SplitError::Refused(refusal) => *refusal,
-            SplitError::Halted { .. } => Refusal::NoSplit,
-            SplitError::Foreign { .. } => Refusal::FlowRecord,
-        }
-    }
-
-    /// Bytes consumed before the refusal: 0 where the feed was [`Refused`](SplitError::Refused).
-    pub fn bytes(&self) -> usize {
-        match self {
-            SplitError::Refused(_) => 0,
-            SplitError::Halted { bytes, .. } | SplitError::Foreign { bytes, .. } => *bytes,
-        }
-    }
-
-    /// Pairs written before the refusal: 0 where the feed was [`Refused`](SplitError::Refused).
-    pub fn pairs(&self) -> usize {
-        match self {
-            SplitError::Refused(_) => 0,
-            SplitError::Halted { pairs, .. } | SplitError::Foreign { pairs, .. } => *pairs,
-        }
-    }
-}
-
-impl fmt::Display for SplitError {
-    fn fmt(&self, f: &mut fmt::Formatter<'_>) -> fmt::Result {
-        match self {
-            SplitError::Refused(refusal) => refusal.fmt(f),
-            SplitError::Halted { bytes, pairs } => {
-                write!(f, "{} (after {bytes} bytes and {pairs} pairs)", Refusal::NoSplit)
-            }
-            SplitError::Foreign { bytes, pairs } => {
-                write!(f, "{} (after {bytes} bytes and {pairs} pairs)", Refusal::FlowRecord)
-            }
-        }
-    }
-}
-
-#[cfg(feature = "std")]
-impl std::error::Error for SplitError {}
-
-impl From<Refusal> for SplitError {
-    /// A refusal that consumed nothing.
-    fn from(refusal: Refusal) -> SplitError {
-        match refusal {
-            Refusal::NoSplit => SplitError::Halted { bytes: 0, pairs: 0 },
-            _ => SplitError::Refused(refusal),
-        }
-    }
-}

@@ -1,5 +1,6 @@
-//! The sizes and limits of the formats, under the names that `include/watch.h` gives them after `WATCH_`. What follows from another one
-//! is written so. tools/face writes this file, and holds the numbers to the constants of the proved code.
+//! The sizes and limits of the formats, under the names that `include/watch.h` gives them after
+//! `WATCH_`. What follows from another one is written so. tools/face writes this file, and holds
+//! the numbers to the constants of the proved code.
 
 /// The version of the face.
 pub const VERSION: u32 = 19;

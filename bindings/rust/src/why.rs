@@ -1,21 +1,10 @@
-use crate::{raw, Flow, List, Refusal, FLOW_SIZE, SET_SIZE};
+//! The questions why: the run of the automaton behind a pair, or behind a state of the frontier.
 
-/// The two questions why: list, flow, start, piece, signature or state, offset, run and work.
-type WatchWhy = unsafe extern "C" fn(
-    *const u8,
-    usize,
-    *const u8,
-    usize,
-    u64,
-    *const u8,
-    usize,
-    u32,
-    u64,
-    *mut u16,
-    usize,
-    *mut u8,
-    usize,
-) -> u32;
+use crate::call::call;
+use crate::{Flow, List, Refusal};
+
+#[cfg(feature = "std")]
+use crate::SET_SIZE;
 
 /// What is asked of an offset.
 #[derive(Clone, Copy, Debug, PartialEq, Eq, Hash)]
@@ -27,14 +16,23 @@ pub enum Question {
 }
 
 impl List<'_> {
-    /// Says why a pair is due, or a state in the frontier: the states of a run of the automaton that leads there, one for each offset from the flow's on.
+    /// Says why a pair is due, or a state in the frontier: the states of a run of the automaton
+    /// that leads there, one for each offset from the flow's on.
     ///
-    /// The flow is one saved before the piece, which begins at its offset; to ask from the opening on it is the flow that was opened, and the piece the
-    /// flow's bytes. With n the bytes between the flow's offset and `offset`, `run` has to have n + 1 numbers and `work` [`SET_SIZE`] × (n + 1) bytes. The
-    /// first state is in the flow's frontier, each byte has an edge that leads from one state to the next, and the last accepts the signature, or is the
-    /// state. Of all such runs it is the one with the lowest state at the end, then the lowest before it, and so on. `work` then holds the frontiers.
+    /// The flow is one saved before the piece, which begins at its offset; to ask from the opening
+    /// on it is the flow that was opened, and the piece the flow's bytes. With n the bytes between
+    /// the flow's offset and `offset`, `run` has to have n + 1 numbers and `work`
+    /// [`SET_SIZE`](crate::SET_SIZE) × (n + 1) bytes. The first state is in the flow's frontier,
+    /// each byte has an edge that leads from one state to the next, and the last accepts the
+    /// signature, or is the state. Of all such runs it is the one with the lowest state at the end,
+    /// then the lowest before it, and so on. `work` then holds the frontiers.
     ///
-    /// For every pair that a feed told, by any engine, there is a run. Refusals 4 to 6, then 25, then 26, where there is none; they change nothing.
+    /// For every pair that a feed told, by any engine, there is a run.
+    ///
+    /// # Errors
+    ///
+    /// 4 to 6 as in [`Flow::feed`], then [`Refusal::Place`] (25), then [`Refusal::NotDue`] (26),
+    /// where there is no run. They change nothing.
     ///
     /// ```
     /// # use watch::{Flow, List, Question, Refusal, SET_SIZE};
@@ -58,36 +56,24 @@ impl List<'_> {
         run: &'r mut [u16],
         work: &mut [u8],
     ) -> Result<&'r [u16], Refusal> {
-        let start = u64::from(flow.offset());
-        let (call, asked): (WatchWhy, u32) = match question {
-            Question::Signature(signature) => (raw::watch_why, signature),
-            Question::State(state) => (raw::watch_why_state, state),
-        };
-        let list = self.as_bytes();
-        // SAFETY: each pointer and length is that of a slice that is borrowed over the call, and the two that are written are
-        // borrowed as mutable, so they overlap nothing.
-        let number = unsafe {
-            call(
-                list.as_ptr(),
-                list.len(),
-                flow.as_bytes().as_ptr(),
-                FLOW_SIZE,
-                start,
-                piece.as_ptr(),
-                piece.len(),
-                asked,
-                offset,
-                run.as_mut_ptr(),
-                run.len(),
-                work.as_mut_ptr(),
-                work.len(),
-            )
+        let (list, record, start) = (self.bytes, &flow.bytes, u64::from(flow.offset()));
+        let number = match question {
+            Question::Signature(signature) => {
+                call!(watch_why(&list, &record, start, &piece, signature, offset, &mut run, &mut work))
+            }
+            Question::State(state) => {
+                call!(watch_why_state(&list, &record, start, &piece, state, offset, &mut run, &mut work))
+            }
         };
         Refusal::verdict(number)?;
         Ok(&run[..(offset - start) as usize + 1])
     }
 
     /// The same, in memory of its own.
+    ///
+    /// # Errors
+    ///
+    /// Those of [`why`](List::why).
     ///
     /// ```
     /// # use watch::{Flow, List, Question, Refusal};
@@ -112,11 +98,11 @@ impl List<'_> {
         Ok(run)
     }
 
-    /// The first record of the list, counted from 0, that is an edge from one state to another which the byte takes; `None` where there is none.
+    /// The first record of the list, counted from 0, that is an edge from one state to another
+    /// which the byte takes; `None` where there is none.
+    #[must_use]
     pub fn edge(&self, from: u16, byte: u8, to: u16) -> Option<usize> {
-        let list = self.as_bytes();
-        // SAFETY: pointer and length are those of a slice that is borrowed over the call.
-        let found = unsafe { raw::watch_edge(list.as_ptr(), list.len(), from.into(), byte.into(), to.into()) };
+        let found = call!(watch_edge(&self.bytes, u32::from(from), u32::from(byte), u32::from(to)));
         Refusal::verdict(found.refusal).ok().map(|()| found.record as usize)
     }
 }

@@ -101,7 +101,7 @@ impl T {
         let read = ordinary::Table::read(&self.classes, &self.parts, &self.rows, &splits);
         let refusal = ordinary::check_table(&Automaton::read(&L), bound, &read);
         assert_eq!(checked.err().map_or(0, Refusal::number), refusal);
-        then(checked, Table::unchecked(&list(), bound, lists));
+        then(checked, Table::from_saved(&list(), bound, lists));
     }
 }
 

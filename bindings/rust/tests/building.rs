@@ -165,7 +165,7 @@ fn what_is_prepared_is_answered_line_by_line() {
         *counts.entry(made.refusal).or_default() += 1;
         if made.refusal == 0 {
             let list = List::check(&bytes).unwrap();
-            let index = Index::unchecked(&lists[0][..made.splits as usize], &lists[1][..made.index as usize]);
+            let index = Index::from_saved(&lists[0][..made.splits as usize], &lists[1][..made.index as usize]);
             let piece = spoken_of(&mut dice, &bytes);
             let plain = told(&list, None, &piece);
             assert_eq!(told_by_index(&mut dice, &list, &index, &piece), plain, "line {lines}");

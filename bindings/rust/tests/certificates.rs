@@ -7,8 +7,8 @@ mod stream;
 
 use dice::Dice;
 use stream::{most_lines, read, Reader};
-use watch::extended::{Certificate, Machine};
-use watch::{extended, raw, Flow, List, Pair, Refusal, ENOUGH_WORDS, NOTE_SIZE, RECORD_SIZE};
+use watch::machine::{Certificate, Machine};
+use watch::{machine, raw, Flow, List, Pair, Refusal, ENOUGH_WORDS, NOTE_SIZE, RECORD_SIZE};
 
 /// What the commands work on.
 #[derive(Default)]
@@ -115,7 +115,7 @@ fn both(list: &List, machine: &Machine, bytes: &[u8], dice: &mut Dice) -> [Vec<P
     let mut words = [0; ENOUGH_WORDS];
     let mut plain = Flow::open_all(list, |pair| listed.push(pair));
     in_pieces(bytes, dice, &mut listed, |start, piece, words| plain.feed(list, start, piece, words).unwrap());
-    let opened = extended::Flow::open(machine, &mut words).unwrap();
+    let opened = machine::Flow::open(machine, &mut words).unwrap();
     counted.extend(opened.told(&words));
     let mut flow = opened.flow;
     in_pieces(bytes, dice, &mut counted, |start, piece, words| flow.feed(machine, start, piece, words).unwrap());

@@ -5,7 +5,7 @@
 mod stream;
 
 use stream::{most_lines, read, Reader};
-use watch::extended::{Flow, Machine};
+use watch::machine::{Flow, Machine};
 use watch::{raw, List, Pair, Refusal, X_FLOW_SIZE, X_OFF};
 
 const WORD_FILL: u32 = 2_774_138_880;

@@ -223,7 +223,7 @@ fn run(records: usize) {
     }
 
     // Flows through the right one, in pieces of any length, with any room.
-    let table = Table::unchecked(&checked, MOST_BOUND, good.lent());
+    let table = Table::from_saved(&checked, MOST_BOUND, good.lent());
     let decoded = ordinary::Table::read(&good.classes, &good.parts, &good.rows, &good.splits);
     let (mut feeds, mut bytes, mut pairs) = (0, 0, 0);
     for _ in 0..4 {

@@ -7,9 +7,7 @@ mod stream;
 
 use dice::Dice;
 use stream::{read, Reader};
-use watch::extended::{
-    BuildError, Builder, Certificate, Instruction, Machine, NoCertificate, State, MOST_INSTRUCTIONS,
-};
+use watch::machine::{BuildError, Builder, Certificate, Instruction, Machine, NoCertificate, State, MOST_INSTRUCTIONS};
 use watch::{List, Pair, NOTE_SIZE, X_BITS, X_COUNTERS, X_STATES};
 
 const WORD: &[u8] = b"milk ";

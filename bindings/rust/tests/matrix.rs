@@ -107,7 +107,7 @@ fn any_matrix_runs_as_stored() {
         // Random bytes, few of them not 0, so that frontiers stay small; states past the highest among them.
         let byte = |dice: &mut Dice| if dice.once_in(90) { dice.byte() & dice.byte() } else { 0 };
         let stored: Vec<u8> = (0..list.matrix_size()).map(|_| byte(&mut dice)).collect();
-        let matrix = Matrix::unchecked(&list, &stored[..]);
+        let matrix = Matrix::from_saved(&list, &stored[..]);
         let mut flow = Flow::open_all(&list, |_| ());
         for _ in 0..60 {
             let piece = [dice.byte()];

@@ -92,18 +92,18 @@ fn a_refusal_leaves_the_index() {
     for _ in 0..60 {
         let (list, mut lists) = accepted(&mut dice);
         let list = List::check(&list).expect("a good list");
-        let size = Table::unchecked(&list, 1, lent(&lists)).index_size();
+        let size = Table::from_saved(&list, 1, lent(&lists)).index_size();
         for wrong in [size - 1, size + 1, 0, SET_SIZE - 1, SET_SIZE] {
             if wrong == size {
                 continue;
             }
-            let table = Table::unchecked(&list, lists.bound, lent(&lists));
+            let table = Table::from_saved(&list, lists.bound, lent(&lists));
             let mut bytes = vec![0xAA; wrong];
             assert_eq!(Index::fill(&table, &mut bytes[..]).unwrap_err(), Refusal::TableLists);
             assert!(bytes.iter().all(|&byte| byte == 0xAA));
         }
         builders::damage(&mut dice, &mut lists);
-        let table = Table::unchecked(&list, lists.bound, lent(&lists));
+        let table = Table::from_saved(&list, lists.bound, lent(&lists));
         let verdict = Table::check(&list, lists.bound, lent(&lists));
         let mut bytes = vec![0xAA; table.index_size()];
         match verdict {
@@ -195,7 +195,7 @@ fn any_index_is_run_as_it_stands() {
     for turn in 0..400 {
         let (list, lists) = accepted(&mut dice);
         let list = List::check(&list).expect("a good list");
-        let table = Table::unchecked(&list, lists.bound, lent(&lists));
+        let table = Table::from_saved(&list, lists.bound, lent(&lists));
         let count = lists.splits.len() / SPLIT_SIZE;
         let mut bytes: Vec<u8> = (0..table.index_size()).map(|_| dice.byte()).collect();
         bytes[..SET_SIZE].fill(0xFF);
@@ -231,7 +231,7 @@ fn any_index_is_run_as_it_stands() {
         let other = dice.below(count);
         let mut split = dice.pick(&[named, named, count, other]) as u32;
         let expected = as_it_stands(&splits, &bytes, split as usize, &flow, &piece, words.len() / 2);
-        let index = Index::unchecked(&splits, &bytes);
+        let index = Index::from_saved(&splits, &bytes);
         let fed = flow.prepared_feed(&index, &mut split, 9, &piece, &mut words);
         let (refusal, consumed, pairs) = match &fed {
             Ok(fed) => (0, fed.bytes, fed.pairs),
@@ -271,11 +271,11 @@ fn refusals_of_the_prepared_feed() {
     let stranger = Flow::from_bytes(bytes);
     assert_eq!(refused(&index, &stranger, 0), 4);
     for length in [0, 1, SET_SIZE - 1] {
-        let short = Index::unchecked(&lists.splits, index.as_bytes()[..length].to_vec());
+        let short = Index::from_saved(&lists.splits, index.as_bytes()[..length].to_vec());
         assert_eq!(refused(&short, &stranger, 0), 8);
         assert_eq!(refused(&short, &opened, 1), 5);
     }
-    let first = Index::unchecked(&lists.splits, index.as_bytes()[..SET_SIZE].to_vec());
+    let first = Index::from_saved(&lists.splits, index.as_bytes()[..SET_SIZE].to_vec());
     assert_eq!((refused(&first, &stranger, 0), refused(&first, &opened, 0)), (4, 8));
     // One byte or one entry more or less, a broken split, no split.
     let whole = index.as_bytes().to_vec();
@@ -287,7 +287,7 @@ fn refusals_of_the_prepared_feed() {
         (&lists.splits[1..], whole.clone()),
         (&[][..], whole[..SET_SIZE].to_vec()),
     ] {
-        assert_eq!(refused(&Index::unchecked(splits, bytes), &opened, 0), 8);
+        assert_eq!(refused(&Index::from_saved(splits, bytes), &opened, 0), 8);
     }
     // Where the hint is the split of the frontier its own note says whether that is named, else the set in front.
     let at = lists.splits.chunks(SPLIT_SIZE).position(|split| split[..SET_SIZE] == opened.as_bytes()[..SET_SIZE]);
@@ -297,7 +297,7 @@ fn refusals_of_the_prepared_feed() {
     let mut bare = whole;
     bare[..SET_SIZE].fill(0);
     let fed = |bytes: &[u8], hint: usize| {
-        let index = Index::unchecked(&lists.splits, bytes);
+        let index = Index::from_saved(&lists.splits, bytes);
         opened.clone().prepared_feed(&index, &mut (hint as u32), 0, b"", &mut []).is_ok()
     };
     assert_eq!((fed(&noted, at), fed(&noted, at + 1), fed(&bare, at), fed(&bare, at + 1)), (false, true, true, false));

@@ -281,7 +281,7 @@ impl<'d> Case<'d> {
             let mut flow = Flow::try_from(&buffer[BESIDE..BESIDE + FLOW_SIZE]).unwrap();
             let got = if split {
                 let lists = TableLists { classes: &t.classes, parts: &t.parts, rows: &t.rows, splits: &t.splits };
-                let table = Table::unchecked(&list, t.bound, lists);
+                let table = Table::from_saved(&list, t.bound, lists);
                 match flow.split_feed(&table, start, piece, words_slice) {
                     Ok(fed) => answer_of(fed),
                     Err(error) => Answer {

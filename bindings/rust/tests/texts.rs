@@ -313,7 +313,7 @@ fn refusals() {
     let mut lent = [7; 50];
     let error = List::compile_in(b"a{45,301}", 1, &mut lent).unwrap_err();
     assert_eq!((error.refusal(), error.place()), (Refusal::BadText, Some(7)));
-    assert_eq!(error.to_string(), "the text does not fit the grammar (place 7)");
+    assert_eq!(error.to_string(), format!("{} (place 7)", Refusal::BadText));
     assert_eq!(List::compile_in(&[b'('; 17], 1, &mut lent), Err(CompileError::TooDeep));
     let error = List::compile_in(b"a{300,300}b{300,300}c{300,300}d{124,124}", 1, &mut lent).unwrap_err();
     assert_eq!((error, error.place(), Refusal::from(error).number()), (CompileError::TooBig, None, 21));

@@ -63,7 +63,7 @@ fn a_halt_after_pauses() {
     let rows = [set, [0; SET_SIZE]].concat();
     let splits = [&set[..], &[0, 0, 255, 255, 255, 255, 255, 255]].concat();
     let lists = TableLists { classes: &classes, parts: &set, rows: &rows, splits: &splits };
-    let table = Table::unchecked(&list, 1, lists);
+    let table = Table::from_saved(&list, 1, lists);
     let mut flow = Flow::open_all(&list, |_| ());
     let mut told = Vec::new();
     let halted = flow.split_feed_all(&table, 0, b"moo!moo", |pair| told.push(pair)).unwrap_err();
@@ -170,7 +170,7 @@ fn whole_pieces_are_told_as_by_one_feed_with_room() {
         };
         let table =
             TableLists { classes: &lists.classes, parts: &lists.parts, rows: &lists.rows, splits: &lists.splits };
-        let table = Table::unchecked(&list, lists.bound, table);
+        let table = Table::from_saved(&list, lists.bound, table);
         for table in [None, Some(&table)] {
             let (mut words, mut first) = ([0; ENOUGH_WORDS], Vec::new());
             let opened = Flow::open(&list, &mut words).unwrap();

@@ -5,7 +5,7 @@ use std::fmt;
 use std::ops::RangeInclusive;
 use std::vec::Vec;
 
-use crate::extended::Machine;
+use super::Machine;
 use crate::{Refusal, BYTE_VALUES, X_BITS, X_COUNTERS, X_MOVES_SIZE, X_PROGRAM_SIZE, X_STATES};
 
 /// Instructions of a program, at most.
@@ -15,7 +15,7 @@ pub const MOST_INSTRUCTIONS: usize = X_PROGRAM_SIZE / 4;
 /// `tools/counters` reads.
 ///
 /// ```
-/// use watch::extended::Instruction;
+/// use watch::machine::Instruction;
 ///
 /// assert_eq!(Instruction::SetCounter { counter: 0, to: 301 }.to_string(), "set counter 0 to 301");
 /// assert_eq!(Instruction::AlertIfZero { signature: 5, counter: 0 }.to_string(), "alert 5 if counter 0 is 0");
@@ -59,6 +59,7 @@ pub enum Instruction {
 
 impl Instruction {
     /// Its record in a program.
+    #[must_use]
     pub fn to_bytes(self) -> [u8; 4] {
         match self {
             Instruction::Nothing => [0; 4],
@@ -74,6 +75,7 @@ impl Instruction {
     }
 
     /// The instruction of a record; `None` where no program that passes its check has this record.
+    #[must_use]
     pub fn from_bytes([kind, which, low, high]: [u8; 4]) -> Option<Instruction> {
         let one = match kind {
             0 => Instruction::Nothing,
@@ -130,6 +132,7 @@ impl Machine<'_> {
     /// # Panics
     ///
     /// Where there is no such state.
+    #[must_use]
     pub fn program(&self, state: usize) -> [Instruction; MOST_INSTRUCTIONS] {
         let records = &self.programs()[X_PROGRAM_SIZE * state..][..X_PROGRAM_SIZE];
         let mut out = [Instruction::Nothing; MOST_INSTRUCTIONS];
@@ -145,6 +148,7 @@ impl Machine<'_> {
     /// # Panics
     ///
     /// Where there is no such state.
+    #[must_use]
     pub fn target(&self, state: usize, byte: u8) -> usize {
         let moves = &self.moves()[X_MOVES_SIZE * state..][..X_MOVES_SIZE];
         let at = 2 * usize::from(byte);
@@ -158,6 +162,7 @@ pub struct State(usize);
 
 impl State {
     /// Its number: the first state has 0, and starts.
+    #[must_use]
     pub fn number(self) -> usize {
         self.0
     }
@@ -247,7 +252,7 @@ impl Said {
 /// moves by ranges of bytes.
 ///
 /// ```
-/// use watch::extended::{Builder, Flow, Instruction};
+/// use watch::machine::{Builder, Flow, Instruction};
 ///
 /// // Signature 9 at the third byte after each "<".
 /// let mut builder = Builder::new();
@@ -264,7 +269,7 @@ impl Said {
 /// let mut flow = Flow::open(&machine, &mut []).unwrap().flow;
 /// flow.feed_all(&machine, 0, b"ab<cdefg", |pair| told.push(pair.to_string())).unwrap();
 /// assert_eq!(told, ["9 6"]);
-/// # Ok::<(), watch::extended::BuildError>(())
+/// # Ok::<(), watch::machine::BuildError>(())
 /// ```
 #[derive(Clone, Debug, Default)]
 pub struct Builder {
@@ -273,6 +278,7 @@ pub struct Builder {
 
 impl Builder {
     /// One without a state.
+    #[must_use]
     pub fn new() -> Builder {
         Builder::default()
     }
@@ -305,8 +311,11 @@ impl Builder {
         self
     }
 
-    /// The two lists, or the first thing that is wrong, state by state. What it makes passes the
-    /// check of [`Machine`].
+    /// The two lists. What it makes passes the check of [`Machine`].
+    ///
+    /// # Errors
+    ///
+    /// The first thing that is wrong, state by state.
     pub fn build(&self) -> Result<MachineLists, BuildError> {
         if self.states.is_empty() {
             return Err(BuildError::NoState);
@@ -349,11 +358,16 @@ impl MachineLists {
     ///
     /// Where the lists have been changed so that the check refuses them, as [`MachineLists::check`]
     /// says; or where the archive has another version of the face than this crate is written for.
+    #[must_use]
     pub fn machine(&self) -> Machine<'_> {
         self.check().expect("what a builder makes passes")
     }
 
-    /// The automaton, once the lists pass: refusal 24.
+    /// The automaton, once the lists pass.
+    ///
+    /// # Errors
+    ///
+    /// [`Refusal::Machine`] (24).
     pub fn check(&self) -> Result<Machine<'_>, Refusal> {
         Machine::check(&self.moves, &self.programs)
     }

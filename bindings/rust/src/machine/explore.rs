@@ -9,9 +9,9 @@ use std::collections::HashMap;
 use std::fmt;
 use std::vec::Vec;
 
-use crate::extended::{self, Certificate, Instruction, Machine};
+use super::{Certificate, Instruction, Machine};
 use crate::{Flow, List, Pair, Refusal};
-use crate::{BYTE_VALUES, ENOUGH_WORDS, MOST_NOTES, NOTE_SIZE, RECORD_SIZE, SET_SIZE, X_COUNTERS, X_OFF};
+use crate::{BYTE_VALUES, MOST_NOTES, NOTE_SIZE, RECORD_SIZE, SET_SIZE, X_COUNTERS, X_OFF};
 
 /// Pairs of a configuration and a set that the search meets before it gives up.
 const MOST_PAIRS: usize = 65_536;
@@ -280,12 +280,10 @@ impl Search {
 
 /// What both tell on an input.
 fn other_pairs(list: &List<'_>, machine: &Machine<'_>, input: Vec<u8>) -> NoCertificate {
-    let (mut listed, mut counted, mut words) = (Vec::new(), Vec::new(), [0; ENOUGH_WORDS]);
+    let (mut listed, mut counted) = (Vec::new(), Vec::new());
     let mut flow = Flow::open_all(list, |pair| listed.push(pair));
     flow.feed_all(list, 0, &input, |pair| listed.push(pair)).expect("a flow that was opened on the list");
-    let opened = extended::Flow::open(machine, &mut words).expect("there is room for all pairs");
-    counted.extend(opened.told(&words));
-    let mut flow = opened.flow;
+    let mut flow = super::Flow::open_all(machine, |pair| counted.push(pair));
     flow.feed_all(machine, 0, &input, |pair| counted.push(pair)).expect("a flow that was opened on the automaton");
     NoCertificate::OtherPairs { input, listed, counted }
 }
@@ -300,32 +298,39 @@ pub struct Explored<'a> {
 
 impl Explored<'_> {
     /// The certificate. It is checked anew.
+    #[must_use]
     pub fn certificate(&self) -> Certificate<'_> {
         Certificate::check(&self.list, &self.machine, &self.bytes).expect("it has passed before")
     }
 
     /// The certificate's bytes.
+    #[must_use]
     pub fn as_bytes(&self) -> &[u8] {
         &self.bytes
     }
 
     /// The certificate's bytes, to be kept.
+    #[must_use]
     pub fn into_bytes(self) -> Vec<u8> {
         self.bytes
     }
 
     /// The number of records.
+    #[must_use]
     pub fn records(&self) -> usize {
         self.bytes.len() / NOTE_SIZE
     }
 }
 
 impl<'a> Certificate<'a> {
-    /// Looks for the certificate that an automaton is a list's, and puts it through the check; or
-    /// says why there is none.
+    /// Looks for the certificate that an automaton is a list's, and puts it through the check.
+    ///
+    /// # Errors
+    ///
+    /// [`NoCertificate`] says why there is none.
     ///
     /// ```
-    /// use watch::extended::{Builder, Certificate, Instruction, NoCertificate};
+    /// use watch::machine::{Builder, Certificate, Instruction, NoCertificate};
     /// use watch::List;
     ///
     /// // Signature 7 after any "ab": as a list, and as an automaton.
