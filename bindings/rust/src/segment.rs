@@ -1,8 +1,9 @@
 //! Segments by sequence number, put in order before they are fed.
 
 use crate::call::call;
+use crate::machine::{self, Machine};
 use crate::table::call_table;
-use crate::{pairs_in, raw, Engine, Flow, List, Pair, Record, Refusal, Table, ENOUGH_WORDS, HELD_SIZE};
+use crate::{pairs_in, raw, Engine, Flow, Index, List, Pair, Record, Refusal, Table, ENOUGH_WORDS, HELD_SIZE};
 use core::fmt;
 
 /// The held place: the number of the first byte held, and how many bytes are held. Save it behind
@@ -26,7 +27,7 @@ pub struct Look<'a> {
     segment: &'a [u8],
 }
 
-/// An engine that feeds segments: a [`List`] or a [`Table`].
+/// An engine that feeds segments: a [`List`], a [`Table`], an [`Index`] or a [`Machine`].
 pub trait SegmentEngine: Engine {
     /// One call of the archive, with room for some pairs.
     #[doc(hidden)]
@@ -53,6 +54,22 @@ impl SegmentEngine for List<'_> {
 impl SegmentEngine for Table<'_> {
     fn hear(&self, flow: &mut Flow, _split: &mut u32, look: Look<'_>, pairs: &mut [u32]) -> raw::WatchHeard {
         hear!(call_table!(watch_split_feed_segment(self)), flow, look, pairs)
+    }
+}
+
+impl<B: AsRef<[u8]>> SegmentEngine for Index<'_, B> {
+    fn hear(&self, flow: &mut Flow, split: &mut u32, look: Look<'_>, pairs: &mut [u32]) -> raw::WatchHeard {
+        let index = self.bytes.as_ref();
+        let raw::WatchHeardAt { bytes, pairs, refusal, held_start, held_length, all, split: stands } =
+            hear!(call!(watch_prepared_feed_segment(&self.splits, &index, *split)), flow, look, pairs);
+        *split = stands;
+        raw::WatchHeard { bytes, pairs, refusal, held_start, held_length, all }
+    }
+}
+
+impl SegmentEngine for Machine<'_> {
+    fn hear(&self, flow: &mut machine::Flow, _split: &mut u32, look: Look<'_>, pairs: &mut [u32]) -> raw::WatchHeard {
+        hear!(call!(watch_x_feed_segment(&self.moves(), &self.programs())), flow, look, pairs)
     }
 }
 
@@ -161,8 +178,21 @@ impl Segments {
         &from[part.at as usize..][..part.length as usize]
     }
 
-    /// Feeds a segment whose first byte has number `start` to a flow, by its list or table, and
+    /// Feeds a segment whose first byte has number `start` to a flow, by any of its engines, and
     /// hands each pair to `told`.
+    ///
+    /// ```
+    /// use watch::{Flow, Index, List, Segments};
+    ///
+    /// let compiled = List::compile(b"ab", 7).unwrap();
+    /// let list = compiled.list();
+    /// let prepared = Index::prepare(&list).unwrap();
+    /// let (mut flow, mut segments, mut told) = (Flow::open_all(&list, |_| ()), Segments::new(0), Vec::new());
+    /// segments.feed(&prepared.index(), &mut flow, 1, b"b", |pair| told.push(pair.offset))?; // held
+    /// segments.feed(&prepared.index(), &mut flow, 0, b"a", |pair| told.push(pair.offset))?;
+    /// assert_eq!(told, [2]);
+    /// # Ok::<(), watch::SegmentError>(())
+    /// ```
     ///
     /// # Errors
     ///
