@@ -128,9 +128,10 @@
  *     [a-z\n]     a class: one of its bytes, escapes and ranges of two single bytes, low <= high;
  *                 in it all but \ [ ] ^ - stand for themselves
  *     [^a-z]      any byte but these
- *     (x) x|y xy  a group, at most 16 deep; x or y; x and then y. A side of | may be empty
+ *     (x) x|y xy  a group, at most WATCH_MOST_DEPTH deep; x or y; x and then y. A side of | may be
+ *                 empty
  *     x* x+ x?    any number of times; once or more; once or not at all
- *     x{m,n}      m to n times, m <= n <= 300, each of 1 to 3 digits
+ *     x{m,n}      m to n times, m <= n <= WATCH_MOST_REPEAT, each of 1 to 3 digits
  *
  * A byte, an escape, a class or a group has at most one of the marks * + ? {m,n} behind it. The
  * text may begin anywhere in the flow; with ^ in front of all of it, it begins at offset 0. Every
@@ -148,19 +149,29 @@
  *
  * One segment that comes too early is held: WATCH_HELD_SIZE bytes of the caller's, the held buffer,
  * and the held place, the number of the first byte held and how many are. At the beginning none
- * are: length 0. Each look at a segment is watch_take, then watch_due, then a feed of what is due;
- * look again with the same segment until nothing is due, also after an 18, and keep the place that
- * watch_take answers each time. Do not look again after a feed that is refused, as with 6: its
- * bytes would stay due. Four looks are enough where each feed consumes all that it is given. Bytes
- * first consumed or held count: what a resend brings for their places is dropped.
+ * are: length 0. Bytes first consumed or held count: what a resend brings for their places is
+ * dropped.
  *
- * watch_feed_segment and watch_split_feed_segment make all looks at a segment themselves: hand in
- * the segment and the held place, keep the place that is answered, and hand in the same segment
- * again while there is neither a refusal nor `all`, after taking the pairs.
+ * Each look at a segment is watch_take, then watch_due, then a feed of what is due; `where` of the
+ * part is one of enum watch_where. Keep the place that watch_take answers each time, and look again
+ * with the same segment until nothing is due, also where watch_take answered 18: what is held may
+ * be due all the same. The 18 that counts is that of the look which finds nothing due: the segment
+ * is to be sent again then, and after an 18 of an earlier look it is not. Stop at a look whose feed
+ * is refused, as with 6: its bytes would stay due for ever. Four looks are enough where each feed
+ * consumes all that it is given.
  *
- * To go on after being killed, save the held buffer, then the held place, then feed, hand over the
- * pairs, and save the record, in this order, at each look; or save all three in one write. Then
- * nothing is lost, and no pair of an offset up to the saved one is told again.
+ * The segment feeds, whose names end in _feed_segment, make all looks at a segment themselves: hand
+ * in the segment and the held place, keep the place that is answered, and hand in the same segment
+ * again while there is neither a refusal nor `all`, after taking the pairs. The refusal that they
+ * answer is the one that counts. Where one takes a hint and answers a split, hand that in with the
+ * next segment.
+ *
+ * To go on after being killed, save `first` when the flow is opened and after each renewal. Save
+ * the held buffer, then the held place, then feed, hand over the pairs, and save the record, in
+ * this order, at each look; or save all of it in one write, once the pairs are handed over. Then
+ * nothing is lost, and no pair of an offset up to the saved one is told again. The pairs of the
+ * last feed before a kill lie behind that offset and come again: whoever acts on them keeps the
+ * offset of the last one and passes over those up to it.
  *
  *
  * RENEWING
@@ -333,7 +344,14 @@
  *     pointer, the red zone. So it is not for a bare interrupt, nor for a kernel that leaves those
  *     to the task that it interrupts: wake a task, and call from there.
  *   - Every call ends; that is proved. Its work is bounded by the lengths that it is given, and
- *     grows as docs/PERFORMANCE.md shows.
+ *     grows as docs/PERFORMANCE.md shows, which also names the archive of each count here.
+ *   - The checks of tables and certificates, watch_build, watch_prepare and the fillers are for
+ *     loading, in a task that may take its time. In millions of instructions: the table check
+ *     14,876 for 1,024 sets on a full list; watch_build 4,081 for these; the check of a certificate
+ *     1,308 for 1,024 records on a full list with 24 classes of bytes, and 340,119, the most that
+ *     was found, for 4,096 records whose sets hold all states; watch_prepare 460 for 364 sets of
+ *     852 records; watch_fill_matrix 49 on a full list. A processor that makes 3,000 million a
+ *     second takes 5, 1.4, 0.4, 113, 0.2 and 0.02 seconds for these.
  *   - Every feed checks its list again, because what it promises holds for every list; then it
  *     gathers the accepting states. Together that is some 27 instructions a record and call,
  *     220,000 on 8,192 records, before the first byte. So feed what has come in one call, and not
@@ -503,6 +521,12 @@ extern "C" {
 
 /* The most records of a certificate. */
 #define WATCH_MOST_NOTES 4096
+
+/* The most brackets of a signature text inside one another. */
+#define WATCH_MOST_DEPTH 16
+
+/* The largest number of a repeat in a signature text. */
+#define WATCH_MOST_REPEAT 300
 /* (face: end) */
 
 /* (face: names) */
@@ -853,22 +877,26 @@ uint32_t watch_fill_index(const uint8_t *list, size_t list_len,
  * watch_feed does but for the rows, of which each byte reads one. It needs no list, classes,
  * parts, rows and bound. `split` is a hint: the split where the flow stands, as the call before
  * answered it. Any number may be handed in: where it is not the number of a split that has the
- * record's frontier, that one is sought by halving, once in the call. With an index of
- * watch_fill_index or watch_prepare everything but the split that refusals 4 to 6 and 8 hand
- * back is the same for every hint. So hand in 0 for a new flow or one that other calls fed, and
- * from then on what the call before answered. The hint is not part of the flow: nothing is lost
- * with it. Any other index is run as it stands. Each byte's word names a place: from there
- * WATCH_ENTRY_SIZE bytes are the next entry, wherever it begins, and its signatures are told
- * where the word has WATCH_TELLING more, and only there; a byte costs the rows that the entry it
- * leaves says. The split of a place is the last whose entry begins there or before, and split 0
- * before the first; its set is the frontier saved. A word past the last whole entry tells
- * nothing, stands for the empty set and no split, and halts the next byte with 14. Where two
- * splits have the frontier's set the hint decides. Refusals 4 to 6 and 8 answer 0 bytes and 0
- * pairs and change nothing. 4 is given as well where the frontier holds a state that is not
- * named: where the hint is the split with that set, by byte 1057 of its entry; else by the set
- * that the index begins with, but not where the index is shorter than that. 8 is given where the
- * splits are not 1 to WATCH_MOST_SPLITS records or index_len is not WATCH_INDEX_SIZE of their
- * number. A refusal 14 is as in the split feed. */
+ * record's frontier, that one is sought by halving, once in the call: from low 0 and high the
+ * number of splits on, the middle is (low + high) / 2, and where its set comes before the
+ * frontier low becomes one more than it, else high becomes it. With an index of watch_fill_index
+ * or watch_prepare everything but the split that refusals 4 to 6 and 8 hand back is the same for
+ * every hint. So hand in 0 for a new flow or one that other calls fed, and from then on what the
+ * call before answered. The hint is not part of the flow: nothing is lost with it. Any other
+ * index is run as it stands. Each byte's word names a place: from there WATCH_ENTRY_SIZE bytes
+ * are the next entry, wherever it begins, and its signatures are told where the word has
+ * WATCH_TELLING more, and only there; a byte costs the rows that the entry it leaves says. The
+ * split of a place is the last whose entry begins there or before, and split 0 before the first;
+ * its set is the frontier saved. A word past the last whole entry tells nothing, stands for the
+ * empty set and no split, and halts the next byte with 14. The notes of an entry are run as they
+ * stand too: byte 1056 counts as rows, any byte 1057 but 0 says that all states are named, and
+ * those behind it are not looked at; so an index of zeros, which nobody filled, names no state,
+ * and a frontier with one is refused with 4. Where two splits have the frontier's set the hint
+ * decides. Refusals 4 to 6 and 8 answer 0 bytes and 0 pairs and change nothing. 4 is given as
+ * well where the frontier holds a state that is not named: where the hint is the split with that
+ * set, by byte 1057 of its entry; else by the set that the index begins with, but not where the
+ * index is shorter than that. 8 is given where the splits are not 1 to WATCH_MOST_SPLITS records
+ * or index_len is not WATCH_INDEX_SIZE of their number. A refusal 14 is as in the split feed. */
 watch_stood watch_prepared_feed(const uint8_t *splits, size_t splits_len,
                                 const uint8_t *index, size_t index_len,
                                 uint32_t split,

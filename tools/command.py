@@ -83,6 +83,13 @@ def read(*path):
         return file.read()
 
 
+def texts_hint(data):
+    """What helps where signature texts stand in the place of a list, as they begin; or nothing."""
+    if re.match(rb"[0-9#]", data) and re.search(rb"^[0-9]{1,3}(=[A-Za-z0-9_-]+)? ", data, re.M):
+        return "this holds signature texts: tools/signatures makes a list of such a file"
+    return None
+
+
 def write_whole(folder, files):
     """Writes files of a folder, by name: each new one is whole before it takes the place of the old one."""
     new = {name: os.path.join(folder, name + ".new") for name in files}

@@ -147,7 +147,7 @@ static void say_needs(void)
         fprintf(stderr, "table: fewer signatures in a list need fewer sets, and so do shorter gaps of any bytes between words\n");
     if (class_count > WATCH_MOST_CLASS + 1)
         fprintf(stderr, "table: fewer bytes that lead apart need fewer classes, as a range of all digits in place of some\n");
-    fprintf(stderr, "table: the plain feed and the matrix need no table (docs/ENGINES.md)\n");
+    fprintf(stderr, "table: the plain feed and the matrix need no table (docs/engines.md)\n");
 }
 
 /* Writes one list of the table to a file of the folder. */

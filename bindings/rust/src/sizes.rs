@@ -132,3 +132,9 @@ pub const NOTE_SIZE: usize = X_FLOW_SIZE - 4 + SET_SIZE;
 
 /// The most records of a certificate.
 pub const MOST_NOTES: usize = 4096;
+
+/// The most brackets of a signature text inside one another.
+pub const MOST_DEPTH: usize = 16;
+
+/// The largest number of a repeat in a signature text.
+pub const MOST_REPEAT: usize = 300;
