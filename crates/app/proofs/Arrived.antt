@@ -13,11 +13,12 @@ use borrow.Author.Tests.{lt-ltb, ltb-true}
 use Rattle.io.specs.Digits.{digits, glyph}
 use Rattle.lists.specs.List.{listRefusal}
 use Rattle.plain.specs.Plain.{pairsOf}
-use Rattle.app.specs.Text.{places, decimal, line, lines, endWord, refusedWord, lastLine}
-use Rattle.app.specs.App.{texts, handed, joined}
+use Rattle.program_text.specs.Text.{places, decimal, line, lines, endWord, refusedWord, lastLine}
+use Rattle.program_text.specs.Hand.{handed, joined}
+use Rattle.program_text.proofs.Handed.{joined-append, handed-front}
+use Rattle.app.specs.App.{texts}
 use Rattle.app.specs.Words.{linesOf, linesDue}
-use Rattle.app.proofs.Handed.{handed-front}
-use Rattle.app.proofs.Output.{undisturbed, joined-append, output}
+use Rattle.app.proofs.Output.{undisturbed, output}
 
 -- P holds of each element
 abbrev Each : (ℕ → Type 0) → List ℕ → Type 0

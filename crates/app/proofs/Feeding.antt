@@ -18,7 +18,7 @@ use Rattle.feeds.specs.declared.Opened.{Opened}
 use Rattle.plain.specs.Plain.{plain, openFlow, plainFeed}
 use Rattle.plain.proofs.Opening.{opened-fits}
 use Rattle.plain.proofs.Progress.{progress}
-use Rattle.app.specs.Text.{lines, lastLine}
+use Rattle.program_text.specs.Text.{lines, lastLine}
 use Rattle.app.specs.App.{Turn, lastTurn, openTurn, turnOf, noWords, Says}
 
 pub pairs-fit : (L R : List ℕ) (at : ℕ) (piece out : List ℕ) (f : Fed) (ws sv : List ℕ) → Answers (plainFeed L R at piece out) f ws sv → 2 * f .pairs ≤ length out

@@ -12,10 +12,12 @@ use lib.Seq.{take-all, take-length, drop-drop}
 use Rattle.sets.proofs.Laws.{drop-take}
 use Rattle.feeds.proofs.Runs.{length-take-most}
 use Rattle.app.specs.declared.Said.{Said}
-use Rattle.app.specs.declared.Taken.{Taken}
-use Rattle.app.specs.Text.{Puts}
-use Rattle.app.specs.App.{pieceSize, noRecord, Turn, openTurn, turnOf, restAt, textsFrom, texts, handed, joined, isCut, Says, Held, Takes, Logs}
-use Rattle.app.proofs.Texts.{puts-none, puts-after, puts-whole, puts-front}
+use Rattle.program_text.specs.declared.Taken.{Taken}
+use Rattle.program_text.specs.Text.{Puts}
+use Rattle.program_text.specs.Hand.{isCut, handed, joined, Takes, Logs}
+use Rattle.program_text.proofs.Texts.{puts-none, puts-after, puts-whole, puts-front}
+use Rattle.program_text.proofs.Handed.{handed-at}
+use Rattle.app.specs.App.{pieceSize, noRecord, Turn, openTurn, turnOf, restAt, textsFrom, texts, Says, Held}
 use Rattle.app.proofs.Feeding.{turn-moves}
 
 -- ---- pieces
@@ -63,17 +65,6 @@ held-next B at piece n b l h e p =
     let v : pieceSize - (at % pieceSize + b) + b ≡ pieceSize - at % pieceSize = omega (arith, l, h) in
     rw (f, ← drop-drop b (at % pieceSize) piece, ← drop-drop b at B, ← drop-take b (n - (at % pieceSize + b)) (drop (at % pieceSize) piece), ← drop-take b (pieceSize - (at % pieceSize + b)) (drop at B), u, v)
     (ap (drop b) e)
-
--- ---- answers
-
--- the first of some texts is handed over, and the others unless it is cut
-handed-at : (t : List ℕ) (ts : List (List ℕ)) (answers : List ℕ) (i : ℕ)
-    → handed (t ∷ ts) (drop i answers) ≡ t ∷ cond (isCut (getD answers i 0)) [] (handed ts (drop (suc i) answers))
-unfolding handed
-handed-at t ts [] zero = refl
-handed-at t ts [] (suc i) = refl
-handed-at t ts (a ∷ answers) zero = refl
-handed-at t ts (a ∷ answers) (suc i) = handed-at t ts answers i
 
 -- ---- the loop of a run from the record R₀ on, where one text was handed over and the log log₀ ends at `begun`
 

@@ -31,11 +31,12 @@ use Rattle.plain.specs.Plain.{plain, openPairs, openRules, opened, openFlow, pa
 use Rattle.plain.proofs.Plain.{plain-refusal, plain-cheap}
 use Rattle.plain.proofs.Opening.{openPairs-long, room-suffices}
 use Rattle.plain.proofs.Progress.{progress}
-use Rattle.app.specs.Text.{line, lines, lastLine}
-use Rattle.app.specs.App.{pieceSize, noWords, noRecord, turnOf, restAt, textsFrom, texts, handed, joined}
+use Rattle.program_text.specs.Text.{line, lines, lastLine}
+use Rattle.program_text.specs.Hand.{handed, joined}
+use Rattle.program_text.proofs.Handed.{joined-append, handed-all}
+use Rattle.app.specs.App.{pieceSize, noWords, noRecord, turnOf, restAt, textsFrom, texts}
 use Rattle.app.specs.Words.{PiecesFilled, linesOf, linesDue, longestInput, refusedPiece, Undisturbed, EveryRun}
 use Rattle.app.proofs.Feeding.{turn-by, open-by}
-use Rattle.app.proofs.Handed.{handed-all}
 
 -- ---- lines
 
@@ -369,11 +370,6 @@ undisturbed L B = elim (ℕ-discrete (listRefusal L) 0) [ yes z ↦ passed z | n
         }
 
 -- all texts one after the other
-pub joined-append : (ss ts : List (List ℕ)) → joined (ss ++ ts) ≡ joined ss ++ joined ts
-unfolding joined
-joined-append [] ts = refl
-joined-append (s ∷ ss) ts = rw (joined-append ss ts) (sym (append-assoc s (joined ss) (joined ts)))
-
 pub output : (L B : List ℕ) → let u = undisturbed L B in joined (texts L B) ≡ linesDue L (take (u .bytes) B) ++ lastLine (u .refusal) (u .bytes)
 unfolding joined
 output L B =

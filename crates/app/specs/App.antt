@@ -1,16 +1,15 @@
--- What the program says, turn by turn; the texts of an undisturbed run; and which of them are handed over, where a write may not be whole.
-use Prim.Native.Nat.{ℕ, zero, suc, _+_, _*_, _-_, _%_, _≤_}
+-- What the program says, turn by turn; and the texts of an undisturbed run.
+use Prim.Native.Nat.{ℕ, zero, suc, _+_, _*_, _-_, _%_}
 use mathlib.Core.Path.{_≡_}
 use mathlib.Core.Bool.{Bool, true, false, cond}
-use mathlib.Core.List.{List, [], _∷_, _++_}
-use lib.ListN.{length, take, drop, getD, replicate}
+use mathlib.Core.List.{List, [], _∷_}
+use lib.ListN.{length, take, drop, replicate}
 use lib.Dec.{eqb}
 use Rattle.io.specs.Counts.{Counts}
 use Rattle.flows.specs.Flow.{flowSize}
 use Rattle.plain.specs.Plain.{openFlow, plainFeed}
-use Rattle.app.specs.Text.{lineSize, lines, lastLine, Puts}
+use Rattle.program_text.specs.Text.{lineSize, lines, lastLine}
 use Rattle.app.specs.declared.Said.{Said}
-use Rattle.app.specs.declared.Taken.{Taken}
 
 -- the most pairs of a feed; the most bytes of a text; the bytes of a piece
 abbrev pub mostPairs : ℕ
@@ -73,23 +72,6 @@ texts L B =
     let t = openTurn L noRecord in
     t .text ∷ cond (t .last) [] (textsFrom (suc (length B)) L B (t .saved) 0)
 
--- ---- what is handed over
-
--- an answer that says that a text was cut, that is, not taken whole: 0
-abbrev pub isCut : ℕ → Bool
-isCut a = eqb a 0
-
--- the texts up to and with the first that is cut; where the answers end, each is
-unfoldable pub handed : List (List ℕ) → List ℕ → List (List ℕ)
-handed [] answers = []
-handed (t ∷ ts) [] = t ∷ []
-handed (t ∷ ts) (a ∷ answers) = t ∷ cond (isCut a) [] (handed ts answers)
-
--- one after the other
-unfoldable pub joined : List (List ℕ) → List ℕ
-joined [] = []
-joined (t ∷ ts) = t ++ joined ts
-
 -- ---- what the code does
 
 -- the code says s, with the text at the start of a buffer, and leaves the record `sv`: a turn
@@ -103,12 +85,3 @@ pub record Says (t : Turn) (s : Said) (buffer sv : List ℕ) : Type 0 where
 -- the first n bytes of a buffer end in what is left at an offset of the piece
 abbrev pub Held : List ℕ → ℕ → List ℕ → ℕ → Type 0
 Held B at piece n = take (n - at % pieceSize) (drop (at % pieceSize) piece) ≡ restAt B at
-
--- a text goes to the end of a log, with answer number i
-pub record Takes (text answers : List ℕ) (i : ℕ) (log : List ℕ) (end : ℕ) (t : Taken) (left : List ℕ) : Type 0 where
-  pub cut : t .cut ≡ isCut (getD answers i 0)
-  pub puts : Puts (length text) text log end (t .end) left
-
--- the texts, where there is room for them all, stand at a place of a log, which ends at `end`
-abbrev pub Logs : ℕ → List (List ℕ) → List ℕ → ℕ → List ℕ → Type 0
-Logs at ts log end left = at + length (joined ts) ≤ length log → Puts (length (joined ts)) (joined ts) log at end left

@@ -8,8 +8,9 @@ use lib.ListN.{length, take, drop}
 use lib.Dec.{eqb}
 use Rattle.lists.specs.List.{listRefusal}
 use Rattle.plain.specs.Plain.{pairsOf}
-use Rattle.app.specs.Text.{lines, lastLine}
-use Rattle.app.specs.App.{restAt, texts, joined}
+use Rattle.program_text.specs.Text.{lines, lastLine}
+use Rattle.program_text.specs.Hand.{joined}
+use Rattle.app.specs.App.{restAt, texts}
 
 -- what is left of a piece at an offset is a front of what is left of the input; a piece ends at the next multiple of 4,096, and only the last is shorter
 pub record Piece (B : List ℕ) (at : ℕ) : Type 0 where

@@ -3,8 +3,8 @@ use borrow.Author.Needs.{needs}
 use native.Mathlib.Omega.{arith}
 use mathlib.Core.Path.{sym, _∙_}
 use mathlib.Core.Bool.{true≢false}
-use Rattle.app.proofs.hand.Statement.{statement}
-use Rattle.app.proofs.hand.Tie as tie
+use Rattle.program_text.proofs.hand.Statement.{statement}
+use Rattle.program_text.proofs.hand.Tie as tie
 
 write-all-requires : tie.Need-write-all-requires
 write-all-requires c κs = search needs

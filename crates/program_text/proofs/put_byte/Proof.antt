@@ -1,8 +1,8 @@
 -- `put_byte` meets its promise. Assumes nothing.
 use borrow.Author.Needs.{needs}
-use Rattle.app.proofs.Texts.{puts-byte}
-use Rattle.app.proofs.put_byte.Statement.{statement}
-use Rattle.app.proofs.put_byte.Tie as tie
+use Rattle.program_text.proofs.Texts.{puts-byte}
+use Rattle.program_text.proofs.put_byte.Statement.{statement}
+use Rattle.program_text.proofs.put_byte.Tie as tie
 
 slice-write-text : tie.Need-slice-write-text
 slice-write-text c = search needs

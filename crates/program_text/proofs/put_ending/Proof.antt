@@ -2,9 +2,9 @@
 use borrow.Author.Needs.{needs}
 use native.Mathlib.Omega.{arith}
 use Rattle.io.proofs.Counting.{counts}
-use Rattle.app.proofs.Texts.{puts-after, puts-front}
-use Rattle.app.proofs.put_ending.Statement.{statement}
-use Rattle.app.proofs.put_ending.Tie as tie
+use Rattle.program_text.proofs.Texts.{puts-after, puts-front}
+use Rattle.program_text.proofs.put_ending.Statement.{statement}
+use Rattle.program_text.proofs.put_ending.Tie as tie
 
 put-bytes-requires : tie.Need-put-bytes-requires
 put-bytes-requires c κs = search needs

@@ -2,8 +2,8 @@
 use borrow.Author.Needs.{needs}
 use native.Mathlib.Omega.{arith}
 use lib.ListN.{List·getD-eq-default}
-use Rattle.app.proofs.cut_at.Statement.{statement}
-use Rattle.app.proofs.cut_at.Tie as tie
+use Rattle.program_text.proofs.cut_at.Statement.{statement}
+use Rattle.program_text.proofs.cut_at.Tie as tie
 
 shared-slice-read-result : tie.Need-shared-slice-read-result
 shared-slice-read-result c = search needs

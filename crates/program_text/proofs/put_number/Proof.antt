@@ -1,10 +1,10 @@
 -- `put_number` meets its promise: the digits of the number are put. Assumes nothing.
 use borrow.Author.Needs.{needs}
 use native.Mathlib.Omega.{arith}
-use Rattle.app.specs.Text.{mostDigits}
-use Rattle.app.proofs.Texts.{digits-most, digits-decimal, puts-less}
-use Rattle.app.proofs.put_number.Statement.{statement}
-use Rattle.app.proofs.put_number.Tie as tie
+use Rattle.program_text.specs.Text.{mostDigits}
+use Rattle.program_text.proofs.Texts.{digits-most, digits-decimal, puts-less}
+use Rattle.program_text.proofs.put_number.Statement.{statement}
+use Rattle.program_text.proofs.put_number.Tie as tie
 
 decimal-requires : tie.Need-decimal-requires
 decimal-requires c κs = search needs

@@ -5,10 +5,10 @@ use Prim.Native.Nat.{_≤_, _-_, _+_}
 use native.Mathlib.Omega.{arith}
 use lib.ListN.{length, take}
 use lib.Seq.{take-length}
-use Rattle.app.specs.Text.{Puts}
-use Rattle.app.proofs.Texts.{puts-none, puts-next}
-use Rattle.app.proofs.put_bytes.Statement.{statement}
-use Rattle.app.proofs.put_bytes.Tie as tie
+use Rattle.program_text.specs.Text.{Puts}
+use Rattle.program_text.proofs.Texts.{puts-none, puts-next}
+use Rattle.program_text.proofs.put_bytes.Statement.{statement}
+use Rattle.program_text.proofs.put_bytes.Tie as tie
 
 abbrev Inv-loop : tie.InvT-loop
 Inv-loop text₀ at bytes i₀ i-end text i = (i ≤ length bytes) × Puts i (take i bytes) text₀ at (at + i) text

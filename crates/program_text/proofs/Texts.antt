@@ -13,7 +13,7 @@ use borrow.Author.Tests.{lt-ltb, le-ltb}
 use Rattle.io.specs.Digits.{digits, Fewest}
 use Rattle.sets.specs.Set.{placed}
 use Rattle.sets.proofs.Placing.{placed-fits, length-placed, placed-none, placed-one, placed-after}
-use Rattle.app.specs.Text.{mostDigits, lineSize, places, decimal, line, lines, lastLine, Puts}
+use Rattle.program_text.specs.Text.{mostDigits, lineSize, places, decimal, line, lines, lastLine, Puts}
 
 -- the first two pairs of "abab": `7 2`, `7 4`
 pub lines-abab : lines (7 ∷ 2 ∷ 7 ∷ 4 ∷ []) 2 ≡ 55 ∷ 32 ∷ 50 ∷ 10 ∷ 55 ∷ 32 ∷ 52 ∷ 10 ∷ []

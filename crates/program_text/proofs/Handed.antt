@@ -1,14 +1,14 @@
--- What is handed over of some texts: a front of them, and each text exactly when none before it was cut. Assumes nothing.
+-- What is handed over of some texts: a front of them, and each text exactly when none before it was cut; and texts one after the other. Assumes nothing.
 use Prim.Native.Nat.{ℕ, zero, suc, _+_, _≤_, _<_}
 use mathlib.Core.Path.{_≡_, refl, sym, ap, _∙_}
 use mathlib.Core.Bool.{Bool, true, false, cond, true≢false}
-use mathlib.Core.List.{List, [], _∷_, _++_, append-nil}
+use mathlib.Core.List.{List, [], _∷_, _++_, append-nil, append-assoc}
 use mathlib.Core.Logic.{_↔_}
 use native.Mathlib.Omega.{arith}
 use native.Mathlib.Nat.{lt-of-not-le}
 use native.Mathlib.Decide.{decLt}
-use lib.ListN.{length, getD, length-append}
-use Rattle.app.specs.App.{isCut, handed}
+use lib.ListN.{length, drop, getD, length-append}
+use Rattle.program_text.specs.Hand.{isCut, handed, joined}
 
 -- a front of the texts
 pub handed-front : (ts : List (List ℕ)) (answers : List ℕ) → (rest : List (List ℕ)) × (ts ≡ handed ts answers ++ rest)
@@ -72,3 +72,19 @@ handed-all ts answers l =
     none : (rest : List (List ℕ)) → length rest ≡ 0 → handed ts answers ++ rest ≡ handed ts answers
     none [] e = append-nil (handed ts answers)
     none (t ∷ rest) e = absurd (omega (arith, e))
+
+-- the first of some texts is handed over, and the others unless it is cut
+pub handed-at : (t : List ℕ) (ts : List (List ℕ)) (answers : List ℕ) (i : ℕ)
+    → handed (t ∷ ts) (drop i answers) ≡ t ∷ cond (isCut (getD answers i 0)) [] (handed ts (drop (suc i) answers))
+unfolding handed
+handed-at t ts [] zero = refl
+handed-at t ts [] (suc i) = refl
+handed-at t ts (a ∷ answers) zero = refl
+handed-at t ts (a ∷ answers) (suc i) = handed-at t ts answers i
+
+-- ---- one after the other
+
+pub joined-append : (ss ts : List (List ℕ)) → joined (ss ++ ts) ≡ joined ss ++ joined ts
+unfolding joined
+joined-append [] ts = refl
+joined-append (s ∷ ss) ts = rw (joined-append ss ts) (sym (append-assoc s (joined ss) (joined ts)))

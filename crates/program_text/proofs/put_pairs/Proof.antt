@@ -4,10 +4,10 @@ use mathlib.Core.Path.{_≡_}
 use Prim.Native.Nat.{_≤_, _-_, _*_}
 use native.Mathlib.Omega.{arith}
 use Rattle.io.proofs.Counting.{counts}
-use Rattle.app.specs.Text.{lineSize, lines, Puts}
-use Rattle.app.proofs.Texts.{puts-none, puts-line, puts-front}
-use Rattle.app.proofs.put_pairs.Statement.{statement}
-use Rattle.app.proofs.put_pairs.Tie as tie
+use Rattle.program_text.specs.Text.{lineSize, lines, Puts}
+use Rattle.program_text.proofs.Texts.{puts-none, puts-line, puts-front}
+use Rattle.program_text.proofs.put_pairs.Statement.{statement}
+use Rattle.program_text.proofs.put_pairs.Tie as tie
 
 abbrev Inv-loop : tie.InvT-loop
 Inv-loop text₀ out n at₀ i₀ text at i = (i ≤ n) × Puts (lineSize * i) (lines out i) text₀ 0 at text

@@ -1,10 +1,10 @@
 -- `put_pair` meets its promise: number, space, number and line feed are put one after the other. Assumes nothing.
 use borrow.Author.Needs.{needs}
 use native.Mathlib.Omega.{arith}
-use Rattle.app.specs.Text.{line}
-use Rattle.app.proofs.Texts.{puts-after}
-use Rattle.app.proofs.put_pair.Statement.{statement}
-use Rattle.app.proofs.put_pair.Tie as tie
+use Rattle.program_text.specs.Text.{line}
+use Rattle.program_text.proofs.Texts.{puts-after}
+use Rattle.program_text.proofs.put_pair.Statement.{statement}
+use Rattle.program_text.proofs.put_pair.Tie as tie
 
 put-number-requires : tie.Need-put-number-requires
 put-number-requires c κs = search needs

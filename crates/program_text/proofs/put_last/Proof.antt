@@ -1,9 +1,9 @@
 -- `put_last` meets its promise: the last line is of the refusal, or of the offset where that is 0. Assumes nothing.
 use borrow.Author.Needs.{needs}
 use borrow.Author.Tests.{eq-eqb, ne-eqb}
-use Rattle.app.specs.Text.{lastLine}
-use Rattle.app.proofs.put_last.Statement.{statement}
-use Rattle.app.proofs.put_last.Tie as tie
+use Rattle.program_text.specs.Text.{lastLine}
+use Rattle.program_text.proofs.put_last.Statement.{statement}
+use Rattle.program_text.proofs.put_last.Tie as tie
 
 slice-aggregate-put-ending : tie.Need-slice-aggregate-put-ending
 slice-aggregate-put-ending c = search needs
