@@ -1,0 +1,5 @@
+pub mod Alike
+pub mod Turning
+pub mod Readying
+pub mod Standing
+pub mod Beginning

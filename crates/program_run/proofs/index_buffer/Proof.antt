@@ -1,0 +1,15 @@
+-- `index_buffer` meets its promise, of any number of zeros: the number is not computed with. Assumes nothing.
+use Prim.Native.Nat.{ℕ}
+use mathlib.Core.Path.{_≡_, sym}
+use lib.ListN.{length, replicate, length-replicate}
+use Rattle.program_run.proofs.index_buffer.Statement.{statement}
+use Rattle.program_run.proofs.index_buffer.Tie as tie
+
+zeros : (n : ℕ) → n ≡ length {A = ℕ} (replicate n 0)
+zeros n = sym (length-replicate n 0)
+
+returns : tie.Need-returns
+returns c = zeros 4456576
+
+pub index-buffer-spec : {M : Type 1} → statement M
+index-buffer-spec = tie.close (tie.spec returns)
