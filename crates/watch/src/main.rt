@@ -1,6 +1,9 @@
 // The program: its first word says what it does, and the words behind it with what.
 
-// The word `run`.
+// The most words of a command, the program's own name among them.
+const MOST_WORDS: usize = 4;
+
+// Whether a word is `run`.
 fn is_run(word: &[u8]) -> bool {
     if word.len() != 3 {
         return false;
@@ -8,29 +11,91 @@ fn is_run(word: &[u8]) -> bool {
     (word[0] == b'r') & (word[1] == b'u') & (word[2] == b'n')
 }
 
-// Watches standard input by the list of a folder.
+// Whether a word is `check`.
+fn is_check(word: &[u8]) -> bool {
+    if word.len() != 5 {
+        return false;
+    }
+    (word[0] == b'c')
+        & (word[1] == b'h')
+        & (word[2] == b'e')
+        & (word[3] == b'c')
+        & (word[4] == b'k')
+}
+
+// Whether a word is `compile`.
+fn is_compile(word: &[u8]) -> bool {
+    if word.len() != 7 {
+        return false;
+    }
+    (word[0] == b'c')
+        & (word[1] == b'o')
+        & (word[2] == b'm')
+        & (word[3] == b'p')
+        & (word[4] == b'i')
+        & (word[5] == b'l')
+        & (word[6] == b'e')
+}
+
+// `watch run DIR`: watches standard input by the list of a folder.
 fn run() {
     let mut folder = io::buffer();
     let n = os::arg(2, &mut folder);
     let mut path = io::buffer();
-    let m = program_files::put_path(&mut path, &folder[..n], b"rules.bin");
+    let m = program_files::put_both(&mut path, &folder[..n], b"/rules.bin");
     program_run::start(&path[..m]);
+}
+
+// `watch check DIR`: checks the list of a folder.
+fn check() {
+    let mut folder = io::buffer();
+    let n = os::arg(2, &mut folder);
+    let mut path = io::buffer();
+    let m = program_files::put_both(&mut path, &folder[..n], b"/rules.bin");
+    program_files::check_folder(&path[..m]);
+}
+
+// `watch compile FILE [OUT]`: compiles a file of texts.
+fn compile() {
+    let mut file = io::buffer();
+    let n = os::arg(2, &mut file);
+    let mut out = io::buffer();
+    let m = os::arg(3, &mut out);
+    program_files::compile_file(&file[..n], &out[..m]);
 }
 
 // Says how the program is called.
 fn usage() {
-    io::write_all(2, b"watch: usage: watch run DIR < input\n");
+    io::write_all(2, b"usage: watch run DIR < input\n");
+    io::write_all(2, b"       watch check DIR\n");
+    io::write_all(2, b"       watch compile FILE [OUT]\n");
+}
+
+// Does what a word says, of so many words in all; where there is no such command it says how the program is called.
+fn answer(word: &[u8], words: usize) {
+    if words == 3 {
+        if is_run(word) {
+            run();
+            return;
+        }
+        if is_check(word) {
+            check();
+            return;
+        }
+    }
+    if is_compile(word) {
+        if 2 < words {
+            if words <= MOST_WORDS {
+                compile();
+                return;
+            }
+        }
+    }
+    usage();
 }
 
 fn main() {
     let mut word = io::buffer();
     let n = os::arg(1, &mut word);
-    let words = os::arg_count();
-    if is_run(&word[..n]) {
-        if words == 3 {
-            run();
-            return;
-        }
-    }
-    usage();
+    answer(&word[..n], os::arg_count());
 }
