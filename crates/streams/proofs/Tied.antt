@@ -5,9 +5,11 @@ use mathlib.Core.List.{List, []}
 use Rattle.feeds.specs.Calls.{Bytes}
 use Rattle.flows.specs.Flow.{offsetOf}
 use Rattle.tables.specs.Table.{Table, tableRefusal}
+use Rattle.entries.proofs.Lawful.{same-verdict}
 use Rattle.fills.specs.Filled.{filledIndex}
 use Rattle.fills.proofs.Ready.{stand-exact}
 use Rattle.demands.specs.Calls.{Call, byList, byTable, byIndex, Counting, bySlots, wayOf}
+use Rattle.demands.proofs.Demand1.{demand-1}
 use Rattle.demands.proofs.Engines.{lawful-of}
 use Rattle.demands.proofs.Built.{filled-swaps}
 use Rattle.extended_demands.specs.Calls as machines
@@ -15,9 +17,9 @@ use Rattle.segments.specs.Segment.{Sent, Kept}
 use Rattle.segments.specs.Ways.{plainSegment, splitSegment}
 use Rattle.segments.specs.Calls.{sentOf, hears}
 use Rattle.segments.proofs.Same as same
-use Rattle.segment_index.specs.Standing.{standSegment}
+use Rattle.segment_index.specs.Standing.{standWay, standSegment}
 use Rattle.segment_machine.specs.Ways.{machineSegment}
-use Rattle.streams.specs.Streams.{listCalls, machineCalls}
+use Rattle.streams.specs.Streams.{listCalls, machineCalls, HintsAlike}
 
 pub handed-plain : (s : ℕ) (S : Kept) (L : List ℕ) (start : ℕ) (bytes out : List ℕ)
     → let c : Call = record { list = L; via = byList; at = start; piece = bytes; out = out } in hears listCalls s S c ≡ plainSegment L (sentOf listCalls s c) S out
@@ -43,3 +45,9 @@ same-segment L b T e s h g sb =
     same.same-segment (wayOf v L) (wayOf (byTable b T) L) (λ R. refl)
     (λ R. lawful-of v .same L (filled-swaps L b T e s h) R (offsetOf R) [] ∙ sym (lawful-of (byTable b T) .same L e R (offsetOf R) []))
     (λ R piece out. stand-exact L b T e s h R (offsetOf R) piece out) g sb
+
+-- by a right index it hears and leaves the same from every hint
+pub hints-alike : HintsAlike
+hints-alike L S X r h k g sb =
+    same.same-segment (standWay S X h) (standWay S X k) (λ R. refl) (λ R. same-verdict L S X r h R (offsetOf R) [] ∙ sym (same-verdict L S X r k R (offsetOf R) []))
+    (λ R piece out hb. demand-1 .hints-alike L S X r h k R (offsetOf R) piece out .0) g sb

@@ -11,6 +11,7 @@ use Rattle.lists.specs.Automaton.{start, accepted}
 use Rattle.feeds.specs.Calls.{Bytes, Way}
 use Rattle.flows.specs.Flow.{flowLayout, offsetOf}
 use Rattle.plain.specs.Plain.{plain, openFlow}
+use Rattle.entries.specs.Right.{Right}
 use Rattle.extended.specs.Machine.{machine, first, firstAlerts}
 use Rattle.extended.specs.Record as x
 use Rattle.extended.specs.Extended.{extendedOpen}
@@ -23,7 +24,7 @@ use Rattle.resends.specs.Resend.{mostSegment, heldSize}
 use Rattle.segments.specs.Segment.{Sent, Kept, takeOf, dueOf, unheard, doorRules, feedSegment}
 use Rattle.segments.specs.Calls.{Calls}
 use Rattle.segments.specs.Streamed.{Streams, Restarts}
-use Rattle.segment_index.specs.Standing.{standWay, stoodBy}
+use Rattle.segment_index.specs.Standing.{standWay, standSegment, stoodBy}
 
 -- ---- a flow of a list, each segment by the list alone, through a table, by a matrix or by an index
 
@@ -106,3 +107,8 @@ MachineSegmentsRefuse =
 -- the split that a segment by an index answers: with a refusal at the door the hint handed in
 abbrev pub HintsKept : Type 0
 HintsKept = (S X : List ℕ) (h : ℕ) (g : Sent) (K : Kept) (out : List ℕ) → (verdict (doorRules (standWay S X h) g K) ≡ 0 → ⊥) → stoodBy S X h g K out ≡ h
+
+-- by a right index all else is the same for every hint
+abbrev pub HintsAlike : Type 0
+HintsAlike =
+    (L S X : List ℕ) → Right L S X → (h k : ℕ) (g : Sent) → Bytes (g .bytes) → (K : Kept) (out : List ℕ) → Bytes (K .held) → standSegment S X h g K out ≡ standSegment S X k g K out
