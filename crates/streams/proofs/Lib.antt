@@ -1,5 +1,6 @@
 pub mod Streams
 pub mod Tied
 pub mod Steady
+pub mod Standing
 pub mod Refusing
 pub mod Examples

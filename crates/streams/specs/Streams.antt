@@ -9,9 +9,10 @@ use Rattle.rules.specs.Rules.{verdict}
 use Rattle.rules.specs.Words.{Row, InWords}
 use Rattle.lists.specs.Automaton.{start, accepted}
 use Rattle.feeds.specs.Calls.{Bytes, Way}
-use Rattle.flows.specs.Flow.{flowLayout, offsetOf}
+use Rattle.flows.specs.Flow.{flowLayout, frontierOf, offsetOf}
 use Rattle.plain.specs.Plain.{plain, openFlow}
-use Rattle.entries.specs.Right.{Right}
+use Rattle.tables.specs.Table.{splitCount}
+use Rattle.entries.specs.Right.{IsAt, Right}
 use Rattle.extended.specs.Machine.{machine, first, firstAlerts}
 use Rattle.extended.specs.Record as x
 use Rattle.extended.specs.Extended.{extendedOpen}
@@ -112,3 +113,17 @@ HintsKept = (S X : List ℕ) (h : ℕ) (g : Sent) (K : Kept) (out : List ℕ) �
 abbrev pub HintsAlike : Type 0
 HintsAlike =
     (L S X : List ℕ) → Right L S X → (h k : ℕ) (g : Sent) → Bytes (g .bytes) → (K : Kept) (out : List ℕ) → Bytes (K .held) → standSegment S X h g K out ≡ standSegment S X k g K out
+
+-- n is the split where a flow with the record R stands: its set is the frontier, or n is the number of splits where none is
+abbrev pub StandsFor : List ℕ → List ℕ → ℕ → Type 0
+StandsFor S R n = IsAt S (frontierOf R) n ⊎ ((n ≡ splitCount S) × ((j : ℕ) → IsAt S (frontierOf R) j → ⊥))
+
+-- no rule of a feed refused a look
+abbrev pub Fair : ℕ → Type 0
+Fair n = (n ≡ 0) ⊎ ((n ≡ 14) ⊎ (n ≡ 18))
+
+-- by a right index, where the hint is the split where the flow stands, and the answer is 0, 14 or 18, the split answered is the one where it then stands
+abbrev pub SplitsAnswered : Type 0
+SplitsAnswered =
+    (L S X : List ℕ) → Right L S X → (h : ℕ) (g : Sent) → Bytes (g .bytes) → (K : Kept) (out : List ℕ) → Bytes (K .held) → Bytes (K .flow) → StandsFor S (K .flow) h
+    → Fair (standSegment S X h g K out .refusal) → StandsFor S (standSegment S X h g K out .kept .flow) (stoodBy S X h g K out)
