@@ -469,6 +469,10 @@ def past_the_end(tape, dice):
 
 # By an index, and by an automaton with bits and counters
 
+def expect(heard, refusal):
+    assert heard.refusal == refusal
+
+
 def small_index(dice):
     """A sample, and the table of its splits and index: that of a table, or straight from the list."""
     while True:
@@ -527,24 +531,24 @@ def index_refusals(tape, dice):
         for record in (good[:-1], good + b"\0", good[:RESERVED] + b"\1" + good[RESERVED + 1:],
                        pack_flow(Flow(starts, 5, 5 * STATES + 1)),
                        pack_flow(Flow(starts | {dice.pick([s for s in range(STATES) if s not in named])}, 5, 3))):
-            assert send(record).refusal == 4
+            expect(send(record), 4)
     for turn in range(66):
         offset = MOST_OFFSET - dice.below(6)
-        assert send(pack_flow(Flow(starts, offset, 3)), dice.between(6, 9), 0).refusal == 6
+        expect(send(pack_flow(Flow(starts, offset, 3)), dice.between(6, 9), 0), 6)
         lost = dice.subset(sorted(named), 50)
         if model.pack_set(lost) not in known:
-            assert send(pack_flow(Flow(lost, 5, 3)), 4, 0).refusal == 14
+            expect(send(pack_flow(Flow(lost, 5, 3)), 4, 0), 14)
         send(good, 4, 9)
         tape.load_segment(a_piece(dice, sample, 2))
-        assert tape.hear_at(dice.below(4), MOST_WORDS, at(tape.first, 30)).refusal == 18
+        expect(tape.hear_at(dice.below(4), MOST_WORDS, at(tape.first, 30)), 18)
         tape.sow_held(dice.pick([HELD_SIZE - 1, HELD_SIZE + 1]), turn)
-        assert send(dice.pick([good, good[:-1]])).refusal == 18
+        expect(send(dice.pick([good, good[:-1]])), 18)
         tape.sow_held(HELD_SIZE, turn)
     for bad in (table._replace(rows=table.rows[:-1]), table._replace(rows=table.rows + b"\0"),
                 table._replace(splits=table.splits[:-1]), table._replace(splits=b"")):
         tape.load_table(bad)
         for turn in range(20):
-            assert send(good).refusal == 8
+            expect(send(good), 8)
 
 
 def machine_record(tape, dice, record):
@@ -589,19 +593,19 @@ def machine_refusals(tape, dice):
     for bad in machines:
         tape.load_table(Table(b"", bad[0], bad[1], b""))
         for turn in range(12):
-            assert send(dice.pick([good, good[:-1]])).refusal == 24
+            expect(send(dice.pick([good, good[:-1]])), 24)
     tape.load_table(Table(b"", moves, programs, b""))
     for turn in range(66):
         for record in (good[:-1], good + b"\0", b"\2" + good[1:], good[:2] + b"\1" + good[3:],
                        bits_cases.put(good, 16 + 4 * dice.below(16), b"\1\0\1\0")):
-            assert send(record).refusal == 4
+            expect(send(record), 4)
         offset = MOST_OFFSET - dice.below(6)
-        assert send(bits_cases.record(dice, 2, offset), dice.between(6, 9), 0).refusal == 6
+        expect(send(bits_cases.record(dice, 2, offset), dice.between(6, 9), 0), 6)
         send(good, 4, 9)
         tape.load_segment(dice.bytes(2))
-        assert tape.hear_x(MOST_WORDS, at(tape.first, 30)).refusal == 18
+        expect(tape.hear_x(MOST_WORDS, at(tape.first, 30)), 18)
         tape.sow_held(dice.pick([HELD_SIZE - 1, HELD_SIZE + 1]), turn)
-        assert send(dice.pick([good, good[:-1]])).refusal == 18
+        expect(send(dice.pick([good, good[:-1]])), 18)
         tape.sow_held(HELD_SIZE, turn)
 
 

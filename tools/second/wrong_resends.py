@@ -38,6 +38,7 @@ WRONG = [
     ("the first number stays", "(first + offset(record)) % CIRCLE, record", "first, record"),
     ("the offset of a list's record alone", "{FLOW_SIZE: OFFSET_AT, X_FLOW_SIZE: 4}", "{FLOW_SIZE: OFFSET_AT}"),
     ("the offset of no record is 0", "2 ** 64 - 1 if at is None", "0 if at is None"),
+    ("a machine's offset where a list's record has it", "words, offset_at=OFFSET_AT):\n", "words, offset_at=OFFSET_AT):\n    offset_at = OFFSET_AT\n"),
 ]
 
 
