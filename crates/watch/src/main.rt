@@ -1,4 +1,5 @@
 // The program: its first word says what it does, and the words behind it with what.
+mod live;
 
 // The most words of a command, the program's own name among them.
 const MOST_WORDS: usize = 4;
@@ -69,6 +70,7 @@ fn usage() {
     io::write_all(2, b"usage: watch run DIR < input\n");
     io::write_all(2, b"       watch check DIR\n");
     io::write_all(2, b"       watch compile FILE [OUT]\n");
+    live::usage();
 }
 
 // Does what a word says, of so many words in all; where there is no such command it says how the program is called.
@@ -90,6 +92,9 @@ fn answer(word: &[u8], words: usize) {
                 return;
             }
         }
+    }
+    if live::answer(word, words) {
+        return;
     }
     usage();
 }
