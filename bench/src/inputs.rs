@@ -2,8 +2,8 @@
 use crate::later::chunks;
 use crate::ordinary;
 use crate::sizes::{
-    BYTE_VALUES, CLASSES, FLOW_BYTES, MOST_PARTS, MOST_RECORDS, MOST_SPLITS, RECORD_BYTES,
-    SET_BYTES, SIGNATURES, SLOTS, SPLIT_BYTES, STATES,
+    BYTE_VALUES, CLASSES, FLOW_SIZE, MOST_PARTS, MOST_RECORDS, MOST_SPLITS, RECORD_SIZE,
+    SET_SIZE, SIGNATURES, SLOTS, SPLIT_SIZE, STATES,
 };
 use std::collections::BTreeSet;
 
@@ -16,10 +16,10 @@ pub struct Table {
 }
 
 /// A set as its bytes.
-pub type Bytes = [u8; SET_BYTES];
+pub type Bytes = [u8; SET_SIZE];
 
 /// A record of the list.
-type Record = [u8; RECORD_BYTES];
+type Record = [u8; RECORD_SIZE];
 
 /// A small generator of numbers (splitmix64).
 pub struct Dice(pub u64);
@@ -55,7 +55,7 @@ impl Dice {
 }
 
 pub fn set_of(states: impl IntoIterator<Item = u16>) -> Bytes {
-    let mut set = [0; SET_BYTES];
+    let mut set = [0; SET_SIZE];
     for s in states {
         set[usize::from(s / 8)] |= 1 << (s % 8);
     }
@@ -63,7 +63,7 @@ pub fn set_of(states: impl IntoIterator<Item = u16>) -> Bytes {
 }
 
 fn join(sets: impl IntoIterator<Item = Bytes>) -> Bytes {
-    let mut all = [0; SET_BYTES];
+    let mut all = [0; SET_SIZE];
     for set in sets {
         all.iter_mut().zip(set).for_each(|(a, b)| *a |= b);
     }
@@ -108,9 +108,9 @@ fn step(list: &[Record], set: &Bytes, byte: u8) -> Bytes {
 }
 
 /// A flow record: a frontier at offset 0.
-pub fn flow_at(frontier: Bytes) -> [u8; FLOW_BYTES] {
-    let mut record = [0; FLOW_BYTES];
-    record[..SET_BYTES].copy_from_slice(&frontier);
+pub fn flow_at(frontier: Bytes) -> [u8; FLOW_SIZE] {
+    let mut record = [0; FLOW_SIZE];
+    record[..SET_SIZE].copy_from_slice(&frontier);
     record
 }
 
@@ -193,7 +193,7 @@ pub fn small_list(n: usize, frontier: usize, states: u16) -> Vec<u8> {
 
 /// The list with every edge for either case.
 pub fn either_case(mut list: Vec<u8>) -> Vec<u8> {
-    for record in list.chunks_exact_mut(RECORD_BYTES) {
+    for record in list.chunks_exact_mut(RECORD_SIZE) {
         if record[0] == 1 {
             record[3] = 1;
         }
@@ -357,7 +357,7 @@ const IDLE: u16 = 8;
 /// The list with accept records at the idle states, up to the most records.
 pub fn filled(mut list: Vec<u8>) -> Vec<u8> {
     let mut dice = Dice(4096);
-    while list.len() < RECORD_BYTES * MOST_RECORDS {
+    while list.len() < RECORD_SIZE * MOST_RECORDS {
         list.extend(accept(dice.state_from(IDLE), dice.signature()));
     }
     list
@@ -670,9 +670,9 @@ const IDLE_PLACES: u16 = 32;
 pub fn built_table(list: &[u8]) -> Table {
     let mut table = Table {
         classes: vec![0; BYTE_VALUES],
-        parts: vec![0; SET_BYTES * MOST_PARTS],
-        rows: vec![0; SET_BYTES * MOST_PARTS * CLASSES],
-        splits: vec![0; SPLIT_BYTES * MOST_PARTS],
+        parts: vec![0; SET_SIZE * MOST_PARTS],
+        rows: vec![0; SET_SIZE * MOST_PARTS * CLASSES],
+        splits: vec![0; SPLIT_SIZE * MOST_PARTS],
     };
     let lists = ordinary::Lists {
         classes: &mut table.classes,

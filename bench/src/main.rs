@@ -8,31 +8,28 @@
 //! bench/count uses the other two: `bench rows` names the archive, and then for each row its number, how many calls a turn has, and its
 //! name; `bench turn SIDE ROW CALLS` makes these calls of one side, and says how many bytes each consumes, or - where the row is about calls. A
 //! third side, hash, is there for the split feed: Rust that looks the splits up in a hash map.
-mod certificates;
+mod certificate;
 mod clock;
-mod extended;
+mod index;
 mod inputs;
-mod joined;
+mod join;
 mod later;
+mod machine;
 mod ordinary;
-mod places;
 mod proved;
 #[allow(dead_code)]
 #[path = "../../bindings/rust/src/raw.rs"]
 mod raw;
-mod reasons;
-mod resends;
+mod segment;
 mod sizes;
-mod texts;
+mod text;
+mod why;
 
+use index::{Made, Stood};
 use inputs::{Bytes, Table};
 use later::black_box;
 use ordinary::Fed;
-use places::{Made, Stood};
-use sizes::{
-    BYTE_VALUES, CLASSES, ENTRY_BYTES, FLOW_BYTES, MOST_INDEX, MOST_PARTS, MOST_RECORDS,
-    MOST_SPLITS, RECORD_BYTES, ROW_BYTES, SET_BYTES, SLOTS, SPLIT_BYTES, STATES,
-};
+use sizes::*;
 use std::io::{BufRead, BufReader, Write};
 use std::process::{Child, ChildStdin, ChildStdout, Command, Stdio};
 use std::time::Instant;
@@ -59,11 +56,11 @@ struct Side {
     prepared_feed: fn(&[u8], &[u8], u32, &mut [u8], u64, &[u8], &mut [u32]) -> Stood,
     prepare: fn(&[u8], &mut [u8], &mut [u8]) -> Made,
     build: fn(&[u8], ordinary::Lists) -> ordinary::Built,
-    extended: fn(&extended::Work, &mut [u8], &mut [u32]) -> Fed,
-    segment: fn(&resends::Work, &mut [u8]) -> Fed,
-    check_certificate: fn(&certificates::Work) -> u32,
-    compile: fn(&texts::Work, &mut [u8]) -> Fed,
-    why: fn(&reasons::Work, &mut Vec<u8>) -> Fed,
+    extended: fn(&machine::Work, &mut [u8], &mut [u32]) -> Fed,
+    segment: fn(&segment::Work, &mut [u8]) -> Fed,
+    check_certificate: fn(&certificate::Work) -> u32,
+    compile: fn(&text::Work, &mut [u8]) -> Fed,
+    why: fn(&why::Work, &mut Vec<u8>) -> Fed,
 }
 
 const PROVED: Side = Side {
@@ -78,11 +75,11 @@ const PROVED: Side = Side {
     prepared_feed: proved::prepared_feed,
     prepare: proved::prepare,
     build: proved::build,
-    extended: extended::proved,
-    segment: resends::proved,
-    check_certificate: certificates::proved,
-    compile: texts::proved,
-    why: reasons::proved,
+    extended: machine::proved,
+    segment: segment::proved,
+    check_certificate: certificate::proved,
+    compile: text::proved,
+    why: why::proved,
 };
 
 const ORDINARY: Side = Side {
@@ -93,15 +90,15 @@ const ORDINARY: Side = Side {
     split_feed: ordinary::split_feed,
     fill_matrix: ordinary::fill_matrix,
     matrix_feed: ordinary::matrix_feed,
-    fill_index: places::fill_index,
-    prepared_feed: places::feed,
-    prepare: places::prepare,
+    fill_index: index::fill_index,
+    prepared_feed: index::feed,
+    prepare: index::prepare,
     build: ordinary::build,
-    extended: extended::by_rust,
-    segment: resends::by_rust,
-    check_certificate: certificates::by_rust,
-    compile: texts::by_rust,
-    why: reasons::by_rust,
+    extended: machine::by_rust,
+    segment: segment::by_rust,
+    check_certificate: certificate::by_rust,
+    compile: text::by_rust,
+    why: why::by_rust,
 };
 
 /// What a row calls, and on what.
@@ -109,7 +106,7 @@ enum Call {
     CheckList,
     Open,
     Feed {
-        flow: [u8; FLOW_BYTES],
+        flow: [u8; FLOW_SIZE],
         piece: Vec<u8>,
     },
     CheckTable {
@@ -119,7 +116,7 @@ enum Call {
     SplitFeed {
         bound: u64,
         table: Table,
-        flow: [u8; FLOW_BYTES],
+        flow: [u8; FLOW_SIZE],
         piece: Vec<u8>,
     },
     FillMatrix {
@@ -127,7 +124,7 @@ enum Call {
     },
     MatrixFeed {
         matrix: Vec<u8>,
-        flow: [u8; FLOW_BYTES],
+        flow: [u8; FLOW_SIZE],
         piece: Vec<u8>,
     },
     FillIndex {
@@ -138,17 +135,17 @@ enum Call {
         splits: Vec<u8>,
         index: Vec<u8>,
         split: u32,
-        flow: [u8; FLOW_BYTES],
+        flow: [u8; FLOW_SIZE],
         piece: Vec<u8>,
     },
-    Traffic(places::Work),
+    Traffic(index::Work),
     Prepare,
     Build,
-    Extended(extended::Work),
-    Segment(resends::Work),
-    CheckCertificate(certificates::Work),
-    Compile(texts::Work),
-    Why(reasons::Work),
+    Extended(machine::Work),
+    Segment(segment::Work),
+    CheckCertificate(certificate::Work),
+    Compile(text::Work),
+    Why(why::Work),
 }
 
 /// A row of the table: its name, how many calls a turn of bench/count has, and what makes its list and call.
@@ -179,7 +176,7 @@ impl Row {
 /// The buffers that a call writes to: a flow record, the pairs, a matrix, an index, the held buffer, the four lists of a table, and a list; the last two are empty unless the call makes one.
 #[derive(Clone, PartialEq)]
 struct Buffers {
-    flow: [u8; FLOW_BYTES],
+    flow: [u8; FLOW_SIZE],
     pairs: Vec<u32>,
     matrix: Vec<u8>,
     index: Vec<u8>,
@@ -189,15 +186,10 @@ struct Buffers {
 }
 
 /// The lengths of the lists that splits and their index are prepared in.
-const PREPARED_IN: [usize; 4] = [SPLIT_BYTES * MOST_SPLITS, MOST_INDEX, 0, 0];
+const PREPARED_IN: [usize; 4] = [PREPARE_SPLITS, PREPARE_INDEX, 0, 0];
 
 /// The lengths of the lists that a table is built in.
-const LENT: [usize; 4] = [
-    BYTE_VALUES,
-    SET_BYTES * MOST_PARTS,
-    SET_BYTES * MOST_PARTS * CLASSES,
-    SPLIT_BYTES * MOST_PARTS,
-];
+const LENT: [usize; 4] = [LENT_CLASSES, LENT_PARTS, LENT_ROWS, LENT_SPLITS];
 
 impl Buffers {
     fn new(call: &Call) -> Buffers {
@@ -207,14 +199,14 @@ impl Buffers {
             _ => [0; 4],
         };
         Buffers {
-            flow: [0xAA; FLOW_BYTES],
+            flow: [0xAA; FLOW_SIZE],
             pairs: vec![0xAAAA_AAAA; 8192],
             matrix: Vec::new(),
             index: Vec::new(),
             held: Vec::new(),
             lists: lent.map(|n| vec![0xAA; n]),
             list: match call {
-                Call::Compile(_) => vec![0xAA; MOST_RECORDS * RECORD_BYTES],
+                Call::Compile(_) => vec![0xAA; MOST_RECORDS * RECORD_SIZE],
                 _ => Vec::new(),
             },
         }
@@ -325,15 +317,15 @@ impl Work {
                     refusal: built.refusal,
                     bytes: built.parts,
                     pairs: built.rows,
-                    all: built.splits * SET_BYTES == built.parts * SPLIT_BYTES,
+                    all: built.splits * SET_SIZE == built.parts * SPLIT_SIZE,
                 }
             }
             Call::Extended(work) => {
-                let record = &mut buffers.flow[..extended::FLOW_SIZE];
+                let record = &mut buffers.flow[..X_FLOW_SIZE];
                 (side.extended)(work, record, &mut buffers.pairs)
             }
             Call::Segment(work) => {
-                buffers.held.resize(resends::HELD_SIZE, 0xAA);
+                buffers.held.resize(HELD_SIZE, 0xAA);
                 (side.segment)(work, &mut buffers.held)
             }
             Call::CheckCertificate(work) => checked((side.check_certificate)(work)),
@@ -414,7 +406,7 @@ impl Work {
             assert_eq!(answer.pairs, due, "{}: pairs", self.name);
             if let Call::SplitFeed { bound, table, .. } = &self.call {
                 let refusal = ordinary::check_table(&self.list, *bound, &lent(table));
-                let more = *bound == 1 && table.splits.len() / SPLIT_BYTES > MOST_PARTS + 1;
+                let more = *bound == 1 && table.splits.len() / SPLIT_SIZE > MOST_PARTS + 1;
                 assert_eq!(refusal, if more { 11 } else { 0 }, "{}: table", self.name);
             }
         }
@@ -462,17 +454,17 @@ fn number(n: usize) -> String {
 
 /// The bytes of a table's index.
 fn index_bytes(table: &Table) -> usize {
-    SET_BYTES + ENTRY_BYTES * (table.splits.len() / SPLIT_BYTES)
+    SET_SIZE + ENTRY_SIZE * (table.splits.len() / SPLIT_SIZE)
 }
 
 /// A prepared feed from a frontier, with the split that has it and the index of a table for a list, which ordinary Rust fills.
 fn prepared_fed(list: &[u8], bound: u64, table: Table, first: Bytes, piece: Vec<u8>) -> Call {
     let mut index = vec![0; index_bytes(&table)];
-    let refusal = places::fill_index(list, bound, &lent(&table), &mut index);
+    let refusal = index::fill_index(list, bound, &lent(&table), &mut index);
     assert_eq!(refusal, 0, "the index is filled");
     let flow = inputs::flow_at(first);
-    let mut splits = table.splits.chunks(SPLIT_BYTES);
-    let split = splits.position(|split| split[..SET_BYTES] == flow[..SET_BYTES]);
+    let mut splits = table.splits.chunks(SPLIT_SIZE);
+    let split = splits.position(|split| split[..SET_SIZE] == flow[..SET_SIZE]);
     Call::PreparedFeed {
         split: split.expect("the frontier is a split's") as u32,
         splits: table.splits,
@@ -505,7 +497,7 @@ fn rows() -> Vec<Row> {
         }
     }
     fn matrix_fed(list: &[u8], states: usize, frontier: usize, piece: Vec<u8>) -> Call {
-        let mut matrix = vec![0; states * ROW_BYTES];
+        let mut matrix = vec![0; states * ROW_SIZE];
         assert_eq!(ordinary::fill_matrix(list, &mut matrix), 0, "a matrix");
         Call::MatrixFeed {
             matrix,
@@ -691,14 +683,14 @@ fn rows() -> Vec<Row> {
             }),
         );
     }
-    for set in places::TRAFFIC {
+    for set in index::TRAFFIC {
         for (kind, bytes) in set.kinds {
-            for piece in places::PIECES {
+            for piece in index::PIECES {
                 row(
                     format!("prepared feed, {}, {kind}, pieces of {}", set.name, number(piece)),
                     1,
                     Box::new(move || {
-                        let work = places::Work::new(set.list, bytes, piece);
+                        let work = index::Work::new(set.list, bytes, piece);
                         (set.list.to_vec(), Call::Traffic(work))
                     }),
                 );
@@ -706,8 +698,8 @@ fn rows() -> Vec<Row> {
         }
     }
     let prepared: [(&str, fn() -> Vec<u8>); 4] = [
-        ("64 texts joined", joined::joined),
-        ("64 texts joined and folded", joined::folded),
+        ("64 texts joined", join::joined),
+        ("64 texts joined and folded", join::folded),
         ("1,024 sets, 300 records", || inputs::reaching_list(300, 10, 64)),
         ("4,096 sets, 300 records", || inputs::reaching_list(300, 12, 64)),
     ];
@@ -791,11 +783,11 @@ fn rows() -> Vec<Row> {
         }
     }
     let lists: [(&str, fn() -> Vec<u8>); 2] = [
-        ("64 texts joined", joined::joined),
-        ("64 texts joined and folded", joined::folded),
+        ("64 texts joined", join::joined),
+        ("64 texts joined and folded", join::folded),
     ];
     for (what, list) in lists {
-        for (kind, bytes) in [("a feeder's line", joined::FEEDER), ("many pairs", joined::DENSE)] {
+        for (kind, bytes) in [("a feeder's line", join::FEEDER), ("many pairs", join::DENSE)] {
             row(
                 format!("plain feed, {what}, {kind}"),
                 1,
@@ -824,7 +816,7 @@ fn rows() -> Vec<Row> {
             1,
             Box::new(move || {
                 let list = list();
-                let bytes = ROW_BYTES * ordinary::states_of(&list);
+                let bytes = ROW_SIZE * ordinary::states_of(&list);
                 (list, Call::FillMatrix { bytes })
             }),
         );
@@ -902,35 +894,35 @@ fn rows() -> Vec<Row> {
             (list, Call::CheckTable { bound, table })
         }),
     );
-    for (name, turn, make) in extended::rows() {
+    for (name, turn, make) in machine::rows() {
         row(
             name.to_string(),
             turn,
             Box::new(move || (Vec::new(), Call::Extended(make()))),
         );
     }
-    for (name, turn, make) in resends::rows() {
+    for (name, turn, make) in segment::rows() {
         row(
             name.to_string(),
             turn,
             Box::new(move || (Vec::new(), Call::Segment(make()))),
         );
     }
-    for (name, turn, make) in certificates::rows() {
+    for (name, turn, make) in certificate::rows() {
         row(
             name.to_string(),
             turn,
             Box::new(move || (Vec::new(), Call::CheckCertificate(make()))),
         );
     }
-    for (name, turn, make) in texts::rows() {
+    for (name, turn, make) in text::rows() {
         row(
             name.to_string(),
             turn,
             Box::new(move || (Vec::new(), Call::Compile(make()))),
         );
     }
-    for (name, turn, make) in reasons::rows() {
+    for (name, turn, make) in why::rows() {
         row(
             name.to_string(),
             turn,

@@ -1,6 +1,6 @@
 //! The proved library behind its C face, under the types of the ordinary versions.
 use crate::ordinary::{Built, Fed, Lists, Table};
-use crate::places::{Made, Stood};
+use crate::index::{Made, Stood};
 use crate::raw::{WatchFed, watch_build, watch_check_list, watch_check_table, watch_feed, watch_fill_index, watch_fill_matrix, watch_matrix_feed, watch_open, watch_prepare, watch_prepared_feed, watch_split_feed};
 
 fn fed(answer: WatchFed) -> Fed {

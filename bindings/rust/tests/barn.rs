@@ -1,6 +1,8 @@
 //! The worked examples of the rules, through the safe face, and on the ordinary matcher that the random tests compare with.
 
-mod ordinary;
+mod common;
+
+use common::ordinary;
 
 use ordinary::Automaton;
 use watch::{Fed, Flow, List, Pair, Refusal, SplitError, Table, TableLists};

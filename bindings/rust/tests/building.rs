@@ -1,14 +1,13 @@
-//! Replays the cases of the builder that the second program made, `tools/second/builds`, through the archive and compares each line with
-//! `tools/second/built`. Where a table is built, the check accepts it at bound 1, and flows fed through it and by its index tell the pairs of the plain
-//! feed. So of splits and an index straight from a list, `tools/second/prepares` and `prepared`. `tools/second/README.md` says what the lines have.
+//! Replays the cases of the builder that the second program made, `tools/second/table/builds`, through the archive and compares each line with
+//! `tools/second/table/built`. Where a table is built, the check accepts it at bound 1, and flows fed through it and by its index tell the pairs of the plain
+//! feed. So of splits and an index straight from a list, `tools/second/index/prepares` and `prepared`. `tools/second/README.md` says what the lines have.
 //! `WATCH_VECTORS` may name a smaller number of lines.
 
-#[path = "dice.rs"]
-mod dice;
+mod common;
 
-use dice::Dice;
+use common::dice::Dice;
+use common::stream::{all_lines, digest, read, replay};
 use std::collections::BTreeMap;
-use std::path::PathBuf;
 use watch::{
     raw, Flow, Index, LentLists, List, Pair, Refusal, Table, LENT_CLASSES, LENT_PARTS, LENT_ROWS, LENT_SPLITS,
     PREPARE_INDEX, PREPARE_SPLITS, SET_SIZE, SPLIT_SIZE,
@@ -19,43 +18,6 @@ const FILL: u8 = 255;
 
 /// With no more sets than these a table is fed by its index as well.
 const FEW_SETS: usize = 128;
-
-struct Reader<'a> {
-    data: &'a [u8],
-}
-
-impl<'a> Reader<'a> {
-    fn take(&mut self, count: usize) -> &'a [u8] {
-        let (front, rest) = self.data.split_at(count);
-        self.data = rest;
-        front
-    }
-
-    fn u32(&mut self) -> usize {
-        u32::from_le_bytes(self.take(4).try_into().unwrap()) as usize
-    }
-
-    /// A length, and its bytes in runs: how many zeros, how many bytes after them, these bytes.
-    fn block(&mut self) -> Vec<u8> {
-        let length = self.u32();
-        let mut bytes = Vec::with_capacity(length);
-        while bytes.len() < length {
-            let (zeros, count) = (self.take(1)[0], self.take(1)[0]);
-            bytes.resize(bytes.len() + usize::from(zeros), 0);
-            bytes.extend(self.take(count.into()));
-        }
-        bytes
-    }
-}
-
-fn digest(bytes: &[u8]) -> u64 {
-    bytes.iter().fold(0, |h, &byte| (h * 257 + u64::from(byte) + 1) % 4_294_967_291)
-}
-
-fn file(name: &str) -> Vec<u8> {
-    let path = PathBuf::from(env!("CARGO_MANIFEST_DIR")).join("../../tools/second").join(name);
-    std::fs::read(&path).unwrap_or_else(|error| panic!("{}: {error}", path.display()))
-}
 
 /// Builds in lists of these lengths, each a block of its own; the answer, and the lists.
 fn build(list: &[u8], lent: [usize; 4]) -> (raw::WatchBuilt, [Box<[u8]>; 4]) {
@@ -148,20 +110,15 @@ fn told_by_index(dice: &mut Dice, list: &List, index: &Index<&[u8]>, piece: &[u8
 
 #[test]
 fn what_is_prepared_is_answered_line_by_line() {
-    let most = std::env::var("WATCH_VECTORS").map_or(usize::MAX, |n| n.parse().expect("WATCH_VECTORS is a number"));
-    let (prepares, prepared) = (file("prepares"), String::from_utf8(file("prepared")).unwrap());
-    let mut reader = Reader { data: &prepares };
-    let mut expected = prepared.lines();
     let mut dice = Dice(17);
     let mut counts = BTreeMap::<u32, usize>::new();
     let (mut lines, mut pairs) = (0, 0);
-    while !reader.data.is_empty() && lines < most {
+    replay("tools/second/index/prepares", "tools/second/index/prepared", |reader| {
         let bytes = reader.block();
-        let lent = [(); 2].map(|()| reader.u32());
+        let lent = [(); 2].map(|()| reader.length());
         let (made, lists) = prepare(&bytes, lent);
         lines += 1;
         let lengths = [made.splits, made.index];
-        assert_eq!(Some(line('q', made.refusal, &lengths, &lists).as_str()), expected.next(), "line {lines}");
         *counts.entry(made.refusal).or_default() += 1;
         if made.refusal == 0 {
             let list = List::check(&bytes).unwrap();
@@ -171,11 +128,9 @@ fn what_is_prepared_is_answered_line_by_line() {
             assert_eq!(told_by_index(&mut dice, &list, &index, &piece), plain, "line {lines}");
             pairs += plain.len();
         }
-    }
-    if lines < most {
-        assert_eq!(expected.next(), None, "after line {lines}");
-        assert!(pairs > 500, "{pairs} pairs");
-    }
+        Some(line('q', made.refusal, &lengths, &lists))
+    });
+    assert!(!all_lines() || pairs > 500, "{pairs} pairs");
     println!("preparing: {lines} lines, all equal; {pairs} pairs as the plain feed tells; {counts:?}");
 }
 
@@ -216,20 +171,15 @@ fn fan(letters: u8) -> Vec<u8> {
 
 #[test]
 fn the_builders_cases_are_answered_line_by_line() {
-    let most = std::env::var("WATCH_VECTORS").map_or(usize::MAX, |n| n.parse().expect("WATCH_VECTORS is a number"));
-    let (builds, built) = (file("builds"), String::from_utf8(file("built")).unwrap());
-    let mut reader = Reader { data: &builds };
-    let mut expected = built.lines();
     let mut dice = Dice(16);
     let mut counts = BTreeMap::<u32, usize>::new();
     let (mut lines, mut pairs) = (0, 0);
-    while !reader.data.is_empty() && lines < most {
+    replay("tools/second/table/builds", "tools/second/table/built", |reader| {
         let bytes = reader.block();
-        let lent = [(); 4].map(|()| reader.u32());
+        let lent = [(); 4].map(|()| reader.length());
         let (built, lists) = build(&bytes, lent);
         lines += 1;
         let lengths = [built.classes, built.parts, built.rows, built.splits];
-        assert_eq!(Some(line('b', built.refusal, &lengths, &lists).as_str()), expected.next(), "line {lines}");
         *counts.entry(built.refusal).or_default() += 1;
         if built.refusal == 0 {
             let list = List::check(&bytes).unwrap();
@@ -245,11 +195,9 @@ fn the_builders_cases_are_answered_line_by_line() {
             assert_eq!(told(&list, Some(&table), &piece), plain, "line {lines}");
             pairs += plain.len();
         }
-    }
-    if lines < most {
-        assert_eq!(expected.next(), None, "after line {lines}");
-        assert!(pairs > 500, "{pairs} pairs");
-    }
+        Some(line('b', built.refusal, &lengths, &lists))
+    });
+    assert!(!all_lines() || pairs > 500, "{pairs} pairs");
     println!("building: {lines} lines, all equal; {pairs} pairs as the plain feed tells; {counts:?}");
 }
 
@@ -274,12 +222,11 @@ fn a_table_is_built_in_lent_lists_and_in_its_own() {
 /// The whole way: list, table, index, prepared feed, with the pairs of the program.
 #[test]
 fn the_two_breakfasts_are_told_by_what_is_built() {
-    let folder = PathBuf::from(env!("CARGO_MANIFEST_DIR")).join("../../examples/two-breakfasts");
-    let rules = std::fs::read(folder.join("rules.bin")).unwrap();
+    let rules = read("examples/two-breakfasts/rules.bin");
     let list = List::check(&rules).unwrap();
     let built = Table::build(&list).unwrap();
     for (name, pairs) in [("twice", &["9 42"][..]), ("loud", &["9 42"]), ("once", &[])] {
-        let piece = std::fs::read(folder.join(name)).unwrap();
+        let piece = read(&format!("examples/two-breakfasts/{name}"));
         let lines: Vec<String> = told(&list, Some(&built.table()), &piece).iter().map(Pair::to_string).collect();
         assert_eq!(lines, pairs, "{name}");
     }

@@ -1,12 +1,13 @@
-//! Certificates: replays their outside vectors, `crates/certificate_vectors/stdin`, and the longest, `tools/second/certificates`, through the archive and
-//! compares each line with `crates/certificate_vectors/stdout` and `tools/second/certified`; and runs both feeds beside each other on every list and
+//! Certificates: replays their outside vectors, `crates/certificate_vectors/stdin`, and the longest, `tools/second/certificate/certificates`, through the archive and
+//! compares each line with `crates/certificate_vectors/stdout` and `tools/second/certificate/certified`; and runs both feeds beside each other on every list and
 //! automaton whose certificate is accepted. Every buffer is a heap block of exactly its length. `WATCH_VECTORS` may name a smaller number of lines.
 
-mod dice;
-mod stream;
+mod common;
+
+use common::{dice, stream};
 
 use dice::Dice;
-use stream::{most_lines, read, Reader};
+use stream::{read, replay, Reader};
 use watch::machine::{Certificate, Machine};
 use watch::{machine, raw, Flow, List, Pair, Refusal, ENOUGH_WORDS, NOTE_SIZE, RECORD_SIZE};
 
@@ -55,30 +56,25 @@ impl State {
     }
 }
 
-/// Hands the state at each line of a stream, with its refusal, to a test.
-fn replay(stream: &str, mut test: impl FnMut(usize, &State, u32)) {
-    let (most, stdin) = (most_lines(), read(stream));
-    let (mut reader, mut state, mut lines) = (Reader(&stdin), State::default(), 0);
-    while !reader.0.is_empty() && lines < most {
-        if let Some(refusal) = state.run(&mut reader) {
-            lines += 1;
-            test(lines, &state, refusal);
-        }
-    }
+/// Replays a stream, and hands the state at each line, with its refusal, to a test.
+fn replayed((commands, lines): (&str, &str), mut test: impl FnMut(&State, u32)) {
+    let mut state = State::default();
+    replay(commands, lines, |reader| {
+        let refusal = state.run(reader)?;
+        test(&state, refusal);
+        Some(format!("z {refusal}"))
+    });
 }
 
 const STREAMS: [(&str, &str); 2] = [
     ("crates/certificate_vectors/stdin", "crates/certificate_vectors/stdout"),
-    ("tools/second/certificates", "tools/second/certified"),
+    ("tools/second/certificate/certificates", "tools/second/certificate/certified"),
 ];
 
 #[test]
 fn vectors() {
-    for (stdin, stdout) in STREAMS {
-        let right = read(stdout);
-        let mut expected = std::str::from_utf8(&right).unwrap().lines();
-        replay(stdin, |line, _, refusal| assert_eq!(Some(&*format!("z {refusal}")), expected.next(), "line {line}"));
-        assert!(most_lines() < usize::MAX || expected.next().is_none(), "as many lines as expected");
+    for stream in STREAMS {
+        replayed(stream, |_, _| ());
     }
 }
 
@@ -126,14 +122,14 @@ fn both(list: &List, machine: &Machine, bytes: &[u8], dice: &mut Dice) -> [Vec<P
 fn both_feeds_tell_the_same_pairs() {
     let mut dice = Dice(22);
     let (mut accepted, mut told) = (0, 0);
-    replay(STREAMS[0].0, |line, state, refusal| {
+    replayed(STREAMS[0], |state, refusal| {
         if refusal == 0 {
             let list = List::check(&state.list).unwrap();
             let machine = Machine::check(&state.moves, &state.programs).unwrap();
             for _ in 0..3 {
                 let bytes = traffic(&state.list, &mut dice);
                 let [listed, counted] = both(&list, &machine, &bytes, &mut dice);
-                assert_eq!(listed, counted, "line {line}");
+                assert_eq!(listed, counted, "certificate {accepted}");
                 told += listed.len();
             }
             accepted += 1;

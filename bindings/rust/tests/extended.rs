@@ -2,24 +2,16 @@
 //! compares each line with `crates/extended_vectors/stdout`; and feeds the worked example, `examples/long-line`, beside its list. Every buffer is a
 //! heap block of exactly its length. `WATCH_VECTORS` may name a smaller number of lines.
 
-mod stream;
+mod common;
 
-use stream::{most_lines, read, Reader};
+use common::stream;
+
+use stream::{digest, digest_words, read, replay, Reader};
 use watch::machine::{Flow, Machine};
 use watch::{raw, List, Pair, Refusal, X_FLOW_SIZE, X_OFF};
 
-const WORD_FILL: u32 = 2_774_138_880;
-
-fn digest(bytes: impl IntoIterator<Item = u8>) -> u64 {
-    bytes.into_iter().fold(0, |h, byte| (h * 257 + u64::from(byte) + 1) % 4_294_967_291)
-}
-
 fn digests(words: &[u32], record: &[u8]) -> String {
-    format!("{} {}", digest(words.iter().flat_map(|word| word.to_le_bytes())), digest(record.iter().copied()))
-}
-
-fn filled(words: u64) -> Box<[u32]> {
-    (0..words as u32).map(|i| WORD_FILL.wrapping_add(i)).collect()
+    format!("{} {}", digest_words(words), digest(record))
 }
 
 /// What the commands work on.
@@ -42,14 +34,14 @@ impl State {
             // SAFETY, here and below: pointers and lengths are those of blocks that live over the call and do not overlap.
             b'c' => return Some(format!("c {}", unsafe { raw::watch_x_check(m, ml, p, pl) })),
             b'o' => {
-                let mut words = filled(reader.number(4));
+                let mut words = reader.words();
                 let (record, length) = (self.record.as_mut_ptr(), self.record.len());
                 let opened =
                     unsafe { raw::watch_x_open(m, ml, p, pl, record, length, words.as_mut_ptr(), words.len()) };
                 return Some(format!("o {} {} {}", opened.refusal, opened.pairs, digests(&words, &self.record)));
             }
             b'f' => {
-                let (start, mut words, piece) = (reader.number(8), filled(reader.number(4)), reader.block());
+                let (start, mut words, piece) = (reader.number(8), reader.words(), reader.block());
                 let (record, length) = (self.record.as_mut_ptr(), self.record.len());
                 let fed = unsafe {
                     raw::watch_x_feed(
@@ -78,18 +70,8 @@ impl State {
 
 #[test]
 fn vectors() {
-    let most = most_lines();
-    let (stdin, stdout) = (read("crates/extended_vectors/stdin"), read("crates/extended_vectors/stdout"));
-    let mut expected = std::str::from_utf8(&stdout).unwrap().lines().enumerate();
-    let (mut reader, mut state, mut lines) = (Reader(&stdin), State::default(), 0);
-    while !reader.0.is_empty() && lines < most {
-        if let Some(line) = state.run(&mut reader) {
-            let (number, wanted) = expected.next().expect("no more lines than expected");
-            assert_eq!(line, wanted, "line {}", number + 1);
-            lines += 1;
-        }
-    }
-    assert!(lines == most || expected.next().is_none(), "as many lines as expected");
+    let mut state = State::default();
+    replay("crates/extended_vectors/stdin", "crates/extended_vectors/stdout", |reader| state.run(reader));
 }
 
 #[test]

@@ -1,8 +1,9 @@
 //! Many texts in one list: the pairs of random texts compiled together are those of each text by itself, whatever is joined first and whether or not the
 //! lists are folded; and the refusals 27 and 28, with the limits on both sides.
 
-#[path = "dice.rs"]
-mod dice;
+mod common;
+
+use common::dice;
 
 use dice::Dice;
 use std::collections::BTreeSet;

@@ -6,8 +6,9 @@
 //! by as many parts as it has slots or fewer. With `WATCH_CALLS` at 500,000 or more the same is run again with a list of the most
 //! records.
 
-mod dice;
-mod ordinary;
+mod common;
+
+use common::{dice, number, ordinary};
 
 use dice::Dice;
 use ordinary::{bytes_of, Automaton, Set};
@@ -262,7 +263,7 @@ fn a_table_of_the_largest_size() {
 
 #[test]
 fn a_table_of_the_largest_size_on_the_longest_list() {
-    let calls = std::env::var("WATCH_CALLS").map_or(0, |n| n.parse::<usize>().expect("WATCH_CALLS is a number"));
+    let calls = number("WATCH_CALLS", 0);
     if calls >= 500_000 {
         run(MOST_RECORDS);
     } else {

@@ -2,8 +2,9 @@
 //! beside the bytes of the example and beside a model of its own, instructions beside the check,
 //! and the search beside the certificates of the outside vectors and inputs that show a difference.
 
-mod dice;
-mod stream;
+mod common;
+
+use common::{dice, stream};
 
 use dice::Dice;
 use stream::{read, Reader};

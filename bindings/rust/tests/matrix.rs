@@ -1,9 +1,9 @@
 //! The bit matrix through the archive: its sets by their definition, the matrix feed beside the plain feed on random lists and flows, and beside a
 //! feed that reads the stored sets on matrices of any content. `WATCH_MATRICES` is the number of lists (60 unless it is set).
 
-mod builders;
-mod dice;
-mod ordinary;
+mod common;
+
+use common::{builders, dice, number, ordinary};
 
 use dice::Dice;
 use ordinary::{bytes_of, set_of, Automaton, Set};
@@ -60,7 +60,7 @@ fn the_filler_writes_each_state_s_own_step() {
 
 #[test]
 fn the_matrix_feed_is_the_plain_feed() {
-    let lists: usize = std::env::var("WATCH_MATRICES").map_or(60, |n| n.parse().expect("WATCH_MATRICES is a number"));
+    let lists = number("WATCH_MATRICES", 60) as usize;
     let (mut feeds, mut refusals, mut pairs) = (0, 0, 0);
     for turn in 0..lists {
         let mut dice = Dice(1000 + turn as u64);

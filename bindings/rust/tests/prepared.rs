@@ -1,19 +1,15 @@
 //! The filler and the prepared feed: beside the split feed on random tables, records, starts, pieces and rooms, and on indexes that no filler
 //! wrote. `WATCH_TABLES` is the number of tables (600 unless it is set), `WATCH_SEED` another seed.
 
-mod builders;
-mod dice;
-mod ordinary;
+mod common;
+
+use common::{builders, dice, number, ordinary};
 
 use builders::Lists;
 use dice::Dice;
 use ordinary::Automaton;
 use watch::{Flow, Index, List, Refusal, SplitError, Table, TableLists};
 use watch::{ENTRY_SIZE, FLOW_SIZE, OFFSET_AT, RESERVED_AT, SET_SIZE, SPLIT_SIZE, TELLING};
-
-fn number(name: &str, default: u64) -> u64 {
-    std::env::var(name).map_or(default, |text| text.parse().expect("a number"))
-}
 
 /// A list, and a table that the check accepts for it.
 fn accepted(dice: &mut Dice) -> (Vec<u8>, Lists) {

@@ -2,9 +2,9 @@
 //! buffer that could be written, with some more on either side of it. `WATCH_CALLS` is the number of calls (20,000 unless it is
 //! set), `WATCH_SEED` another seed.
 
-mod builders;
-mod dice;
-mod ordinary;
+mod common;
+
+use common::{builders, dice, number, ordinary};
 
 use builders::Lists;
 use dice::Dice;
@@ -379,10 +379,6 @@ impl<'d> Case<'d> {
             }
         }
     }
-}
-
-fn number(name: &str, default: u64) -> u64 {
-    std::env::var(name).map_or(default, |text| text.parse().unwrap_or_else(|_| panic!("{name} is a number")))
 }
 
 #[test]

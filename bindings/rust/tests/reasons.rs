@@ -2,9 +2,11 @@
 //! why of every pair that feeds by the list and a matrix tell of the example. Every buffer is a heap block of exactly its length.
 //! `WATCH_VECTORS` may name a smaller number of lines.
 
-mod stream;
+mod common;
 
-use stream::{most_lines, read, Reader};
+use common::stream;
+
+use stream::{digest, lent_bytes, read, replay, Reader};
 use watch::{raw, Flow, List, Matrix, Question, ENOUGH_WORDS};
 
 /// What the commands work on.
@@ -13,10 +15,6 @@ struct State {
     list: Box<[u8]>,
     record: Box<[u8]>,
     piece: Box<[u8]>,
-}
-
-fn digest(bytes: &[u8]) -> u64 {
-    bytes.iter().fold(0, |h, byte| (h * 257 + u64::from(*byte) + 1) % 4294967291)
 }
 
 impl State {
@@ -43,7 +41,7 @@ impl State {
         let (start, asked, offset) = (reader.number(8), reader.number(4) as u32, reader.number(8));
         let (states, bytes) = (reader.number(4) as usize, reader.number(4) as usize);
         let mut run: Box<[u16]> = (0..states).map(|i| (40000 + i) as u16).collect();
-        let mut work: Box<[u8]> = (0..bytes).map(|i| (165 + i) as u8).collect();
+        let mut work = lent_bytes(bytes);
         let call = if of_state { raw::watch_why_state } else { raw::watch_why };
         // SAFETY: pointers and lengths are those of blocks that live over the call, and those that are written overlap nothing.
         let refusal = unsafe {
@@ -70,16 +68,8 @@ impl State {
 
 #[test]
 fn vectors() {
-    let (stdin, stdout) = (read("crates/reason_vectors/stdin"), read("crates/reason_vectors/stdout"));
-    let mut expected = std::str::from_utf8(&stdout).unwrap().lines();
-    let (mut reader, mut state, mut lines) = (Reader(&stdin), State::default(), 0);
-    while !reader.0.is_empty() && lines < most_lines() {
-        if let Some(line) = state.run(&mut reader) {
-            lines += 1;
-            assert_eq!(Some(&*line), expected.next(), "line {lines}");
-        }
-    }
-    assert!(most_lines() < usize::MAX || expected.next().is_none(), "as many lines as expected");
+    let mut state = State::default();
+    replay("crates/reason_vectors/stdin", "crates/reason_vectors/stdout", |reader| state.run(reader));
 }
 
 /// Two breakfasts, by the list and by its matrix, in pieces of 7 bytes: every pair told has a run from the opening, and its edges lead from state to state.

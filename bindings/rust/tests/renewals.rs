@@ -1,6 +1,8 @@
 //! Renewals: a flow that is renewed tells, with the offsets of the renewals added, what one that is not renewed tells.
 
-mod dice;
+mod common;
+
+use common::dice;
 
 use dice::Dice;
 use watch::{Flow, List, Refusal, Segments, FLOW_SIZE};

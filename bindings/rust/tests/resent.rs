@@ -1,9 +1,11 @@
 //! Resends and renewals: replays their outside vectors, `crates/resent/stdin`, through the archive and compares each line with `crates/resent/stdout`. Every
 //! buffer is a heap block of exactly its length. `WATCH_VECTORS` may name a smaller number of lines.
 
-mod stream;
+mod common;
 
-use stream::{most_lines, read, Reader};
+use common::stream;
+
+use stream::{digest, digest_words, replay, Reader};
 use watch::raw;
 
 /// Words of an opening.
@@ -22,20 +24,6 @@ struct State {
     length: u32,
 }
 
-fn digest(bytes: &[u8]) -> u64 {
-    bytes.iter().fold(0, |h, byte| (h * 257 + u64::from(*byte) + 1) % 4294967291)
-}
-
-fn digest_words(words: &[u32]) -> u64 {
-    digest(&words.iter().flat_map(|word| word.to_le_bytes()).collect::<Vec<u8>>())
-}
-
-/// Bytes from a seed.
-fn sown(reader: &mut Reader) -> Box<[u8]> {
-    let (count, seed) = (reader.number(4) as usize, reader.number(4) as usize);
-    (0..count).map(|i| (seed + 7 * (i % 256) + i / 256) as u8).collect()
-}
-
 impl State {
     /// Runs one command; one that answers gives its line.
     fn run(&mut self, reader: &mut Reader) -> Option<String> {
@@ -43,8 +31,8 @@ impl State {
             b'L' => self.list = reader.block(),
             b'T' => self.table = [(); 4].map(|()| reader.block()),
             b'R' => self.record = reader.block(),
-            b'H' => self.held = sown(reader),
-            b'S' => self.segment = sown(reader),
+            b'H' => self.held = reader.sown(),
+            b'S' => self.segment = reader.sown(),
             b'P' => self.segment = reader.block(),
             b'o' => return Some(self.open(reader)),
             b'g' => return Some(self.hear(reader)),
@@ -274,14 +262,6 @@ impl State {
 
 #[test]
 fn vectors() {
-    let (stdin, stdout) = (read("crates/resent/stdin"), read("crates/resent/stdout"));
-    let mut expected = std::str::from_utf8(&stdout).unwrap().lines();
-    let (mut reader, mut state, mut lines) = (Reader(&stdin), State::default(), 0);
-    while !reader.0.is_empty() && lines < most_lines() {
-        if let Some(line) = state.run(&mut reader) {
-            lines += 1;
-            assert_eq!(Some(&*line), expected.next(), "line {lines}");
-        }
-    }
-    assert!(most_lines() < usize::MAX || expected.next().is_none(), "as many lines as expected");
+    let mut state = State::default();
+    replay("crates/resent/stdin", "crates/resent/stdout", |reader| state.run(reader));
 }

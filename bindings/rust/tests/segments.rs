@@ -1,6 +1,8 @@
 //! Segments in any order, cut, resent and with other content: what is told is what one plain feed of the bytes that came first tells.
 
-mod dice;
+mod common;
+
+use common::dice;
 
 use dice::Dice;
 use std::collections::BTreeMap;

@@ -3,56 +3,13 @@
 //! compares the pairs with the ends that the text's tree gives. `WATCH_VECTORS` may name a smaller number of lines, `WATCH_CALLS` the number of
 //! random calls (20,000 unless it is set), of which there is a text for each four hundred.
 
-#[path = "dice.rs"]
-mod dice;
+mod common;
 
-use dice::Dice;
+use common::dice::Dice;
+use common::number;
+use common::stream::{digest, digest_words, lent_bytes, replay, Reader};
 use std::collections::BTreeSet;
-use std::path::PathBuf;
 use watch::{raw, CompileError, Flow, List, Pair, Refusal, Table, FLOW_SIZE, MOST_LIST};
-
-const WORD_FILL: u32 = 2_774_138_880;
-const LIST_FILL: usize = 165;
-
-fn read(path: &str) -> Vec<u8> {
-    let path = PathBuf::from(env!("CARGO_MANIFEST_DIR")).join("../..").join(path);
-    std::fs::read(&path).unwrap_or_else(|error| panic!("{}: {error}", path.display()))
-}
-
-fn number(name: &str, otherwise: usize) -> usize {
-    std::env::var(name).map_or(otherwise, |text| text.parse().unwrap_or_else(|_| panic!("{name} is a number")))
-}
-
-struct Reader<'a>(&'a [u8]);
-
-impl<'a> Reader<'a> {
-    fn take(&mut self, count: usize) -> &'a [u8] {
-        let (front, rest) = self.0.split_at(count);
-        self.0 = rest;
-        front
-    }
-
-    fn u32(&mut self) -> usize {
-        u32::from_le_bytes(self.take(4).try_into().unwrap()) as usize
-    }
-
-    /// A length, and its bytes in runs: how many zeros, how many bytes after them, these bytes.
-    fn block(&mut self) -> Box<[u8]> {
-        let length = self.u32();
-        let mut bytes = Vec::with_capacity(length);
-        while bytes.len() < length {
-            let (zeros, count) = (self.take(1)[0], self.take(1)[0]);
-            bytes.resize(bytes.len() + usize::from(zeros), 0);
-            bytes.extend(self.take(count.into()));
-        }
-        assert_eq!(bytes.len(), length, "runs of a block");
-        bytes.into()
-    }
-}
-
-fn digest(bytes: impl IntoIterator<Item = u8>) -> u64 {
-    bytes.into_iter().fold(0, |h, byte| (h * 257 + u64::from(byte) + 1) % 4_294_967_291)
-}
 
 /// What the commands work on.
 #[derive(Default)]
@@ -69,24 +26,23 @@ impl State {
                 self.text = reader.block();
                 None
             }
-            b'k' => Some(self.compile(reader.take(1)[0], reader.u32())),
-            b'm' => Some(self.matched(reader.u32(), &reader.block())),
+            b'k' => Some(self.compile(reader.take(1)[0], reader.length())),
+            b'm' => Some(self.matched(reader.words(), &reader.block())),
             other => panic!("no such command: {other}"),
         }
     }
 
     fn compile(&mut self, signature: u8, lent: usize) -> String {
-        let mut list: Box<[u8]> = (0..lent).map(|i| (LIST_FILL + i) as u8).collect();
+        let mut list = lent_bytes(lent);
         let text = &self.text;
         // SAFETY: pointers and lengths are those of blocks that live over the call and do not overlap.
         let raw::WatchCompiled { place, length, refusal } =
             unsafe { raw::watch_compile(text.as_ptr(), text.len(), signature, list.as_mut_ptr(), list.len()) };
         self.list = list[..length as usize].into();
-        format!("k {refusal} {place} {length} {}", digest(list.iter().copied()))
+        format!("k {refusal} {place} {length} {}", digest(&list))
     }
 
-    fn matched(&self, words: usize, piece: &[u8]) -> String {
-        let mut words: Box<[u32]> = (0..words as u32).map(|i| WORD_FILL.wrapping_add(i)).collect();
+    fn matched(&self, mut words: Box<[u32]>, piece: &[u8]) -> String {
         let (list, length, mut record) = (self.list.as_ptr(), self.list.len(), [0; FLOW_SIZE]);
         let flow = record.as_mut_ptr();
         // SAFETY: as above.
@@ -106,7 +62,7 @@ impl State {
                 rest.len(),
             )
         };
-        let told = digest(words.iter().flat_map(|word| word.to_le_bytes()));
+        let told = digest_words(&words);
         let all = u32::from(fed.all);
         format!("m {} {} {} {} {} {all} {told}", opened.refusal, opened.pairs, fed.refusal, fed.bytes, fed.pairs)
     }
@@ -114,18 +70,8 @@ impl State {
 
 #[test]
 fn vectors() {
-    let most = number("WATCH_VECTORS", usize::MAX);
-    let (stdin, stdout) = (read("crates/text_vectors/stdin"), read("crates/text_vectors/stdout"));
-    let mut expected = std::str::from_utf8(&stdout).unwrap().lines().enumerate();
-    let (mut reader, mut state, mut lines) = (Reader(&stdin), State::default(), 0);
-    while !reader.0.is_empty() && lines < most {
-        if let Some(line) = state.run(&mut reader) {
-            let (number, wanted) = expected.next().expect("no more lines than expected");
-            assert_eq!(line, wanted, "line {}, text {:?}", number + 1, String::from_utf8_lossy(&state.text));
-            lines += 1;
-        }
-    }
-    assert!(lines == most || expected.next().is_none(), "as many lines as expected");
+    let mut state = State::default();
+    let lines = replay("crates/text_vectors/stdin", "crates/text_vectors/stdout", |reader| state.run(reader));
     println!("texts: {lines} lines as expected");
 }
 

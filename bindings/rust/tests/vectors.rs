@@ -1,49 +1,12 @@
-//! Replays the outside vectors, `crates/vectors/stdin`, through the seven functions of the archive and compares each line with
+//! Replays the outside vectors, `crates/vectors/stdin`, through the archive and compares each line with
 //! `crates/vectors/stdout`. `tools/second/README.md` says what the commands are. Every buffer is a heap block of exactly its length, so
 //! that a memory checker sees any step outside it. Under one, `WATCH_VECTORS` may name a smaller number of lines.
 
+mod common;
+
+use common::stream::{digest, digest_words, replay, Reader};
 use std::collections::BTreeMap;
-use std::path::PathBuf;
 use watch::raw;
-
-const WORD_FILL: u32 = 2_774_138_880;
-
-struct Reader<'a> {
-    data: &'a [u8],
-}
-
-impl<'a> Reader<'a> {
-    fn take(&mut self, count: usize) -> &'a [u8] {
-        let (front, rest) = self.data.split_at(count);
-        self.data = rest;
-        front
-    }
-
-    fn u32(&mut self) -> u32 {
-        u32::from_le_bytes(self.take(4).try_into().unwrap())
-    }
-
-    fn u64(&mut self) -> u64 {
-        u64::from_le_bytes(self.take(8).try_into().unwrap())
-    }
-
-    /// A length, and its bytes in runs: how many zeros, how many bytes after them, these bytes.
-    fn block(&mut self) -> Box<[u8]> {
-        let length = self.u32() as usize;
-        let mut bytes = Vec::with_capacity(length);
-        while bytes.len() < length {
-            let (zeros, count) = (self.take(1)[0], self.take(1)[0]);
-            bytes.resize(bytes.len() + usize::from(zeros), 0);
-            bytes.extend(self.take(count.into()));
-        }
-        assert_eq!(bytes.len(), length, "runs of a block");
-        bytes.into()
-    }
-}
-
-fn digest(bytes: impl IntoIterator<Item = u8>) -> u64 {
-    bytes.into_iter().fold(0, |h, byte| (h * 257 + u64::from(byte) + 1) % 4_294_967_291)
-}
 
 fn fed_line(name: char, fed: raw::WatchFed, split: Option<u32>, words: &[u32], record: &[u8]) -> (u32, String) {
     let line = format!(
@@ -53,8 +16,8 @@ fn fed_line(name: char, fed: raw::WatchFed, split: Option<u32>, words: &[u32], r
         fed.pairs,
         u32::from(fed.all),
         split.map_or(String::new(), |split| format!(" {split}")),
-        digest(words.iter().flat_map(|word| word.to_le_bytes())),
-        digest(record.iter().copied())
+        digest_words(&words),
+        digest(record)
     );
     (fed.refusal, line)
 }
@@ -94,7 +57,7 @@ impl State {
                 return None;
             }
             'N' => {
-                let (length, at, part) = (reader.u32() as usize, reader.u32() as usize, reader.block());
+                let (length, at, part) = (reader.length(), reader.length(), reader.block());
                 let mut bytes = std::mem::take(&mut self.matrix).into_vec();
                 bytes.resize(length, 0);
                 bytes[at..at + part.len()].copy_from_slice(&part);
@@ -102,8 +65,7 @@ impl State {
                 return None;
             }
             'S' => {
-                let (length, seed) = (reader.u32() as usize, reader.u32() as usize);
-                self.matrix = (0..length).map(|i| (seed + 7 * (i % 256) + i / 256) as u8).collect();
+                self.matrix = reader.sown();
                 return None;
             }
             'R' => {
@@ -116,21 +78,16 @@ impl State {
                 (refusal, format!("c {refusal}"))
             }
             'o' => {
-                let mut words: Box<[u32]> = (0..reader.u32()).map(|i| WORD_FILL + i).collect();
+                let mut words = reader.words();
                 let (record, length) = (self.record.as_mut_ptr(), self.record.len());
                 let opened = unsafe { raw::watch_open(l, n, record, length, words.as_mut_ptr(), words.len()) };
-                let line = format!(
-                    "o {} {} {} {}",
-                    opened.refusal,
-                    opened.pairs,
-                    digest(words.iter().flat_map(|word| word.to_le_bytes())),
-                    digest(self.record.iter().copied())
-                );
+                let line =
+                    format!("o {} {} {} {}", opened.refusal, opened.pairs, digest_words(&words), digest(&self.record));
                 (opened.refusal, line)
             }
             'f' => {
-                let start = reader.u64();
-                let mut words: Box<[u32]> = (0..reader.u32()).map(|i| WORD_FILL + i).collect();
+                let start = reader.number(8);
+                let mut words = reader.words();
                 let piece = reader.block();
                 let fed = unsafe {
                     raw::watch_feed(
@@ -148,7 +105,7 @@ impl State {
                 fed_line('f', fed, None, &words, &self.record)
             }
             'k' => {
-                let bound = reader.u64();
+                let bound = reader.number(8);
                 let refusal = unsafe {
                     raw::watch_check_table(
                         l,
@@ -167,8 +124,8 @@ impl State {
                 (refusal, format!("k {refusal}"))
             }
             's' => {
-                let (bound, start) = (reader.u64(), reader.u64());
-                let mut words: Box<[u32]> = (0..reader.u32()).map(|i| WORD_FILL + i).collect();
+                let (bound, start) = (reader.number(8), reader.number(8));
+                let mut words = reader.words();
                 let piece = reader.block();
                 let fed = unsafe {
                     raw::watch_split_feed(
@@ -196,11 +153,11 @@ impl State {
             }
             'm' => {
                 let refusal = unsafe { raw::watch_fill_matrix(l, n, self.matrix.as_mut_ptr(), self.matrix.len()) };
-                (refusal, format!("m {refusal} {}", digest(self.matrix.iter().copied())))
+                (refusal, format!("m {refusal} {}", digest(&self.matrix)))
             }
             'x' => {
-                let start = reader.u64();
-                let mut words: Box<[u32]> = (0..reader.u32()).map(|i| WORD_FILL + i).collect();
+                let start = reader.number(8);
+                let mut words = reader.words();
                 let piece = reader.block();
                 let fed = unsafe {
                     raw::watch_matrix_feed(
@@ -220,7 +177,7 @@ impl State {
                 fed_line('x', fed, None, &words, &self.record)
             }
             'i' => {
-                let bound = reader.u64();
+                let bound = reader.number(8);
                 let refusal = unsafe {
                     raw::watch_fill_index(
                         l,
@@ -238,11 +195,11 @@ impl State {
                         self.matrix.len(),
                     )
                 };
-                (refusal, format!("i {refusal} {}", digest(self.matrix.iter().copied())))
+                (refusal, format!("i {refusal} {}", digest(&self.matrix)))
             }
             'p' => {
-                let (split, start) = (reader.u32(), reader.u64());
-                let mut words: Box<[u32]> = (0..reader.u32()).map(|i| WORD_FILL + i).collect();
+                let (split, start) = (reader.u32(), reader.number(8));
+                let mut words = reader.words();
                 let piece = reader.block();
                 let stood = unsafe {
                     raw::watch_prepared_feed(
@@ -270,30 +227,15 @@ impl State {
     }
 }
 
-fn vectors(name: &str) -> Vec<u8> {
-    let path = PathBuf::from(env!("CARGO_MANIFEST_DIR")).join("../../crates/vectors").join(name);
-    std::fs::read(&path).unwrap_or_else(|error| panic!("{}: {error}", path.display()))
-}
-
 #[test]
 fn the_vectors_are_answered_line_by_line() {
-    let most = std::env::var("WATCH_VECTORS").map_or(usize::MAX, |n| n.parse().expect("WATCH_VECTORS is a number"));
-    let (stdin, stdout) = (vectors("stdin"), String::from_utf8(vectors("stdout")).unwrap());
-    let mut expected = stdout.lines();
-    let mut reader = Reader { data: &stdin };
     let mut state = State::default();
     let mut counts = BTreeMap::<(char, u32), usize>::new();
-    let mut lines = 0;
-    while !reader.data.is_empty() && lines < most {
-        if let Some((name, refusal, line)) = state.run(&mut reader) {
-            lines += 1;
-            assert_eq!(Some(line.as_str()), expected.next(), "line {lines}");
-            *counts.entry((name, refusal)).or_default() += 1;
-        }
-    }
-    if lines < most {
-        assert_eq!(expected.next(), None, "after line {lines}");
-    }
+    let lines = replay("crates/vectors/stdin", "crates/vectors/stdout", |reader| {
+        let (name, refusal, line) = state.run(reader)?;
+        *counts.entry((name, refusal)).or_default() += 1;
+        Some(line)
+    });
     println!("vectors: {lines} lines, all equal");
     for (entry, name) in [
         ('c', "list check"),

@@ -1,9 +1,9 @@
 //! Openings and feeds of whole pieces: `open_all`, `feed_all` and `split_feed_all` tell what one call with room for all pairs tells, in
 //! the same order, and leave the same record, however often they pause.
 
-mod builders;
-mod dice;
-mod ordinary;
+mod common;
+
+use common::{builders, dice, ordinary};
 
 use dice::Dice;
 use ordinary::Automaton;

@@ -1,0 +1,181 @@
+//! Why a pair is due: the proved question, ordinary Rust of the same algorithm, and the rows that compare them. A call asks why of the last pair of its piece.
+use crate::inputs;
+use crate::ordinary::{accepted, check_list, records, start_set, step, Fed, States};
+use crate::raw::watch_why;
+use crate::sizes::{FLOW_SIZE, SET_SIZE, STATES};
+
+/// What is asked: a list, an opened record, the bytes of a flow, and the signature that ends with them.
+pub struct Work {
+    list: Vec<u8>,
+    flow: [u8; FLOW_SIZE],
+    piece: Vec<u8>,
+    signature: u32,
+}
+
+impl Work {
+    /// The bytes of flow that a call explains.
+    pub fn bytes(&self) -> Option<usize> {
+        Some(self.piece.len())
+    }
+}
+
+type Record = [u8; 8];
+
+fn from(record: &Record) -> u16 {
+    u16::from_le_bytes([record[4], record[5]])
+}
+
+fn target(record: &Record) -> u16 {
+    u16::from_le_bytes([record[6], record[7]])
+}
+
+fn has(set: &States, s: u16) -> bool {
+    set.0[usize::from(s / 64)] >> (s % 64) & 1 == 1
+}
+
+fn takes(record: &Record, byte: u8) -> bool {
+    let within = |byte: u8| record[1] <= byte && byte <= record[2];
+    record[0] == 1
+        && (within(byte) || record[3] == 1 && byte.is_ascii_alphabetic() && within(byte ^ 32))
+}
+
+/// The lowest state of the frontier from which such a record leads to t.
+fn lowest(list: &[Record], frontier: &States, t: u16, such: impl Fn(&Record) -> bool) -> u16 {
+    let leads =
+        |record: &&Record| target(record) == t && such(record) && has(frontier, from(record));
+    list.iter()
+        .filter(leads)
+        .map(from)
+        .min()
+        .unwrap_or(STATES as u16)
+}
+
+/// The states and the frontiers, and the refusal; both are zeros before.
+#[inline(never)]
+fn why(work: &Work, run: &mut [u16], place: &mut [u8]) -> u32 {
+    let refusal = check_list(&work.list);
+    if refusal != 0 {
+        return refusal;
+    }
+    let list: &[Record] = records(&work.list);
+    let first = States::read(work.flow[..SET_SIZE].try_into().unwrap());
+    let n = work.piece.len();
+    let last = work
+        .piece
+        .iter()
+        .fold(first, |f, &byte| step(list, f, byte));
+    let mut t = lowest(list, &last, work.signature as u16, |record| record[0] == 3);
+    if usize::from(t) == STATES {
+        return 26;
+    }
+    let mut frontier = first;
+    for (i, set) in place.chunks_exact_mut(SET_SIZE).enumerate().take(n + 1) {
+        for (bytes, word) in set.chunks_exact_mut(8).zip(frontier.0) {
+            bytes.copy_from_slice(&word.to_le_bytes());
+        }
+        if i < n {
+            frontier = step(list, frontier, work.piece[i]);
+        }
+    }
+    for i in (0..n).rev() {
+        run[i + 1] = t;
+        let set = States::read(place[SET_SIZE * i..][..SET_SIZE].try_into().unwrap());
+        t = lowest(list, &set, t, |record| takes(record, work.piece[i]));
+    }
+    run[0] = t;
+    0
+}
+
+/// Both answers as one, so that every state of the run is compared.
+fn answered(refusal: u32, run: &[u16]) -> Fed {
+    Fed {
+        refusal,
+        bytes: run.len() - 1,
+        pairs: run
+            .iter()
+            .fold(7usize, |h, &s| h.wrapping_mul(1025).wrapping_add(s.into())),
+        all: refusal == 0,
+    }
+}
+
+/// The row by ordinary Rust.
+pub fn by_rust(work: &Work, place: &mut Vec<u8>) -> Fed {
+    let mut run = vec![0; work.piece.len() + 1];
+    place.resize(SET_SIZE * run.len(), 0);
+    let refusal = why(work, &mut run, place);
+    answered(refusal, &run)
+}
+
+/// The row by the proved function.
+pub fn proved(work: &Work, place: &mut Vec<u8>) -> Fed {
+    let mut run = vec![0; work.piece.len() + 1];
+    place.resize(SET_SIZE * run.len(), 0);
+    // SAFETY: each pointer and length is that of a slice that is borrowed over the call, and the two that are written overlap nothing.
+    let refusal = unsafe {
+        watch_why(
+            work.list.as_ptr(),
+            work.list.len(),
+            work.flow.as_ptr(),
+            work.flow.len(),
+            0,
+            work.piece.as_ptr(),
+            work.piece.len(),
+            work.signature,
+            work.piece.len() as u64,
+            run.as_mut_ptr(),
+            run.len(),
+            place.as_mut_ptr(),
+            place.len(),
+        )
+    };
+    answered(refusal, &run)
+}
+
+/// The record that opening leaves: state 0 starts.
+fn opened() -> [u8; FLOW_SIZE] {
+    let mut record = [0; FLOW_SIZE];
+    record[0] = 1;
+    record
+}
+
+/// A piece whose last two bytes are an order, and a signature that it ends.
+fn asked(records_of: usize, bytes: fn(usize) -> Vec<u8>) -> Work {
+    let list = inputs::orders_list(records_of);
+    let mut piece = bytes(1022);
+    piece.extend(inputs::telling_bytes(2));
+    let begun = start_set(records(&list));
+    let last = piece
+        .iter()
+        .fold(begun, |f, &byte| step(records(&list), f, byte));
+    let told = accepted(records(&list), last);
+    let signature = (0..256u32)
+        .find(|g| told.0[*g as usize / 64] >> (g % 64) & 1 == 1)
+        .expect("the order is told");
+    Work {
+        list,
+        flow: opened(),
+        piece,
+        signature,
+    }
+}
+
+type Made = (&'static str, u32, fn() -> Work);
+
+/// The rows: name, calls of a turn, and what makes the work.
+pub fn rows() -> [Made; 3] {
+    [
+        (
+            "why, 318 records, 1,022 quiet bytes and an order",
+            1,
+            || asked(318, inputs::quiet_bytes),
+        ),
+        ("why, 318 records, 1,024 bytes of orders", 1, || {
+            asked(318, inputs::telling_bytes)
+        }),
+        (
+            "why, 8,192 records, 1,022 quiet bytes and an order",
+            1,
+            || asked(8192, inputs::quiet_bytes),
+        ),
+    ]
+}

@@ -1,0 +1,17 @@
+"""The stream of joining and folding."""
+
+from second.dice import make_groups
+from second.join import cases
+from second.join.tape import Checked, Tape
+from second.stream import Stream
+
+SEED = 20261121
+
+
+def make(tape):
+    make_groups(tape, SEED, cases.GROUPS)
+
+
+STREAMS = [Stream(
+    "crates/joined_vectors/stdin", "crates/joined_vectors/stdout", Tape, Checked, make,
+    {"j": ("join", [0, 1, 2, 3, 27, 28]), "f": ("fold", [0, 1, 2, 3, 28])})]

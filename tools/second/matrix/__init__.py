@@ -1,0 +1,1 @@
+"""The bit matrix and its feed: the rules, the commands, the cases, and wrong versions of the rules."""

@@ -1,0 +1,1 @@
+"""The questions why: the rules, the commands, the cases, and wrong versions of the rules."""
