@@ -49,17 +49,17 @@ module _ (L : List ℕ) where
 
   -- ---- what holds of a flow between two acts: the automaton comes to its frontier, and rule 4 takes its record
 
-  record At (S : Flow) : Type 0 where
-    reached : Reached L (frontierOf (S .saved))
-    fit : Fit L (S .saved)
+  pub record At (S : Flow) : Type 0 where
+    pub reached : Reached L (frontierOf (S .saved))
+    pub fit : Fit L (S .saved)
 
   -- what an act does from there
-  record Done (S : Flow) (a : Act) : Type 0 where
-    tells : acts a .spoken S ≡ told (plain L) (frontierOf (S .saved)) (S .before + offsetOf (S .saved)) (acts a .eaten S)
-    frontier : frontierOf (acts a .left S .saved) ≡ run (plain L) (frontierOf (S .saved)) (acts a .eaten S)
-    moved : acts a .left S .before + offsetOf (acts a .left S .saved) ≡ S .before + offsetOf (S .saved) + length (acts a .eaten S)
-    passes : Passes L S a
-    at : At (acts a .left S)
+  pub record Done (S : Flow) (a : Act) : Type 0 where
+    pub tells : acts a .spoken S ≡ told (plain L) (frontierOf (S .saved)) (S .before + offsetOf (S .saved)) (acts a .eaten S)
+    pub frontier : frontierOf (acts a .left S .saved) ≡ run (plain L) (frontierOf (S .saved)) (acts a .eaten S)
+    pub moved : acts a .left S .before + offsetOf (acts a .left S .saved) ≡ S .before + offsetOf (S .saved) + length (acts a .eaten S)
+    pub passes : Passes L S a
+    pub at : At (acts a .left S)
 
   -- ---- a feed
 
@@ -126,7 +126,7 @@ module _ (L : List ℕ) where
 
   -- ---- any number of them
 
-  act-done : (S : Flow) (a : Act) → Bytes (acts a .piece) → Meant L S a → At S → Done S a
+  pub act-done : (S : Flow) (a : Act) → Bytes (acts a .piece) → Meant L S a → At S → Done S a
   act-done S (feeding c) h f g = feed-done S c h f g
   act-done S renewing h f g = renew-done S g
 
@@ -152,7 +152,7 @@ module _ (L : List ℕ) where
         passes = (d .passes, ih .passes);
       }
 
-  at-start : At (record { before = 0; saved = opened L })
+  pub at-start : At (record { before = 0; saved = opened L })
   at-start =
       let r : Reached L (frontierOf (opened L)) = rw (opened-frontier L) (reached-start listAutomata L) in
       record { reached = r; fit = (flow-good (start L) 0 0 (omega arith) (omega arith), reached-named L (frontierOf (opened L)) r) }

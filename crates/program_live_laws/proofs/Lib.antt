@@ -1,0 +1,4 @@
+pub mod Following
+pub mod Parts
+pub mod Lines
+pub mod Killed

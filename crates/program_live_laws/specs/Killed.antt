@@ -1,0 +1,67 @@
+-- A live line of bytes that is killed at any time and started again: what a start keeps of the lines are those of one run, up to the place where it goes on.
+use Prim.Native.Nat.{ℕ, _/_, _≤_, _<_}
+use mathlib.Core.Bool.{Bool, true, false, cond}
+use mathlib.Core.List.{List, [], _∷_, _++_}
+use mathlib.Core.Path.{_≡_}
+use lib.ListN.{length, take, drop, replicate}
+use Rattle.feeds.specs.Calls.{Bytes}
+use Rattle.plain.specs.Plain.{openFlow, pairsOf}
+use Rattle.program_text.specs.Text.{lastLine}
+use Rattle.program_live.specs.State.{stateSize, wholeNumbers, longAt, flowOffset, placeAt, linesAt, bytesKind, freshState}
+use Rattle.program_live.specs.Turn.{Turn, noWords, noRecord, linesFrom, turnOf, openTurn}
+
+-- what stands on the disk: the file of lines, and the saved state
+pub record Disk : Type 0 where
+  pub lines : List ℕ
+  pub state : List ℕ
+
+-- where a start goes on in the line, and the lines that it keeps
+abbrev pub place : Disk → ℕ
+place D = longAt (D .state) placeAt
+
+abbrev pub kept : Disk → List ℕ
+kept D = take (longAt (D .state) linesAt) (D .lines)
+
+-- what happens, from a start on: a turn on the next n bytes of the line, or on as many as there are, whose lines and state are handed over whole; or the run is
+-- cut before a state is handed over, and some bytes stand behind the lines
+pub data Event : Type 0 where
+  turned : ℕ → Event
+  cut : List ℕ → Event
+
+-- the turn, on the line B
+abbrev pub turnAt : List ℕ → List ℕ → Disk → ℕ → Turn
+turnAt L B D n = turnOf true false L (D .state) true 0 (take n (drop (place D) B))
+
+-- a turn whose text is the last leaves the state as it is
+unfoldable pub after : List ℕ → List ℕ → Disk → Event → Disk
+after L B D (turned n) = cond (turnAt L B D n .last) D (record { lines = kept D ++ turnAt L B D n .text; state = turnAt L B D n .saved })
+after L B D (cut x) = record { lines = kept D ++ x; state = D .state }
+
+unfoldable pub afterAll : List ℕ → List ℕ → Disk → List Event → Disk
+afterAll L B D [] = D
+afterAll L B D (e ∷ es) = afterAll L B (after L B D e) es
+
+-- behind the opening
+abbrev pub opening : List ℕ → Turn
+opening L = openTurn true L (freshState L bytesKind (replicate stateSize 0))
+
+abbrev pub begun : List ℕ → Disk
+begun L = record { lines = opening L .text; state = opening L .saved }
+
+-- the lines of all pairs due in the first k bytes, from offset 0 on
+abbrev pub linesTo : List ℕ → List ℕ → ℕ → List ℕ
+linesTo L B k = linesFrom 0 (pairsOf L (take k B)) (length (pairsOf L (take k B)) / 2)
+
+-- what is kept is the lines of the bytes before the place, which is the flow's offset: none is lost, none is there twice
+pub record Whole (L B : List ℕ) (D : Disk) : Type 0 where
+  pub within : place D ≤ length B
+  pub offset : flowOffset (D .state) ≡ place D
+  pub lines : kept D ≡ linesTo L B (place D)
+  -- and where the place is the line's end, the turn that finds no byte adds the last line
+  pub ended : place D ≡ length B → (n : ℕ) → kept D ++ turnAt L B D n .text ≡ linesTo L B (length B) ++ lastLine 0 (length B)
+
+-- whatever happens behind an opening that is not refused, on a line whose bytes and whose lines 64 bits count
+abbrev pub Killed : Type 0
+Killed =
+    (L B : List ℕ) → openFlow L noRecord noWords .refusal ≡ 0 → Bytes B → length B < wholeNumbers → length (linesTo L B (length B)) < wholeNumbers
+    → (es : List Event) → Whole L B (afterAll L B (begun L) es)
