@@ -344,7 +344,8 @@
  *     pointer, the red zone. So it is not for a bare interrupt, nor for a kernel that leaves those
  *     to the task that it interrupts: wake a task, and call from there.
  *   - Every call ends; that is proved. Its work is bounded by the lengths that it is given, and
- *     grows as docs/PERFORMANCE.md shows, which also names the archive of each count here.
+ *     grows as docs/PERFORMANCE.md shows. That page and docs/landings name the archives that the
+ *     counts here are of.
  *   - The checks of tables and certificates, watch_build, watch_prepare and the fillers are for
  *     loading, in a task that may take its time. In millions of instructions: the table check
  *     14,876 for 1,024 sets on a full list; watch_build 4,081 for these; the check of a certificate
