@@ -19,7 +19,7 @@ use Rattle.resends.specs.Stream.{Line, numberOf, taken, passed, looking, looks,
 use Rattle.resends.proofs.Streams.{stream}
 use Rattle.resends.proofs.Carried.{carried}
 use Rattle.segments.specs.Segment.{Sent, Kept, Look, nextOf, takeOf, dueOf, fedOf, keptOf, look, behind, lookOn, more, looked, mostLooks, atDoor, feedSegment}
-use Rattle.segments.specs.Calls.{sentOf, hears, doorOf, lookAs, looksFrom, looksAt, Fits}
+use Rattle.segments.specs.Calls.{sentOf, hears, doorOf, lookAs, looksFrom, looksAt}
 use Rattle.segments.specs.Streamed.{allSeen}
 use Rattle.segments.proofs.Looking.{by-look, fed-down, behind-words, more-on, more-off, looked-fitting, looked-off}
 use Rattle.segments.proofs.Streams.{due-bytes, taking-bytes, looks-append, numbered-append, Lies}
@@ -27,9 +27,8 @@ use Rattle.streams.specs.Streams.{listCalls, OnList}
 use Rattle.renewals.specs.Renewal.{renewal}
 use Rattle.demands.specs.Calls.{Call, wayOf}
 use Rattle.renewal_demands.specs.Renewed as renewed
-use Rattle.renewal_demands.specs.Renewed.{raised, Flow, Act, feeding, acts, begun, Meant, Passes, Renewed}
-use Rattle.renewal_demands.specs.Segments.{keptOn}
-use Rattle.renewal_demands.specs.Lines.{Lasting, flowOf, Deed, handing, renewing, firstOf, hearsOn, deeds, seenBy, Handed, Renews, opening, Lasts, ListLasts}
+use Rattle.renewal_demands.specs.Renewed.{raised, Act, feeding, acts, begun, Meant, Passes, Renewed}
+use Rattle.renewal_demands.specs.Lines.{Lasting, flowOf, Deed, handing, renewing, deeds, seenBy, Handed, Renews, opening, ListLasts}
 use Rattle.renewal_demands.proofs.Renewed.{list-renews}
 
 -- whole pairs, and words behind them

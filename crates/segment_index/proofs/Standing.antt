@@ -16,9 +16,6 @@ use Rattle.entries.proofs.Lawful.{stood-few}
 use Rattle.resends.specs.Resend.{circle, taking, due}
 use Rattle.resends.specs.Post.{Takes}
 use Rattle.resends.specs.declared.Held.{Held}
-use Rattle.feeds.specs.Calls.{fedBy}
-use Rattle.feeds.specs.Fed.{Answers}
-use Rattle.feeds.specs.declared.Fed.{Fed}
 use Rattle.segments.specs.Segment.{Sent, Kept, Look, dueOf, looked, mostLooks, doorRules, atDoor}
 use Rattle.segments.specs.Post.{Looks}
 use Rattle.segments.specs.declared.Looked.{Looked}

@@ -1,9 +1,9 @@
 -- The split that a segment by a right index answers is the one where the flow then stands. Assumes nothing.
-use Prim.Native.Nat.{ℕ, zero, suc, _+_, _*_, _/_, _%_, _^_, _<_}
-use mathlib.Core.Path.{_≡_, refl, sym, ap, _∙_}
+use Prim.Native.Nat.{ℕ, zero, suc, _+_, _*_, _/_, _^_, _<_}
+use mathlib.Core.Path.{_≡_, refl, sym, _∙_}
 use mathlib.Core.Bool.{Bool, true, false, cond, true≢false}
 use mathlib.Core.List.{List, _++_}
-use mathlib.Core.Logic.{_⊎_, inl, inr, ⊎-elim}
+use mathlib.Core.Logic.{_⊎_, inl, ⊎-elim}
 use native.Mathlib.Omega.{arith}
 use native.Mathlib.Decide.{ℕ-discrete}
 use lib.ListN.{length, drop}
@@ -21,7 +21,7 @@ use Rattle.flows.specs.Flow.{offsetOf, flowBytes}
 use Rattle.entries.specs.Stand.{indexed, standLayout, standRules, standFeed, stoodAt}
 use Rattle.entries.specs.Right.{Right}
 use Rattle.demands.proofs.Demand1.{demand-1}
-use Rattle.segments.specs.Segment.{Sent, Kept, Look, nextOf, takeOf, dueOf, look, behind, lookOn, more, looked, mostLooks, doorRules, atDoor, feedSegment}
+use Rattle.segments.specs.Segment.{Sent, Kept, Look, nextOf, takeOf, dueOf, look, behind, more, looked, mostLooks, doorRules, atDoor, feedSegment}
 use Rattle.segments.proofs.Looking.{look-idle, look-busy, more-on, more-off}
 use Rattle.segments.proofs.Streams.{due-bytes, taking-bytes}
 use Rattle.segment_index.specs.Standing.{standWay, stoodMore, stoodAfter}

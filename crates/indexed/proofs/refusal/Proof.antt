@@ -1,5 +1,4 @@
 -- `refusal` refuses a record of another size with 4, and tests the others as the feed does. Assumes nothing.
-use borrow.Author.Needs.{needs}
 use native.Mathlib.Omega.{arith}
 use mathlib.Core.Path.{sym, ap, _∙_}
 use mathlib.Core.Bool.{Bool}
