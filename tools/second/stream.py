@@ -8,10 +8,10 @@ from second.tape import read
 ROOT = Path(__file__).resolve().parents[2]
 LINE = "%-22s %6s  %s"
 
-# The two files; the tape, and the one that also checks what it is asked, where there is such; what
+# The family whose counts.txt has its counts; the two files; the tape, and the one that also checks what it is asked, where there is such; what
 # puts the cases on it; of each letter a name and the refusals that have to be there, so often at
 # least; and what else is counted, a function from the tape to lines.
-Stream = namedtuple("Stream", "commands lines tape checked make asked least more",
+Stream = namedtuple("Stream", "family commands lines tape checked make asked least more",
                     defaults=[60, None])
 
 

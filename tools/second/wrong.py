@@ -52,18 +52,13 @@ def pairs(edits):
     return edits[0] if isinstance(edits[0], list) else list(zip(edits[::2], edits[1::2]))
 
 
-def counts_of(stream):
-    """The counts that have a stream's groups."""
-    texts = (path.read_text(encoding="ascii") for path in Path(__file__).parent.glob("*/counts.txt"))
-    return next(text for text in texts if stream.commands + "\n" in text)
-
-
 def grouped(stream, letters):
     """The groups of a stream that have one of these letters."""
     right = (ROOT / stream.lines).read_text(encoding="ascii").splitlines()
     commands = iter(read((ROOT / stream.commands).read_bytes(), stream.tape))
     out, first = [], 0
-    for name, count in groups(stream, counts_of(stream)):
+    counts = (Path(__file__).parent / stream.family / "counts.txt").read_text(encoding="ascii")
+    for name, count in groups(stream, counts):
         lines, asked, answered = right[first:first + count], [], 0
         while answered < count:
             asked.append(next(commands))

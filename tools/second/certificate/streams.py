@@ -24,8 +24,8 @@ def clause_lines(tape):
         ("clause broken alone", "lines"), *((name, tape.broken[name]) for name in [*CLAUSES, "several", "none"]))]
 
 
-CHECKS = Stream("crates/certificate_vectors/stdin", "crates/certificate_vectors/stdout", Tape, None, make,
+CHECKS = Stream("certificate", "crates/certificate_vectors/stdin", "crates/certificate_vectors/stdout", Tape, None, make,
                 {"z": ("certificate check", [0, 1, 2, 3, 22, 24])}, more=clause_lines)
-LONGEST = Stream("tools/second/certificate/certificates", "tools/second/certificate/certified", Longest, None,
+LONGEST = Stream("certificate", "tools/second/certificate/certificates", "tools/second/certificate/certified", Longest, None,
                  make_longest, {})
 STREAMS = [CHECKS, LONGEST]

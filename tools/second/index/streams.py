@@ -13,6 +13,6 @@ def make(tape):
     preparing.make(tape, Dice(SEED))
 
 
-PREPARES = Stream("tools/second/index/prepares", "tools/second/index/prepared", Prepares, None, make,
+PREPARES = Stream("index", "tools/second/index/prepares", "tools/second/index/prepared", Prepares, None, make,
                   {"q": ("preparing", [0, 1, 2, 3, 16, 17])})
 STREAMS = [FEEDS, PREPARES]

@@ -13,5 +13,5 @@ def make(tape):
 
 
 STREAMS = [Stream(
-    "crates/joined_vectors/stdin", "crates/joined_vectors/stdout", Tape, Checked, make,
+    "join", "crates/joined_vectors/stdin", "crates/joined_vectors/stdout", Tape, Checked, make,
     {"j": ("join", [0, 1, 2, 3, 27, 28]), "f": ("fold", [0, 1, 2, 3, 28])})]

@@ -13,6 +13,6 @@ def make(tape):
     building.make(tape, Dice(SEED))
 
 
-BUILDS = Stream("tools/second/table/builds", "tools/second/table/built", Builds, None, make,
+BUILDS = Stream("table", "tools/second/table/builds", "tools/second/table/built", Builds, None, make,
                 {"b": ("builder", [0, 1, 2, 3, 16, 17])}, least=12)
 STREAMS = [FEEDS, BUILDS]
