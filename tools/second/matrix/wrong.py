@@ -32,8 +32,6 @@ WRONG = [
     ("matrix feed: 8 is not looked for in an empty piece", [(LOOKS_FOR_8, LOOKS_FOR_8.replace("not refusal and", "piece and not refusal and"))]),
     ("matrix feed: 8 before 4", [(LOOKS_FOR_8, LOOKS_FOR_8.replace("not refusal and", "refusal in (0, 4, 5, 6) and"))]),
     ("matrix feed: the sets of the next state", [(FINDS_SET, "((state + 1) % states * BYTE_VALUES + byte)")]),
-    ("matrix feed: a state past the highest takes the highest one's sets", [
-        (FINDS_SET, "(min(state, states - 1) * BYTE_VALUES + byte)"), ("for state in frontier if state < states]", "for state in frontier]")]),
     ("matrix feed: the highest has no sets", [("for state in frontier if state < states]", "for state in frontier if state < states - 1]")]),
     ("matrix feed: rows by the states that have sets", [("in places), len(frontier)", "in places), len(places)")]),
     ("matrix feed: rows by the sets that are not empty", [
