@@ -279,7 +279,7 @@ fn say_refused(number: u64, refusal: u32, place: usize) {
     io::print_decimal(SAYS, refusal as u64);
     io::write_all(SAYS, b" at byte ");
     io::print_decimal(SAYS, place as u64);
-    io::write_all(SAYS, b" of the line\n");
+    io::write_all(SAYS, b" of the line, counted from 0\n");
 }
 
 // Says what is wrong with a line.
@@ -576,11 +576,20 @@ fn write_out(out: &[u8], list: &[u8], file: &[u8], names: &[usize]) -> bool {
 
 // ---- the commands
 
+// Says the word behind a number of texts.
+fn say_texts(texts: u64) {
+    if texts == 1 {
+        io::write_all(SAYS, b" text, ");
+        return;
+    }
+    io::write_all(SAYS, b" texts, ");
+}
+
 // Says how many texts, states and records there are.
 fn say_list(texts: u64, list: &[u8]) {
     io::write_all(SAYS, b"watch: ");
     io::print_decimal(SAYS, texts);
-    io::write_all(SAYS, b" texts, ");
+    say_texts(texts);
     io::print_decimal(SAYS, lists::state_count(list) as u64);
     io::write_all(SAYS, b" states, ");
     io::print_decimal(SAYS, lists::records(list) as u64);
@@ -619,11 +628,13 @@ fn compile_texts(file: &[u8], out: &[u8]) {
     let mut names = [0usize; 512];
     let got = take_lines(file, &mut list, &mut one, &mut work, &mut names);
     if got.bad {
+        io::write_all(OUT, b"refused\n");
         return;
     }
     let n = within(&list, got.used);
     if n == 0 {
         fail(b"no text in the file\n");
+        io::write_all(OUT, b"refused\n");
         return;
     }
     say_list(got.texts, &list[..n]);

@@ -1,15 +1,20 @@
 // The program: its first word says what it does, and the words behind it with what.
 mod live;
 
-// The most words of a command, the program's own name among them.
-const MOST_WORDS: usize = 4;
-
 // Whether a word is `run`.
 fn is_run(word: &[u8]) -> bool {
     if word.len() != 3 {
         return false;
     }
     (word[0] == b'r') & (word[1] == b'u') & (word[2] == b'n')
+}
+
+// Whether a word is `why`.
+fn is_why(word: &[u8]) -> bool {
+    if word.len() != 3 {
+        return false;
+    }
+    (word[0] == b'w') & (word[1] == b'h') & (word[2] == b'y')
 }
 
 // Whether a word is `check`.
@@ -65,11 +70,27 @@ fn compile() {
     program_files::compile_file(&file[..n], &out[..m]);
 }
 
+// `watch why DIR FLOW SIGNATURE OFFSET`: says why a pair is told.
+fn why() {
+    let mut folder = io::buffer();
+    let n = os::arg(2, &mut folder);
+    let mut flow = io::buffer();
+    let m = os::arg(3, &mut flow);
+    let mut signature = io::buffer();
+    let g = os::arg(4, &mut signature);
+    let mut offset = io::buffer();
+    let k = os::arg(5, &mut offset);
+    let mut path = io::buffer();
+    let p = program_files::put_both(&mut path, &folder[..n], b"/rules.bin");
+    program_why::why(&path[..p], &flow[..m], &signature[..g], &offset[..k]);
+}
+
 // Says how the program is called.
 fn usage() {
     io::write_all(2, b"usage: watch run DIR < input\n");
     io::write_all(2, b"       watch check DIR\n");
     io::write_all(2, b"       watch compile FILE [OUT]\n");
+    io::write_all(2, b"       watch why DIR FLOW SIGNATURE OFFSET\n");
     live::usage();
 }
 
@@ -85,12 +106,16 @@ fn answer(word: &[u8], words: usize) {
             return;
         }
     }
-    if is_compile(word) {
-        if 2 < words {
-            if words <= MOST_WORDS {
-                compile();
-                return;
-            }
+    if (words == 3) | (words == 4) {
+        if is_compile(word) {
+            compile();
+            return;
+        }
+    }
+    if words == 6 {
+        if is_why(word) {
+            why();
+            return;
         }
     }
     if live::answer(word, words) {
