@@ -4,6 +4,7 @@ pub mod Fields
 pub mod Staying
 pub mod Union
 pub mod Fitting
+pub mod Marking
 pub mod Numbering
 pub mod Outlining
 pub mod Deciding

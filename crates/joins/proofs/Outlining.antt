@@ -15,7 +15,7 @@ module _ (L : List ℕ) where
   pub refused-as : (r : Outline) (k : ℕ) → listRefusal L ≡ k → r .refusal ≡ k → (k ≡ 0 → ⊥) → Outlines L r
   refused-as r k e q n =
       let z : listRefusal L ≡ 0 → ⊥ = λ p. n (sym e ∙ p) in
-      record { refusal = q ∙ sym e; top = λ p. absurd (z p); starts = λ p. absurd (z p); staying = λ p. absurd (z p); reached = λ p. absurd (z p) }
+      record { refusal = q ∙ sym e; top = λ p. absurd (z p); marked = λ p. absurd (z p); starts = λ p. absurd (z p); staying = λ p. absurd (z p); reached = λ p. absurd (z p) }
 
   pub by-length : badLength L ≡ true → listRefusal L ≡ 1
   by-length e = stop 1 _ e

@@ -5,13 +5,12 @@ use sets::StateSet;
 ghost use mathlib.Core.Path.{_≡_};
 ghost use mathlib.Core.Bool.{true, false, _&&_, not, cond};
 ghost use Prim.Native.Nat.{ℕ, suc, _+_, _*_, _<_, _≤_};
-ghost use lib.ListN.{length};
+ghost use lib.ListN.{length, getD, set};
 ghost use Rattle.sets.specs.Set.{states, setOf, num, holds, insert, placed};
-ghost use Rattle.rules.specs.Scan.{every};
-ghost use Rattle.lists.specs.List.{mostRecords, records, isEdge, isStart, target, goodRecord, listRefusal};
-ghost use Rattle.lists.specs.Automaton.{higher, highest};
-ghost use Rattle.joins.specs.inner.Found.{overfull, fits, Outlines, Narrow, Numbers, Plans};
-ghost use Rattle.joins.specs.Join.{stays, lowest, nameBy, renamed, newFrom, newTarget, spare, adds, added, kept};
+ghost use Rattle.lists.specs.List.{mostRecords, records, isStart, target, goodRecord, listRefusal};
+ghost use Rattle.lists.specs.Automaton.{highest};
+ghost use Rattle.joins.specs.inner.Found.{overfull, moves, marksWith, Ends, Outlines, Fitted, Narrow, Numbers, Plans};
+ghost use Rattle.joins.specs.Join.{stays, lowest, nameBy, renamed, spare, adds, added, kept};
 ghost use Rattle.joins.specs.Join.{Joins};
 
 // How the states of the second list are named in the joined one: `next` is the first number that is free; where a state is shared, the second list's
@@ -23,11 +22,12 @@ pub struct Naming {
     pub same: usize,
 }
 
-// What one walk over a list finds: a refusal's number or 0, and then the highest state that it names, the states that start, those with a loop that
-// every byte takes, and those that an edge leads to.
+// What one walk over a list finds: a refusal's number or 0, and then the highest state that it names, a byte for each state that is not 0 where it is
+// named, the states that start, those with a loop that every byte takes, and those that an edge leads to.
 pub struct Outline {
     pub refusal: u32,
     pub top: usize,
+    pub named: [u8; 1024],
     pub starts: StateSet,
     pub staying: StateSet,
     pub reached: StateSet,
@@ -46,41 +46,74 @@ pub struct Joined {
     pub length: usize,
 }
 
+// Bytes 1 and 2 of a record that every byte takes, as one number: 0 and 255.
+const EVERY_BYTE: u64 = 65280;
+
 // Says whether record i is a loop that every byte takes.
 fn stays(list: &[u8], i: usize) -> bool
     requires { ⌜ i < records (now list) ⌝ }
     ensures { λ r. ⌜ r ≡ stays (now (list .entry)) i ⌝ }
 {
     if lists::is_edge(list, i) {
-        (lists::byte_of(list, i, 1) == 0)
-            & (lists::byte_of(list, i, 2) == 255)
+        (sets::whole_number(list, lists::RECORD_SIZE * i + 1, 2) == EVERY_BYTE)
             & (lists::from(list, i) == lists::target(list, i))
     } else {
         false
     }
 }
 
-// Takes record i into the words of three sets, of states that start, that stay and that are reached; answers the higher of n and the states that it
-// names.
+// Makes byte s of the marks 1, where a test holds.
+fn put_mark(marks: &mut [u8], s: usize, test: bool)
+    requires { ⌜ (test ≡ true → s < length (now marks)) ⌝ }
+    ensures { λ _. ⌜ now (marks .exit) ≡ cond test (set (now (marks .entry)) s 1) (now (marks .entry)) ⌝ }
+{
+    if test {
+        marks[s] = 1;
+    }
+}
+
+// Marks the states that a good record i names, and takes it into the words of three sets: of states that start, that stay, and that other edges lead to.
 fn note(
     list: &[u8],
     i: usize,
-    n: usize,
+    named: &mut [u8],
     starts: &mut [u64],
     staying: &mut [u64],
     reached: &mut [u64],
-) -> usize
-    requires { ⌜ i < records (now list) ⌝ }
-    ensures { λ r. ⌜ (r ≡ higher (now (list .entry)) i n)
+)
+    requires { ⌜ (i < records (now list)) × (goodRecord (now list) i ≡ true) × (length (now named) ≡ states) ⌝ }
+    ensures { λ _. ⌜ (now (named .exit) ≡ marksWith (now (list .entry)) i (now (named .entry)))
         × (num 64 (now (starts .exit)) ≡ cond (isStart (now (list .entry)) i) (insert (64 * length (now (starts .entry))) (num 64 (now (starts .entry))) (target (now (list .entry)) i)) (num 64 (now (starts .entry))))
         × (num 64 (now (staying .exit)) ≡ cond (stays (now (list .entry)) i) (insert (64 * length (now (staying .entry))) (num 64 (now (staying .entry))) (target (now (list .entry)) i)) (num 64 (now (staying .entry))))
-        × (num 64 (now (reached .exit)) ≡ cond (isEdge (now (list .entry)) i) (insert (64 * length (now (reached .entry))) (num 64 (now (reached .entry))) (target (now (list .entry)) i)) (num 64 (now (reached .entry)))) ⌝ }
+        × (num 64 (now (reached .exit)) ≡ cond (moves (now (list .entry)) i) (insert (64 * length (now (reached .entry))) (num 64 (now (reached .entry))) (target (now (list .entry)) i)) (num 64 (now (reached .entry)))) ⌝ }
 {
-    let top = lists::higher(list, i, n);
-    lists::put_word(list, i, lists::TARGET, lists::is_start(list, i), starts);
-    lists::put_word(list, i, lists::TARGET, lists::is_edge(list, i), reached);
-    lists::put_word(list, i, lists::TARGET, stays(list, i), staying);
-    top
+    let linked = lists::is_edge(list, i);
+    let starting = lists::is_start(list, i);
+    put_mark(
+        named,
+        lists::from(list, i),
+        linked | lists::is_accept(list, i),
+    );
+    put_mark(named, lists::target(list, i), linked | starting);
+    lists::put_word(list, i, lists::TARGET, starting, starts);
+    let full = stays(list, i);
+    lists::put_word(list, i, lists::TARGET, full, staying);
+    lists::put_word(list, i, lists::TARGET, linked & !full, reached);
+}
+
+// One past the highest place below m whose mark is not 0; 0 where there is none.
+fn end_below(marks: &[u8], m: usize) -> usize
+    requires { ⌜ m ≤ length (now marks) ⌝ }
+    ensures { λ r. ⌜ Ends (now (marks .entry)) m r ⌝ }
+{
+    let mut s = m;
+    while 0 < s {
+        if marks[s - 1] != 0 {
+            return s;
+        }
+        s = s - 1;
+    }
+    s
 }
 
 // The outline of a list that is refused.
@@ -91,6 +124,7 @@ fn refused(refusal: u32) -> Outline
     Outline {
         refusal: refusal,
         top: 0,
+        named: [0u8; 1024],
         starts: none,
         staying: none,
         reached: none,
@@ -109,24 +143,28 @@ fn find_outline(list: &[u8]) -> Outline
     let mut starts = none.words;
     let mut staying = none.words;
     let mut reached = none.words;
-    let mut top = 0usize;
+    let mut named = [0u8; 1024];
     let mut started = false;
     for i in 0..n {
         if !lists::good_record(list, i) {
             return refused(2);
         }
         started = started | lists::is_start(list, i);
-        top = note(list, i, top, &mut starts, &mut staying, &mut reached);
+        note(list, i, &mut named, &mut starts, &mut staying, &mut reached);
     }
     if !started {
         return refused(3);
     }
+    let end = end_below(&named, sets::STATES);
+    let stay = StateSet::of_words(staying);
+    let lead = StateSet::of_words(reached);
     Outline {
         refusal: rules::PASSED,
-        top: top,
+        top: end - 1,
+        named: named,
         starts: StateSet::of_words(starts),
-        staying: StateSet::of_words(staying),
-        reached: StateSet::of_words(reached),
+        staying: stay,
+        reached: lead.union(stay),
     }
 }
 
@@ -223,30 +261,6 @@ fn rename(n: Naming, t: usize) -> usize
     n.next + t
 }
 
-// The state that record i leaves or names, renamed.
-fn new_from(n: Naming, b: &[u8], i: usize) -> usize
-    requires { ⌜ (n .next ≤ 65536) × (i < records (now b)) ⌝ }
-    ensures { λ r. ⌜ r ≡ newFrom n (now (b .entry)) i ⌝ }
-{
-    let t = lists::from(b, i);
-    if lists::is_edge(b, i) | lists::is_accept(b, i) {
-        return rename(n, t);
-    }
-    t
-}
-
-// The state that record i leads to, renamed, or the signature that it gives.
-fn new_target(n: Naming, b: &[u8], i: usize) -> usize
-    requires { ⌜ (n .next ≤ 65536) × (i < records (now b)) ⌝ }
-    ensures { λ r. ⌜ r ≡ newTarget n (now (b .entry)) i ⌝ }
-{
-    let t = lists::target(b, i);
-    if lists::is_edge(b, i) | lists::is_start(b, i) {
-        return rename(n, t);
-    }
-    t
-}
-
 // Says whether the first list has all that record i says.
 fn spare(n: Naming, b: &[u8], i: usize) -> bool
     requires { ⌜ i < records (now b) ⌝ }
@@ -259,14 +273,6 @@ fn spare(n: Naming, b: &[u8], i: usize) -> bool
     }
 }
 
-// Says whether what record i adds names states alone.
-fn fits(n: Naming, b: &[u8], i: usize) -> bool
-    requires { ⌜ (n .next ≤ 65536) × (i < records (now b)) ⌝ }
-    ensures { λ r. ⌜ r ≡ fits n (now (b .entry)) i ⌝ }
-{
-    spare(n, b, i) | (new_from(n, b, i) < sets::STATES) & (new_target(n, b, i) < sets::STATES)
-}
-
 // Says whether k records more behind a pass the lent list, or are more than a list may have.
 fn overfull(a: &[u8], lent: usize, k: usize) -> bool
     requires { ⌜ (listRefusal (now a) ≡ 0) × (k ≤ mostRecords) ⌝ }
@@ -275,21 +281,27 @@ fn overfull(a: &[u8], lent: usize, k: usize) -> bool
     (lent < a.len() + lists::RECORD_SIZE * k) | (lists::MOST_RECORDS < lists::records(a) + k)
 }
 
-// The next record from i on that leads to the shared state, two looked at in a turn; it may stop at one that does not, but passes none that is spare.
+// The next record from i on that leads to the shared state, four looked at in a turn; it may stop at one that does not, but passes none that is spare.
 fn next_spare(n: Naming, b: &[u8], from: usize) -> usize
     requires { ⌜ (listRefusal (now b) ≡ 0) × (from ≤ records (now b)) ⌝ }
     ensures { λ r. ⌜ (from ≤ r) × (r ≤ records (now (b .entry))) × (kept n (now (b .entry)) r + from ≡ kept n (now (b .entry)) from + r) ⌝ }
 {
     let m = lists::records(b);
     let mut i = from;
-    while i + 1 < m {
+    while i + 3 < m {
         if lists::target(b, i) == n.own {
             return i;
         }
         if lists::target(b, i + 1) == n.own {
             return i + 1;
         }
-        i = i + 2;
+        if lists::target(b, i + 2) == n.own {
+            return i + 2;
+        }
+        if lists::target(b, i + 3) == n.own {
+            return i + 3;
+        }
+        i = i + 4;
     }
     i
 }
@@ -318,25 +330,18 @@ fn too_long(a: &[u8], lent: usize, n: Naming, b: &[u8]) -> bool
     true
 }
 
-// Says whether all that b adds names states alone. Where b's highest state gets such a number nothing is read.
-fn all_fit(n: Naming, top: usize, b: &[u8]) -> bool
-    requires { ⌜ (listRefusal (now b) ≡ 0) × (top ≡ highest (now b)) × Narrow n top ⌝ }
-    ensures { λ r. ⌜ r ≡ every (records (now (b .entry))) (fits n (now (b .entry))) ⌝ }
+// Says whether each state that is marked gets the number of a state. The shared one does; so the highest of the others decides.
+fn all_fit(n: Naming, top: usize, named: &[u8]) -> bool
+    requires { ⌜ Narrow n top × (length (now named) ≡ states) × (getD (now named) top 0 ≡ 0 → ⊥) ⌝ }
+    ensures { λ r. ⌜ Fitted n top (now (named .entry)) r ⌝ }
 {
-    let mut most = n.next + top;
     if !n.shared {
-        most = most + 1;
+        return n.next + top < sets::STATES;
     }
-    if most <= sets::STATES {
-        return true;
+    if n.own < top {
+        return n.next + top <= sets::STATES;
     }
-    let m = lists::records(b);
-    for i in 0..m {
-        if !fits(n, b, i) {
-            return false;
-        }
-    }
-    true
+    n.next + end_below(named, n.own) <= sets::STATES
 }
 
 // The new numbers of the states up to the highest.
@@ -418,7 +423,7 @@ fn decide(a: &[u8], used: usize, lent: usize, b: &[u8]) -> Plan
         return stopped(rules::OTHER_LIST);
     }
     let n = name_states(x, y);
-    if (lent < used) | too_long(a, lent, n, b) | !all_fit(n, y.top, b) {
+    if (lent < used) | too_long(a, lent, n, b) | !all_fit(n, y.top, &y.named) {
         return stopped(rules::LIST_ROOM);
     }
     Plan {

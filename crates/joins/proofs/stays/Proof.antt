@@ -1,5 +1,9 @@
--- `stays` is its definition. Assumes nothing.
+-- `stays` is its definition; bytes 1 and 2 are read at once. Assumes nothing.
+use mathlib.Core.Path.{_≡_, sym, _∙_}
+use Rattle.sets.proofs.Bytes.{num-two}
+use Rattle.lists.specs.List.{low, high}
 use Rattle.joins.specs.Join.{stays}
+use Rattle.joins.proofs.Marking.{every-byte}
 use native.Mathlib.Omega.{arith}
 use borrow.Author.Needs.{needs}
 use Rattle.joins.proofs.stays.Statement.{statement}
@@ -8,11 +12,14 @@ use Rattle.joins.proofs.stays.Tie as tie
 is-edge-requires : tie.Need-is-edge-requires
 is-edge-requires c κs = search needs
 
-byte-of-requires : tie.Need-byte-of-requires
-byte-of-requires c κs = search needs
+mul-whole-number : tie.Need-mul-whole-number
+mul-whole-number c = search needs
 
-byte-of-requires-2 : tie.Need-byte-of-requires-2
-byte-of-requires-2 c κs = search needs
+add-whole-number : tie.Need-add-whole-number
+add-whole-number c = search needs
+
+whole-number-requires : tie.Need-whole-number-requires
+whole-number-requires c κs = search needs
 
 from-requires : tie.Need-from-requires
 from-requires c κs = search needs
@@ -22,7 +29,10 @@ target-requires c κs = search needs
 
 returns : tie.Need-returns
 unfolding stays
-returns c = rw (← c .before .before .before .before .before .is-edge .ensures, c .before .before .before .before .if1 .taken) (cc)
+returns c =
+    let a = c .before .before .before .before .before .before .args in
+    let e = every-byte (a .list .now) (λ i. c .before .before .before .before .before .shared-slice-known .given i .fits) (a .i) (c .before .before .before .before .before .before .pre) in
+    rw (← c .before .before .before .before .is-edge .ensures, c .before .before .before .if1 .taken, c .before .before .whole-number .ensures, e, c .before .from .ensures, c .target .ensures)
 
 returns-2 : tie.Need-returns-2
 unfolding stays
@@ -33,8 +43,9 @@ stays-spec =
     tie.close
     (tie.spec
     is-edge-requires
-    byte-of-requires
-    byte-of-requires-2
+    mul-whole-number
+    add-whole-number
+    whole-number-requires
     from-requires
     target-requires
     returns
