@@ -472,7 +472,7 @@ fn take_lines(
 
 // ---- files
 
-// Reads a file into a buffer; answers how many bytes came, more than the buffer has none. None where it cannot be opened.
+// Reads a file into a buffer, up to its end, a read that fails, or the buffer's size; answers how many bytes came, none where it cannot be opened.
 fn read_file(path: &[u8], buffer: &mut [u8]) -> usize
     ensures { λ r. ⌜ Counts r (now (buffer .exit)) ⌝ }
 {

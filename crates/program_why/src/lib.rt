@@ -18,7 +18,7 @@ const MOST_PIECES: usize = 4096;
 // Words for the pairs of a feed.
 const PAIR_WORDS: usize = 2048;
 
-// The refusals of a place outside the flow, and of a pair that is not due.
+// The refusal of a place outside the flow.
 const NOT_A_PLACE: u32 = 25;
 
 // More than the largest number that a word may be.
