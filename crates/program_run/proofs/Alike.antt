@@ -1,10 +1,9 @@
 -- On records that stand alike, a feed by an engine that is checked for the list answers as the plain feed, and leaves records that stand alike. Assumes nothing.
-use Prim.Native.Nat.{ℕ, zero, suc, _+_, _^_, _≤_, _<_}
+use Prim.Native.Nat.{ℕ, zero, suc, _+_, _≤_}
 use mathlib.Core.Path.{_≡_, refl, sym, ap, _∙_}
 use mathlib.Core.List.{List}
 use native.Mathlib.Omega.{arith}
 use lib.ListN.{length, take}
-use Rattle.sets.specs.Set.{states}
 use Rattle.rules.specs.Rules.{Rule, verdict}
 use Rattle.feeds.specs.Engine.{Engine, Outcome, mostOffset, room, run, costs, consumed, ended, feed}
 use Rattle.feeds.specs.Calls.{Bytes, costing, fedBy}

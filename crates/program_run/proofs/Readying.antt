@@ -1,24 +1,23 @@
 -- What a run goes by is checked for its list: the index that is made straight from it, its matrix, or the list itself. Assumes nothing.
-use Prim.Native.Nat.{ℕ, zero, suc, _+_, _*_, _-_, _≤_, _<_}
+use Prim.Native.Nat.{ℕ, zero, suc, _-_, _≤_, _<_}
 use mathlib.Core.Path.{_≡_, refl, sym, ap, _∙_}
-use mathlib.Core.List.{List, [], _∷_, _++_}
+use mathlib.Core.List.{List, _++_}
 use native.Mathlib.Omega.{arith}
-use lib.ListN.{length, take, drop, replicate, length-append, length-drop, length-replicate, take-append-drop}
+use lib.ListN.{length, take, drop, replicate, length-append, length-drop, take-append-drop}
 use lib.Seq.{take-at, length-take-le}
 use borrow.Author.Tests.{eq-eqb, ne-eqb}
 use Rattle.rules.specs.Rules.{verdict}
 use Rattle.rules.proofs.Rules.{passes-front}
 use Rattle.lists.specs.List.{listRules}
-use Rattle.lists.specs.Automaton.{start, highest}
+use Rattle.lists.specs.Automaton.{start}
 use Rattle.lists.proofs.Steps.{start-lt}
-use Rattle.feeds.specs.Engine.{Outcome}
 use Rattle.feeds.specs.Fed.{Answers}
 use Rattle.feeds.specs.declared.Fed.{Fed}
 use Rattle.feeds.proofs.Lawful.{reached-start}
 use Rattle.flows.proofs.Records.{frontier-flow, flow-good}
 use Rattle.plain.specs.Plain.{opened, plainFeed}
 use Rattle.plain.specs.Means.{listAutomata}
-use Rattle.matrix.specs.Matrix.{filled, Fills, matrixLength, matrixFeed}
+use Rattle.matrix.specs.Matrix.{filled, Fills, matrixFeed}
 use Rattle.matrix.proofs.Exact.{filled-long}
 use Rattle.matrix.proofs.Filling.{fill-passes}
 use Rattle.entries.specs.Stand.{standFeed}

@@ -1,11 +1,10 @@
 -- What a turn by any engine says is what a turn of 01's program says. Assumes nothing.
 use Prim.Native.Nat.{ℕ, _*_, _≤_}
-use mathlib.Core.Path.{_≡_, refl, sym, ap, _∙_}
+use mathlib.Core.Path.{_≡_, refl, sym, _∙_}
 use mathlib.Core.Bool.{true, false, true≢false}
 use mathlib.Core.List.{List}
 use native.Mathlib.Omega.{arith}
 use lib.ListN.{length, take}
-use lib.Dec.{eqb}
 use Rattle.io.specs.Counts.{Counts}
 use Rattle.rules.specs.Rules.{verdict}
 use Rattle.feeds.specs.Engine.{Outcome}
