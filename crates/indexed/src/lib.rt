@@ -122,7 +122,7 @@ pub fn refusal(
     ensures { λ r. ⌜ r ≡ verdict (standRules (now (splits .entry)) (now (index .entry)) hint (now (flow .entry)) start (now (piece .entry))) ⌝ }
 {
     if flow.len() != flows::FLOW_SIZE {
-        return 4;
+        return rules::FLOW_RECORD;
     }
     let held = holds_at(splits, index, hint, flow);
     let named = named_by(splits, index, hint, flow, held);
@@ -272,7 +272,7 @@ pub fn feed(
         × (r .split ≡ stoodAt (now (splits .entry)) (now (index .entry)) hint (now (flow .entry)) start (now (piece .entry)) (now (pairs .entry))) ⌝ }
 {
     if flow.len() != flows::FLOW_SIZE {
-        let unfit = feeds::refused(4);
+        let unfit = feeds::refused(rules::FLOW_RECORD);
         return Stood {
             fed: unfit,
             split: hint,
