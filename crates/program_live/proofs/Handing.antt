@@ -1,8 +1,8 @@
 -- What a run hands over, turn by turn, is what the definition hands over of an undisturbed run's texts. Assumes nothing.
-use Prim.Native.Nat.{ℕ, zero, suc, _+_, _-_, _≤_, _<_}
+use Prim.Native.Nat.{ℕ, suc, _+_, _-_, _≤_}
 use mathlib.Core.Path.{_≡_, refl, sym, ap, _∙_}
 use mathlib.Core.Bool.{Bool, true, false, cond}
-use mathlib.Core.List.{List, [], _∷_, _++_, append-nil, append-assoc}
+use mathlib.Core.List.{List, [], _++_, append-nil, append-assoc}
 use native.Mathlib.Omega.{arith}
 use native.Mathlib.Numerals.{add-one}
 use lib.ListN.{length, take, drop, getD, replicate, length-append}
@@ -11,12 +11,12 @@ use Rattle.program_text.specs.Hand.{isCut, handed, joined, Takes, Logs}
 use Rattle.program_text.specs.declared.Taken.{Taken}
 use Rattle.program_text.proofs.Texts.{puts-none, puts-after, puts-whole}
 use Rattle.program_text.proofs.Handed.{handed-at}
-use Rattle.program_live.specs.State.{stateSize, freshState}
-use Rattle.program_live.specs.Turn.{Turn, turnOf, openTurn, Says}
+use Rattle.program_turn.specs.State.{stateSize, freshState}
+use Rattle.program_turn.specs.Turn.{Turn, turnOf, openTurn, Says}
 use Rattle.program_live.specs.Live.{Unit, noUnitYet, nextOf, lessBy, lessOf, mostTurns, textsFrom, texts, Stands}
-use Rattle.program_live.specs.declared.Said as said
+use Rattle.program_turn.specs.declared.Said as said
 use Rattle.program_live.specs.declared.Unit as unit
-use Rattle.program_live.proofs.Laws.{less-stands}
+use Rattle.program_live.proofs.Units.{less-stands}
 
 -- ---- the loop of a run, where some texts were handed over and the log log₀ ends at `begun`
 

@@ -6,8 +6,8 @@ use mathlib.Core.List.{List, [], _∷_}
 use lib.ListN.{length, take, drop, replicate}
 use lib.Dec.{eqb, leb, ltb}
 use Rattle.sets.specs.Set.{num}
-use Rattle.program_live.specs.State.{stateSize, shortAt, freshState}
-use Rattle.program_live.specs.Turn.{mostUnit, headSize, Turn, turnOf, openTurn}
+use Rattle.program_turn.specs.State.{stateSize, shortAt, freshState}
+use Rattle.program_turn.specs.Turn.{mostUnit, headSize, turnOf, openTurn}
 use Rattle.program_live.specs.declared.Unit as code
 
 -- ---- what is read

@@ -1,12 +1,12 @@
 -- Each text of lines is followed by the state behind them, and then by the texts of a run from that state. Assumes nothing.
 use Prim.Native.Nat.{ℕ, suc}
-use mathlib.Core.Path.{_≡_, refl, sym, ap, _∙_}
+use mathlib.Core.Path.{_≡_, refl, ap}
 use mathlib.Core.Bool.{Bool, true, false, cond, true≢false}
 use mathlib.Core.List.{List, [], _∷_}
 use lib.ListN.{length}
 use lib.Dec.{eqb}
-use Rattle.program_live.specs.State.{numbered, renewOn}
-use Rattle.program_live.specs.Turn.{Turn, Given, noWords, isEnd, givenOf, lastTurn, linesTurn, feedTurn, turnOf}
+use Rattle.program_turn.specs.State.{numbered, renewOn}
+use Rattle.program_turn.specs.Turn.{Turn, Given, noWords, isEnd, givenOf, lastTurn, linesTurn, feedTurn, turnOf}
 use Rattle.program_live.specs.Live.{Unit, nextOf, lessBy, textsFrom}
 use Rattle.program_live_laws.specs.Following.{turnFrom, StateFollows}
 

@@ -1,5 +1,5 @@
 -- A live line of bytes that is killed at any time: what is kept after each event is the lines of the bytes before the place. Assumes nothing.
-use Prim.Native.Nat.{ℕ, zero, suc, _+_, _*_, _-_, _/_, _%_, _≤_, _<_}
+use Prim.Native.Nat.{ℕ, _+_, _*_, _-_, _/_, _%_, _≤_, _<_}
 use mathlib.Core.Path.{_≡_, refl, sym, ap, _∙_}
 use mathlib.Core.Bool.{Bool, true, false, cond}
 use mathlib.Core.List.{List, [], _∷_, _++_, append-nil}
@@ -8,28 +8,31 @@ use native.Mathlib.Omega.{arith}
 use lib.ListN.{length, take, drop, replicate, length-take, length-drop, length-append, drop-of-length-le}
 use lib.Seq.{take-append-seam, take-take, take-length}
 use lib.Dec.{eqb, leb}
-use borrow.Author.Tests.{eqb-true, eq-eqb, ne-eqb}
-use Rattle.sets.specs.Set.{num, placed}
+use borrow.Author.Tests.{eqb-true, eqb-false, eq-eqb, ne-eqb, leb-true, le-ltb}
+use Rattle.sets.specs.Set.{num, placed, within}
 use Rattle.rules.specs.Rules.{verdict}
+use Rattle.rules.proofs.Rules.{skip, last, verdict-then, passes-front}
 use Rattle.resends.specs.Resend.{circle}
-use Rattle.lists.specs.Automaton.{start}
-use Rattle.feeds.specs.Engine.{Outcome, run, told}
+use Rattle.lists.specs.List.{listRules}
+use Rattle.lists.specs.Automaton.{start, named}
+use Rattle.feeds.specs.Engine.{Outcome, mostOffset, run, told}
 use Rattle.feeds.specs.Calls.{Bytes}
 use Rattle.feeds.proofs.Runs.{bytes-take, bytes-drop}
 use Rattle.feeds.proofs.Feeds.{each-feed}
 use Rattle.feeds.proofs.Opening.{opens, opening-refusal}
-use Rattle.flows.specs.Flow.{flowSize, frontierOf, offsetOf}
+use Rattle.flows.specs.Flow.{flowSize, frontierOf, offsetOf, flowRules, feedRules}
 use Rattle.flows.proofs.Records.{length-flow, good-flow}
-use Rattle.plain.specs.Plain.{plain, openPairs, openRules, opened, openFlow, plainFeed}
+use Rattle.plain.specs.Plain.{plain, openPairs, firstRules, openRules, opened, openFlow, plainFeed}
 use Rattle.renewals.specs.Renewal.{renewal}
+use Rattle.renewals.proofs.Renewing.{renews, whole-renews, renewed-offset}
 use Rattle.segments.specs.Ways.{plainWay}
 use Rattle.demands.specs.Calls.{Call, byList}
 use Rattle.demands.proofs.Due.{opened-frontier, opened-offset}
 use Rattle.renewal_demands.specs.Renewed.{raised, Flow, feeding, renewing}
 use Rattle.renewal_demands.proofs.Renewed.{At, act-done, at-start}
 use Rattle.program_text.specs.Text.{lastLine}
-use Rattle.program_live.specs.State.{stateSize, wholeNumbers, longAt, wordAt, shortAt, flowOf, flowOffset, kindAt, firstAt, beforeAt, placeAt, linesAt, flowAt, near, bytesKind, plusNumber, numbered, renewOn, renewedState, freshState}
-use Rattle.program_live.specs.Turn.{Turn, Given, noWords, noRecord, linesFrom, againText, turnText, isTold, isEnd, plainGiven, givenOf, lastTurn, linesTurn, feedTurn, turnOf, openTurn}
+use Rattle.program_turn.specs.State.{stateSize, wholeNumbers, longAt, wordAt, shortAt, flowOf, flowOffset, kindAt, firstAt, beforeAt, placeAt, linesAt, flowAt, near, bytesKind, plusNumber, numbered, renewOn, renewedState, freshState}
+use Rattle.program_turn.specs.Turn.{Turn, mostUnit, Given, noWords, noRecord, linesFrom, againText, turnText, isTold, isEnd, plainGiven, givenOf, lastTurn, linesTurn, feedTurn, turnOf, openTurn}
 use Rattle.program_live_laws.specs.Killed.{Disk, Event, turned, cut, place, kept, turnAt, after, afterAll, begun, linesTo, Whole, Killed}
 use Rattle.program_live_laws.proofs.Parts.{part-other, Parts, turned-parts, renewed-parts, fresh-size, fresh-kind, fresh-zero}
 use Rattle.program_live_laws.proofs.Lines.{lines-front, lines-told, toldNext, frontier-more, lines-more}
@@ -65,26 +68,50 @@ module _ (L B : List ℕ) (bytes : Bytes B) (short : length B < wholeNumbers) (f
 
   -- ---- a renewal
 
-  renewed-ready : (S : List ℕ) (k n : ℕ) → k < wholeNumbers → renewal (flowOf S) .refusal ≡ 0 → Ready S k n → Ready (renewedState S) k n
-  unfolding run
-  renewed-ready S k n l z r =
-      let d = act-done L (flow S) renewing (bytes-take 0 B bytes) tt (r .at) in
-      let R = renewal (flowOf S) .saved in
-      let o = offsetOf (flowOf S) in
-      let a : At L (record { before = longAt S beforeAt + o; saved = R }) = rw (eq-eqb (renewal (flowOf S) .refusal) 0 z) at (d .at) in
-      let m : longAt S beforeAt + o + offsetOf R ≡ longAt S beforeAt + o + 0 = rw (eq-eqb (renewal (flowOf S) .refusal) 0 z) at (d .moved) in
-      ready-by S (renewedState S) R (longAt S beforeAt + o) (longAt S placeAt) (longAt S linesAt) k n
-      (renewed-parts S R (r .size) (good-flow R (a .fit .0) .0) o ((shortAt S firstAt + o) % circle) (omega (arith, r .offset, l)))
-      (r .kind) a (d .frontier ∙ r .frontier) (omega (arith, m, r .offset)) (r .place-is) (r .lines-are)
+  module _ (S : List ℕ) (k n : ℕ) (l : k < wholeNumbers) (r : Ready S k n) where
+    abbrev anew : List ℕ
+    anew = renewal (flowOf S) .saved
 
-  renew-ready : (S : List ℕ) (k n : ℕ) → k < wholeNumbers → Ready S k n → Ready (renewOn S) k n
-  unfolding renewOn
-  renew-ready S k n l r = go (leb (offsetOf (flowOf S)) near) (eqb (renewal (flowOf S) .refusal) 0) refl
-    where
-      go : (a b : Bool) → eqb (renewal (flowOf S) .refusal) 0 ≡ b → Ready (cond a S (cond b (renewedState S) S)) k n
-      go true b e = r
-      go false false e = r
-      go false true e = renewed-ready S k n l (eqb-true (renewal (flowOf S) .refusal) 0 e) r
+    -- rule 4 takes the record, so it is renewed
+    passes : renewal (flowOf S) .refusal ≡ 0
+    passes = whole-renews (flowOf S) (r .at .fit .0)
+
+    abbrev since : ℕ
+    since = offsetOf (flowOf S)
+
+    renewed-at : At L (record { before = longAt S beforeAt + since; saved = anew })
+    renewed-at = rw (eq-eqb (renewal (flowOf S) .refusal) 0 passes) at (act-done L (flow S) renewing (bytes-take 0 B bytes) tt (r .at) .at)
+
+    renewed-made : Parts S (renewedState S) anew (longAt S beforeAt + since) (longAt S placeAt) (longAt S linesAt)
+    renewed-made =
+        renewed-parts S anew (r .size) (good-flow anew (renewed-at .fit .0) .0) since ((shortAt S firstAt + since) % circle) (omega (arith, r .offset, l))
+
+    renewed-ready : Ready (renewedState S) k n
+    unfolding run
+    renewed-ready =
+        let d = act-done L (flow S) renewing (bytes-take 0 B bytes) tt (r .at) in
+        let m : longAt S beforeAt + since + offsetOf anew ≡ longAt S beforeAt + since + 0 = rw (eq-eqb (renewal (flowOf S) .refusal) 0 passes) at (d .moved) in
+        ready-by S (renewedState S) anew (longAt S beforeAt + since) (longAt S placeAt) (longAt S linesAt) k n
+        renewed-made (r .kind) renewed-at (d .frontier ∙ r .frontier) (omega (arith, m, r .offset)) (r .place-is) (r .lines-are)
+
+    renew-ready : Ready (renewOn S) k n
+    unfolding renewOn
+    renew-ready = go (leb since near) (eqb (renewal (flowOf S) .refusal) 0)
+      where
+        go : (a b : Bool) → Ready (cond a S (cond b (renewedState S) S)) k n
+        go true b = r
+        go false false = r
+        go false true = renewed-ready
+
+    -- and then there is room for a unit before the largest offset
+    renew-room : offsetOf (flowOf (renewOn S)) ≤ near
+    unfolding renewOn
+    renew-room = go (leb since near) (eqb (renewal (flowOf S) .refusal) 0) refl refl
+      where
+        go : (a b : Bool) → leb since near ≡ a → eqb (renewal (flowOf S) .refusal) 0 ≡ b → offsetOf (flowOf (cond a S (cond b (renewedState S) S))) ≤ near
+        go true b e f = leb-true since near e
+        go false false e f = absurd (eqb-false (renewal (flowOf S) .refusal) 0 f passes)
+        go false true e f = rw (renewed-made .flow, renews (flowOf S) passes, renewed-offset (flowOf S)) (omega arith)
 
   -- ---- a feed, from a state that is renewed where it has to be
 
@@ -158,6 +185,19 @@ module _ (L B : List ℕ) (bytes : Bytes B) (short : length B < wholeNumbers) (f
               (omega (arith, d .moved, r .offset, long)) (ap (λ (x : ℕ). x + o .bytes) (r .place-is)) (omega (arith, r .lines-are, count));
         }
 
+  -- ---- no feed is refused
+
+  feed-taken : verdict (listRules L) ≡ 0 → (S : List ℕ) (k n : ℕ) → Ready S k n → offsetOf (flowOf S) ≤ near → (rest : List ℕ) → length rest ≤ mostUnit
+      → plainFeed L (flowOf S) (offsetOf (flowOf S)) rest noWords .refusal ≡ 0
+  feed-taken z S k n r l rest h =
+      let R = flowOf S in
+      let v : verdict (feedRules L R (offsetOf R) rest) ≡ 0 =
+      verdict-then (listRules L) (flowRules (within (frontierOf R) (named L)) R (offsetOf R) rest) refl z
+      ∙ skip 4 _ (rw (r .at .fit .0, r .at .fit .1))
+      ∙ skip 5 _ (rw (eq-eqb (offsetOf R) (offsetOf R) refl))
+      ∙ last 6 (le-ltb mostOffset (offsetOf R + length rest) (omega (arith, l, h))) in
+      each-feed (plainWay L) R (offsetOf R) rest noWords .passes .1 (v, λ y. refl)
+
   -- ---- a disk
 
   record Good (D : Disk) : Type 0 where
@@ -209,6 +249,21 @@ module _ (L B : List ℕ) (bytes : Bytes B) (short : length B < wholeNumbers) (f
         let f = fed S₂ k (g .inside) ready₂ n (eqb-true (G .refusal) 0 q) in
         good-by _ _ (k + G .done) (f .inside) (ap (λ (xs : List ℕ). xs ++ text S₂ k (g .inside) ready₂ n) (g .lines-are) ∙ sym (f .told-so)) (f .ready)
 
+    -- where bytes are left, it is not the last, and moves
+    turn-goes : verdict (listRules L) ≡ 0 → place D < length B → 0 < n → n ≤ mostUnit → (turnAt L B D n .last ≡ false) × (place D < place (afterBy (turnAt L B D n)))
+    unfolding isEnd
+    turn-goes z l p h =
+        let rest = take n (drop k B) in
+        let some : length rest ≡ 0 → ⊥ = λ y. omega (arith, y, length-take n (drop k B), length-drop k B, l, p) in
+        let q : G .refusal ≡ 0 =
+        feed-taken z S₂ k (length (linesTo L B k)) ready₂ (rw stays (renew-room (D .state) k (length (linesTo L B k)) (omega (arith, g .inside, short)) (g .ready))) rest
+        (omega (arith, h, length-take n (drop k B))) in
+        let t : turnAt L B D n ≡ turnBy false true = turn-by ∙ rw (ne-eqb (length rest) 0 some, eq-eqb (G .refusal) 0 q) in
+        let f = fed S₂ k (g .inside) ready₂ n q in
+        let e = each-feed (plainWay L) (flowOf S₂) (offsetOf (flowOf S₂)) rest noWords in
+        let m : 0 < G .done = e .moves q (omega (arith, some)) (omega arith) in
+        rw t (refl, omega (arith, f .ready .place-is, m))
+
   good-event : (D : Disk) → Good D → (e : Event) → Good (after L B D e)
   unfolding after
   good-event D g (turned n) = rw (turn-by D g n) (good-turn D g n (isEnd (D .state) true (length (take n (drop (place D) B)))) (eqb (G D g n .refusal) 0) refl)
@@ -259,8 +314,9 @@ module _ (L B : List ℕ) (bytes : Bytes B) (short : length B < wholeNumbers) (f
       let z : length (take n (drop (place D) B)) ≡ 0 = omega (arith, length-take n (drop (place D) B), ap length d) in
       rw (eq-eqb (length (take n (drop (place D) B))) 0 z, eq-eqb (wordAt (D .state) kindAt) 0 (g .ready .kind)) (ap (lastLine 0) (o ∙ e))
 
-  whole : (D : Disk) → Good D → Whole L B D
-  whole D g =
+  whole : verdict (listRules L) ≡ 0 → (D : Disk) → Good D → Whole L B D
+  unfolding after
+  whole v D g =
       let k : longAt (D .state) beforeAt + offsetOf (flowOf (D .state)) ≡ place D = g .ready .offset in
       let m : place D % wholeNumbers ≡ place D = omega (arith, g .inside, short) in
       let o : flowOffset (D .state) ≡ place D = rw k m in
@@ -268,8 +324,13 @@ module _ (L B : List ℕ) (bytes : Bytes B) (short : length B < wholeNumbers) (f
         within = g .inside;
         offset = o;
         lines = g .lines-are;
+        goes = λ l n p h. turn-goes D g n v l p h;
         ended = λ e n. rw (g .lines-are, last-text D g o e n) (ap (λ (j : ℕ). linesTo L B j ++ lastLine 0 (length B)) e);
       }
 
 pub killed : Killed
-killed L B z h s f es = whole L B h s f (afterAll L B (begun L) es) (good-all L B h s f (begun L) (good-begun L B h s f z) es)
+killed L B z h s f es =
+    let rules = openRules L noRecord noWords in
+    let v : verdict rules ≡ 0 = sym (opening-refusal rules (openPairs L) (opened L) noRecord noWords) ∙ z in
+    let u : verdict (listRules L) ≡ 0 = passes-front (listRules L) _ (passes-front (firstRules L noRecord) _ v) in
+    whole L B h s f u (afterAll L B (begun L) es) (good-all L B h s f (begun L) (good-begun L B h s f z) es)

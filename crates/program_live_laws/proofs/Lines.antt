@@ -1,9 +1,9 @@
 -- Lines of pairs, one part after the other; with a number added to each offset; and those of the first bytes of a line. Assumes nothing.
-use Prim.Native.Nat.{ℕ, zero, suc, _+_, _*_, _-_, _/_, _%_, _≤_, _<_}
+use Prim.Native.Nat.{ℕ, zero, suc, _+_, _*_, _/_, _%_, _≤_, _<_}
 use mathlib.Core.Path.{_≡_, refl, sym, ap, _∙_}
 use mathlib.Core.List.{List, [], _∷_, _++_, append-nil, append-assoc}
 use native.Mathlib.Omega.{arith}
-use lib.ListN.{length, take, drop, getD, length-append, length-take, length-drop, take-append-drop, List·getD-append}
+use lib.ListN.{length, take, drop, getD, length-append, length-take, take-append-drop, List·getD-append}
 use lib.Seq.{take-add, getD-append-add}
 use Rattle.lists.specs.Automaton.{start}
 use Rattle.feeds.specs.Engine.{run, told}
@@ -12,8 +12,8 @@ use Rattle.plain.specs.Plain.{plain, openPairs, pairsOf}
 use Rattle.plain.proofs.Opening.{openPairs-long}
 use Rattle.renewal_demands.specs.Renewed.{raised}
 use Rattle.program_text.specs.Text.{line}
-use Rattle.program_live.specs.State.{wholeNumbers}
-use Rattle.program_live.specs.Turn.{linesFrom}
+use Rattle.program_turn.specs.State.{wholeNumbers}
+use Rattle.program_turn.specs.Turn.{linesFrom}
 use Rattle.program_live_laws.specs.Killed.{linesTo}
 
 -- words behind the pairs have no say

@@ -1,7 +1,7 @@
 -- The parts of a state after something is put into it: what was put stands there, and every other part stays. Assumes nothing.
 use Prim.Native.Nat.{ℕ, zero, suc, _+_, _*_, _-_, _%_, _^_, _≤_, _<_}
 use mathlib.Core.Path.{_≡_, refl, sym, ap, _∙_}
-use mathlib.Core.List.{List, [], _∷_, _++_, append-assoc}
+use mathlib.Core.List.{List, _++_, append-assoc}
 use mathlib.Core.Logic.{_⊎_, inl, inr}
 use native.Mathlib.Omega.{arith}
 use lib.ListN.{length, take, drop, replicate, length-take, length-drop, length-append, length-replicate, take-append-drop}
@@ -10,7 +10,7 @@ use Rattle.sets.specs.Set.{num, digits, placed}
 use Rattle.sets.proofs.Laws.{num-digits, length-digits}
 use Rattle.sets.proofs.Placing.{placed-fits, length-placed}
 use Rattle.flows.specs.Flow.{flowSize}
-use Rattle.program_live.specs.State.{stateSize, wholeNumbers, longAt, wordAt, flowOf, lengthAt, sumAt, kindAt, firstAt, beforeAt, placeAt, linesAt, flowAt, bytesKind, plusNumber, sumOf, freshState}
+use Rattle.program_turn.specs.State.{stateSize, wholeNumbers, longAt, wordAt, flowOf, lengthAt, sumAt, kindAt, firstAt, beforeAt, placeAt, linesAt, flowAt, bytesKind, plusNumber, sumOf, freshState}
 
 module _ (S : List ℕ) (at : ℕ) (xs : List ℕ) (fits : at + length xs ≤ length S) where
   front-long : length (take at S) ≡ at

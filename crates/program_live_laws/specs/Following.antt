@@ -3,7 +3,7 @@ use Prim.Native.Nat.{ℕ, suc}
 use mathlib.Core.Bool.{true, false, cond}
 use mathlib.Core.List.{List, [], _∷_}
 use mathlib.Core.Path.{_≡_}
-use Rattle.program_live.specs.Turn.{Turn, turnOf}
+use Rattle.program_turn.specs.Turn.{Turn, turnOf}
 use Rattle.program_live.specs.Live.{Unit, nextOf, lessBy, textsFrom}
 
 -- the turn of a run on the recording B, from the state S and the unit u on

@@ -1,14 +1,14 @@
 -- A live line of bytes that is killed at any time and started again: what a start keeps of the lines are those of one run, up to the place where it goes on.
 use Prim.Native.Nat.{ℕ, _/_, _≤_, _<_}
-use mathlib.Core.Bool.{Bool, true, false, cond}
+use mathlib.Core.Bool.{true, false, cond}
 use mathlib.Core.List.{List, [], _∷_, _++_}
 use mathlib.Core.Path.{_≡_}
 use lib.ListN.{length, take, drop, replicate}
 use Rattle.feeds.specs.Calls.{Bytes}
 use Rattle.plain.specs.Plain.{openFlow, pairsOf}
 use Rattle.program_text.specs.Text.{lastLine}
-use Rattle.program_live.specs.State.{stateSize, wholeNumbers, longAt, flowOffset, placeAt, linesAt, bytesKind, freshState}
-use Rattle.program_live.specs.Turn.{Turn, noWords, noRecord, linesFrom, turnOf, openTurn}
+use Rattle.program_turn.specs.State.{stateSize, wholeNumbers, longAt, flowOffset, placeAt, linesAt, bytesKind, freshState}
+use Rattle.program_turn.specs.Turn.{Turn, mostUnit, noWords, noRecord, linesFrom, turnOf, openTurn}
 
 -- what stands on the disk: the file of lines, and the saved state
 pub record Disk : Type 0 where
@@ -57,6 +57,8 @@ pub record Whole (L B : List ℕ) (D : Disk) : Type 0 where
   pub within : place D ≤ length B
   pub offset : flowOffset (D .state) ≡ place D
   pub lines : kept D ≡ linesTo L B (place D)
+  -- where bytes are left, a turn on at least one of them is not the last, and the place moves
+  pub goes : place D < length B → (n : ℕ) → 0 < n → n ≤ mostUnit → (turnAt L B D n .last ≡ false) × (place D < place (after L B D (turned n)))
   -- and where the place is the line's end, the turn that finds no byte adds the last line
   pub ended : place D ≡ length B → (n : ℕ) → kept D ++ turnAt L B D n .text ≡ linesTo L B (length B) ++ lastLine 0 (length B)
 

@@ -4,7 +4,7 @@ use native.Mathlib.Omega.{arith}
 use mathlib.Core.Bool.{true≢false}
 use mathlib.Core.Path.{sym, _∙_}
 use Rattle.program_live.proofs.next_unit.Statement.{statement}
-use Rattle.program_live.proofs.Laws.{next-saving, next-left, next-read}
+use Rattle.program_live.proofs.Units.{next-saving, next-left, next-read}
 use Rattle.program_live.proofs.next_unit.Tie as tie
 
 returns : tie.Need-returns

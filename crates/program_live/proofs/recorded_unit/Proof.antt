@@ -4,7 +4,7 @@ use native.Mathlib.Omega.{arith}
 use Prim.Native.Nat.{ℕ, _%_}
 use mathlib.Core.Path.{ap}
 use Rattle.program_live.proofs.recorded_unit.Statement.{statement}
-use Rattle.program_live.proofs.Laws.{unit-none, unit-is}
+use Rattle.program_live.proofs.Units.{unit-none, unit-is}
 use Rattle.program_live.proofs.recorded_unit.Tie as tie
 
 no-unit-requires : tie.Need-no-unit-requires

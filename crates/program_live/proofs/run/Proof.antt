@@ -6,9 +6,9 @@ use mathlib.Core.Bool.{false}
 use mathlib.Core.Path.{_≡_, _∙_}
 use lib.ListN.{length}
 use Rattle.program_live.specs.Live.{mostTurns}
-use Rattle.program_live.specs.Turn.{mostUnit}
+use Rattle.program_turn.specs.Turn.{mostUnit}
 use Rattle.program_live.proofs.run.Statement.{statement}
-use Rattle.program_live.proofs.Laws.{first-within, first-stands, less-within, part-short}
+use Rattle.program_live.proofs.Units.{first-within, first-stands, less-within, part-short}
 use Rattle.program_live.proofs.run.Tie as tie
 use Rattle.program_live.proofs.Handing.{allHanded, Standing, standing, finished, text-fits, over-last, over-cut, goes-on}
 

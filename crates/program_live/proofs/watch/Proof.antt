@@ -3,7 +3,7 @@ use borrow.Author.Needs.{needs}
 use Prim.Native.Nat.{ℕ}
 use mathlib.Core.List.{List}
 use mathlib.Core.Path.{ap, _∙_}
-use Rattle.program_live.specs.State.{freshState}
+use Rattle.program_turn.specs.State.{freshState}
 use Rattle.program_live.proofs.watch.Statement.{statement}
 use Rattle.program_live.proofs.watch.Tie as tie
 use Rattle.program_live.proofs.Handing.{begun-last, begun-cut, begun-then}
