@@ -497,17 +497,17 @@ fn load(name: &[u8], state: &mut [u8]) -> u32 {
 // Whether a state is one of the list and of the kind of the line; where it is not, that is said.
 fn is_ours(segments: bool, list: &[u8], state: &[u8]) -> bool {
     if !program_turn::is_state_of(list, state) {
-        say(
-            b"watch: the state is one of another list: take another file, or remove it to begin at offset ",
-            0,
+        io::write_all(
+            libc::STDERR_FILENO,
+            b"watch: the state is one of another list: take another file for it, or remove it and begin at offset 0\n",
         );
         return false;
     }
     let bytes = sets::number_at(state, program_turn::KIND_AT, 4) == program_turn::BYTES;
     if bytes == segments {
-        say(
-            b"watch: the state is one of a line of another kind: with --segments 1, without it ",
-            0,
+        io::write_all(
+            libc::STDERR_FILENO,
+            b"watch: the state is one of a line of the other kind, bytes or segments: take another file for it\n",
         );
         return false;
     }
