@@ -130,7 +130,7 @@ fn read_unit(line: i32, state: &[u8], bytes: &mut [u8]) -> Unit
     requires { ⌜ length (now bytes) ≡ mostUnit ⌝ }
     ensures { λ r. ⌜ (r .from ≤ r .to) × (r .to ≤ mostUnit) ⌝ }
 {
-    if sets::number_at(state, program_turn::KIND_AT, 4) == program_turn::BYTES {
+    if sets::number_at(state, program_turn::KIND_AT, 4) == program_turn::OF_BYTES {
         return read_bytes(line, bytes);
     }
     read_segment(line, bytes)
@@ -503,7 +503,7 @@ fn is_ours(segments: bool, list: &[u8], state: &[u8]) -> bool {
         );
         return false;
     }
-    let bytes = sets::number_at(state, program_turn::KIND_AT, 4) == program_turn::BYTES;
+    let bytes = sets::number_at(state, program_turn::KIND_AT, 4) == program_turn::OF_BYTES;
     if bytes == segments {
         io::write_all(
             libc::STDERR_FILENO,
@@ -559,7 +559,7 @@ fn move_line(fd: i32, state: &[u8])
     if libc::lseek(fd, to, libc::SEEK_SET) == to {
         return;
     }
-    if sets::number_at(state, program_turn::KIND_AT, 4) == program_turn::BYTES {
+    if sets::number_at(state, program_turn::KIND_AT, 4) == program_turn::OF_BYTES {
         say(b"watch: the line begins at byte ", place);
         return;
     }
@@ -601,7 +601,7 @@ fn begin_live(segments: bool, list: &[u8], line: &[u8], name: &[u8], lines: &[u8
     let kind = if segments {
         program_turn::SEGMENTS
     } else {
-        program_turn::BYTES
+        program_turn::OF_BYTES
     };
     let mut log = [0u8; 1];
     watch(ends, kind, list, name, b"", b"", &mut log);

@@ -39,7 +39,7 @@ pub const FLOW_AT: usize = 64;
 pub const HELD_AT: usize = 208;
 
 // The kinds of a line: bytes; segments, of which none came yet; segments, and the first came.
-pub const BYTES: u64 = 0;
+pub const OF_BYTES: u64 = 0;
 
 pub const SEGMENTS: u64 = 1;
 
@@ -334,7 +334,7 @@ fn give(list: &[u8], state: &mut [u8], start: u32, rest: &[u8], out: &mut [u32])
     requires { ⌜ (length (now state) ≡ stateSize) × (length (now rest) ≤ mostUnit) ⌝ }
     ensures { λ r. ⌜ Gives (givenOf (now (list .entry)) (now (state .entry)) start (now (rest .entry)) (now (out .entry))) r (now (out .exit)) (now (state .exit)) ⌝ }
 {
-    if sets::number_at(state, KIND_AT, 4) == BYTES {
+    if sets::number_at(state, KIND_AT, 4) == OF_BYTES {
         return give_plain(list, state, rest, out);
     }
     give_segment(list, state, start, rest, out)
@@ -350,7 +350,7 @@ fn is_end(state: &[u8], more: bool, n: usize) -> bool
     if n > 0 {
         return false;
     }
-    sets::number_at(state, KIND_AT, 4) == BYTES
+    sets::number_at(state, KIND_AT, 4) == OF_BYTES
 }
 
 // Whether `again` is told among the lines: where no state is kept. Where one is, what is sent again depends on when the run was cut, and the lines shall not.
