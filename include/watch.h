@@ -387,7 +387,7 @@ extern "C" {
 #define WATCH_VERSION 19
 
 /* Bytes of stack that a call takes at most, but for one of watch_compile. */
-#define WATCH_MOST_STACK 38592
+#define WATCH_MOST_STACK 38848
 
 /* Bytes of stack that a call of watch_compile takes at most. */
 #define WATCH_COMPILE_STACK 230592
