@@ -1,5 +1,5 @@
-//! Certificates: replays their outside vectors, `crates/certificate_vectors/stdin`, and the longest, `tools/second/certificate/certificates`, through the archive and
-//! compares each line with `crates/certificate_vectors/stdout` and `tools/second/certificate/certified`; and runs both feeds beside each other on every list and
+//! Certificates: replays their outside vectors, `crates/machine_certificate_replay/stdin`, and the longest, `tools/second/certificate/certificates`, through the archive and
+//! compares each line with `crates/machine_certificate_replay/stdout` and `tools/second/certificate/certified`; and runs both feeds beside each other on every list and
 //! automaton whose certificate is accepted. Every buffer is a heap block of exactly its length. `WATCH_VECTORS` may name a smaller number of lines.
 
 mod common;
@@ -67,7 +67,7 @@ fn replayed((commands, lines): (&str, &str), mut test: impl FnMut(&State, u32)) 
 }
 
 const STREAMS: [(&str, &str); 2] = [
-    ("crates/certificate_vectors/stdin", "crates/certificate_vectors/stdout"),
+    ("crates/machine_certificate_replay/stdin", "crates/machine_certificate_replay/stdout"),
     ("tools/second/certificate/certificates", "tools/second/certificate/certified"),
 ];
 

@@ -1,5 +1,5 @@
-//! The automaton with bits and counters: replays its outside vectors, `crates/extended_vectors/stdin`, through the three functions of the archive and
-//! compares each line with `crates/extended_vectors/stdout`; and feeds the worked example, `examples/long-line`, beside its list. Every buffer is a
+//! The automaton with bits and counters: replays its outside vectors, `crates/machine_replay/stdin`, through the three functions of the archive and
+//! compares each line with `crates/machine_replay/stdout`; and feeds the worked example, `examples/long-line`, beside its list. Every buffer is a
 //! heap block of exactly its length. `WATCH_VECTORS` may name a smaller number of lines.
 
 mod common;
@@ -71,7 +71,7 @@ impl State {
 #[test]
 fn vectors() {
     let mut state = State::default();
-    replay("crates/extended_vectors/stdin", "crates/extended_vectors/stdout", |reader| state.run(reader));
+    replay("crates/machine_replay/stdin", "crates/machine_replay/stdout", |reader| state.run(reader));
 }
 
 #[test]

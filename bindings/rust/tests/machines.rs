@@ -245,7 +245,7 @@ fn too_many() {
 /// for those that nothing reaches.
 #[test]
 fn vectors() {
-    let stdin = read("crates/certificate_vectors/stdin");
+    let stdin = read("crates/machine_certificate_replay/stdin");
     let (mut reader, mut found) = (Reader(&stdin), 0);
     let [mut rules, mut moves, mut programs, mut noted]: [Box<[u8]>; 4] = Default::default();
     while !reader.0.is_empty() && found < 120 {

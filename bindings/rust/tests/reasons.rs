@@ -1,4 +1,4 @@
-//! Why: replays its outside vectors, `crates/reason_vectors/stdin`, through the archive and compares each line with `crates/reason_vectors/stdout`; and asks
+//! Why: replays its outside vectors, `crates/list_why_replay/stdin`, through the archive and compares each line with `crates/list_why_replay/stdout`; and asks
 //! why of every pair that feeds by the list and a matrix tell of the example. Every buffer is a heap block of exactly its length.
 //! `WATCH_VECTORS` may name a smaller number of lines.
 
@@ -69,7 +69,7 @@ impl State {
 #[test]
 fn vectors() {
     let mut state = State::default();
-    replay("crates/reason_vectors/stdin", "crates/reason_vectors/stdout", |reader| state.run(reader));
+    replay("crates/list_why_replay/stdin", "crates/list_why_replay/stdout", |reader| state.run(reader));
 }
 
 /// Two breakfasts, by the list and by its matrix, in pieces of 7 bytes: every pair told has a run from the opening, and its edges lead from state to state.

@@ -1,4 +1,4 @@
-//! Resends and renewals: replays their outside vectors, `crates/resent/stdin`, through the archive and compares each line with `crates/resent/stdout`. Every
+//! Resends and renewals: replays their outside vectors, `crates/segment_replay/stdin`, through the archive and compares each line with `crates/segment_replay/stdout`. Every
 //! buffer is a heap block of exactly its length. `WATCH_VECTORS` may name a smaller number of lines.
 
 mod common;
@@ -263,5 +263,5 @@ impl State {
 #[test]
 fn vectors() {
     let mut state = State::default();
-    replay("crates/resent/stdin", "crates/resent/stdout", |reader| state.run(reader));
+    replay("crates/segment_replay/stdin", "crates/segment_replay/stdout", |reader| state.run(reader));
 }

@@ -1,5 +1,5 @@
-//! Signature texts: replays their outside vectors, `crates/text_vectors/stdin`, through the archive and compares each line with
-//! `crates/text_vectors/stdout`, every buffer a heap block of exactly its length; and compiles random texts, feeds random bytes in random pieces, and
+//! Signature texts: replays their outside vectors, `crates/text_replay/stdin`, through the archive and compares each line with
+//! `crates/text_replay/stdout`, every buffer a heap block of exactly its length; and compiles random texts, feeds random bytes in random pieces, and
 //! compares the pairs with the ends that the text's tree gives. `WATCH_VECTORS` may name a smaller number of lines, `WATCH_CALLS` the number of
 //! random calls (20,000 unless it is set), of which there is a text for each four hundred.
 
@@ -71,7 +71,7 @@ impl State {
 #[test]
 fn vectors() {
     let mut state = State::default();
-    let lines = replay("crates/text_vectors/stdin", "crates/text_vectors/stdout", |reader| state.run(reader));
+    let lines = replay("crates/text_replay/stdin", "crates/text_replay/stdout", |reader| state.run(reader));
     println!("texts: {lines} lines as expected");
 }
 

@@ -1,5 +1,5 @@
-//! Replays the outside vectors, `crates/vectors/stdin`, through the archive and compares each line with
-//! `crates/vectors/stdout`. `tools/second/README.md` says what the commands are. Every buffer is a heap block of exactly its length, so
+//! Replays the outside vectors, `crates/list_replay/stdin`, through the archive and compares each line with
+//! `crates/list_replay/stdout`. `tools/second/README.md` says what the commands are. Every buffer is a heap block of exactly its length, so
 //! that a memory checker sees any step outside it. Under one, `WATCH_VECTORS` may name a smaller number of lines.
 
 mod common;
@@ -231,7 +231,7 @@ impl State {
 fn the_vectors_are_answered_line_by_line() {
     let mut state = State::default();
     let mut counts = BTreeMap::<(char, u32), usize>::new();
-    let lines = replay("crates/vectors/stdin", "crates/vectors/stdout", |reader| {
+    let lines = replay("crates/list_replay/stdin", "crates/list_replay/stdout", |reader| {
         let (name, refusal, line) = state.run(reader)?;
         *counts.entry((name, refusal)).or_default() += 1;
         Some(line)

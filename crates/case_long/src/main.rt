@@ -1,4 +1,4 @@
 // A list of 8,193 records: refused by rule 1.
 fn main() {
-    app::start();
+    program::start();
 }

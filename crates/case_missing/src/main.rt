@@ -1,4 +1,4 @@
 // No rules.bin: it counts as an empty list, refused by rule 1.
 fn main() {
-    app::start();
+    program::start();
 }

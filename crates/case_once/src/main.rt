@@ -1,4 +1,4 @@
 // The example of two breakfasts: no order for calf number nine is repeated.
 fn main() {
-    app::start();
+    program::start();
 }

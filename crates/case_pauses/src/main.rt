@@ -1,4 +1,4 @@
 // All 256 signatures at offset 0 and at every byte: 5,376 pairs, so the piece pauses and its rest is fed from the middle.
 fn main() {
-    app::start();
+    program::start();
 }

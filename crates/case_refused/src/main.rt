@@ -1,4 +1,4 @@
 // A list without a start record: refused by rule 3, whatever the input is.
 fn main() {
-    app::start();
+    program::start();
 }

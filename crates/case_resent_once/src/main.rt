@@ -1,4 +1,4 @@
 // One breakfast on a line with resends: the order comes twice on the line, and once to the calf.
 fn main() {
-    lines::start();
+    program_segments::start();
 }

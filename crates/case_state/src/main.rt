@@ -1,4 +1,4 @@
 // A list with state 1,024 in an edge: refused by rule 2.
 fn main() {
-    app::start();
+    program::start();
 }

@@ -1,4 +1,4 @@
 // The example of two breakfasts: the feeder repeats the order for calf number nine.
 fn main() {
-    app::start();
+    program::start();
 }

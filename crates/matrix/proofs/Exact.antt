@@ -13,20 +13,20 @@ use Rattle.sets.specs.Set.{states, holds, size}
 use Rattle.sets.proofs.Sets.{holds-pow, set-ext}
 use Rattle.rules.specs.Rules.{Rule, verdict}
 use Rattle.rules.proofs.Rules.{last, verdict-then, verdict-refused}
-use Rattle.lists.specs.List.{from}
-use Rattle.lists.specs.Automaton.{step, highest}
-use Rattle.lists.proofs.Listed.{same-truth}
-use Rattle.lists.proofs.Steps.{step-exactly, step-lt}
-use Rattle.feeds.specs.Calls.{Bytes, Follows}
-use Rattle.feeds.specs.declared.Fed.{Fed}
-use Rattle.feeds.specs.Fed.{Answers}
-use Rattle.feeds.proofs.Alike.{feed-same}
-use Rattle.flows.specs.Flow.{flowBytes, flowLayout, feedRules}
-use Rattle.plain.specs.Plain.{plain, plainFeed}
+use Rattle.list.specs.List.{from}
+use Rattle.list.specs.Automaton.{step, highest}
+use Rattle.list.proofs.Listed.{same-truth}
+use Rattle.list.proofs.Steps.{step-exactly, step-lt}
+use Rattle.feed.specs.Calls.{Bytes, Follows}
+use Rattle.feed.specs.declared.Fed.{Fed}
+use Rattle.feed.specs.Fed.{Answers}
+use Rattle.feed.proofs.Alike.{feed-same}
+use Rattle.list_flow.specs.Flow.{flowBytes, flowLayout, feedRules}
+use Rattle.list_feed.specs.Plain.{plain, plainFeed}
 use Rattle.matrix.specs.Matrix.{byteValues, matrixLength, cell, unionOver, matrixStep, matrixed, filled, wrongMatrix, Fills, fillRules, matrixRules, matrixFeed}
 use Rattle.matrix.proofs.Unions.{union-exactly, union-same}
 use Rattle.matrix.proofs.Cells.{cells-length, cells-at}
-use Rattle.lists.proofs.Highest.{names-low}
+use Rattle.list.proofs.Highest.{names-low}
 
 -- the filler's matrix has the list's length
 pub filled-long : (L : List ℕ) → length (filled L) ≡ matrixLength L

@@ -10,11 +10,11 @@ use Rattle.sets.specs.Set.{setWords, states, members}
 use Rattle.sets.proofs.Members.{members-size, members-most}
 use Rattle.rules.specs.Rules.{verdict}
 use Rattle.rules.proofs.Rules.{passes, passes-front, verdict-then}
-use Rattle.lists.specs.List.{listRules, listRefusal}
-use Rattle.feeds.specs.Engine.{mostOffset}
-use Rattle.feeds.proofs.Moves.{rules-alone}
-use Rattle.flows.specs.Flow.{flowLayout, offsetOf, badFlow, feedRules}
-use Rattle.flows.proofs.Passing.{feed-passes}
+use Rattle.list.specs.List.{listRules, listRefusal}
+use Rattle.feed.specs.Engine.{mostOffset}
+use Rattle.feed.proofs.Moves.{rules-alone}
+use Rattle.list_flow.specs.Flow.{flowLayout, offsetOf, badFlow, feedRules}
+use Rattle.list_flow.proofs.Passing.{feed-passes}
 use Rattle.matrix.specs.Matrix.{matrixLength, matrixed, wrongMatrix, matrixRules, matrixFeed}
 
 -- a byte costs at most all states

@@ -15,11 +15,11 @@ use Rattle.rules.specs.Scan.{gather}
 use Rattle.rules.specs.Rules.{verdict}
 use Rattle.rules.proofs.Rules.{passes, passes-front, verdict-then}
 use Rattle.rules.proofs.Scanning.{both, gather-lt}
-use Rattle.lists.specs.List.{records, isEdge, eitherCase, from, target, listRules, listRefusal}
-use Rattle.lists.specs.Automaton.{exchanged, between, edge, leaves, step, highest}
+use Rattle.list.specs.List.{records, isEdge, eitherCase, from, target, listRules, listRefusal}
+use Rattle.list.specs.Automaton.{exchanged, between, edge, leaves, step, highest}
 use Rattle.matrix.specs.Matrix.{byteValues, matrixLength, cellAt, cells, filled, wrongMatrix, fillRules}
 use Rattle.matrix.specs.inner.Filling.{marked, markedBytes, markedRecords}
-use Rattle.lists.proofs.Highest.{edge-low}
+use Rattle.list.proofs.Highest.{edge-low}
 use Rattle.matrix.proofs.Cells.{cells-same, cells-at, cells-put, cells-empty}
 
 module _ (L : List ℕ) where

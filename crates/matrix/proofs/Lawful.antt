@@ -7,15 +7,15 @@ use lib.Dec.{lit<}
 use Rattle.sets.specs.Set.{states, size}
 use Rattle.rules.specs.Rules.{verdict}
 use Rattle.rules.proofs.Rules.{passes-front, exactly, verdict-lt}
-use Rattle.lists.proofs.Named.{step-named}
-use Rattle.feeds.specs.Calls.{Bytes}
-use Rattle.feeds.specs.Lawful.{Lawful}
-use Rattle.feeds.proofs.Alike.{feed-same}
-use Rattle.flows.specs.Flow.{flowBytes, flowLayout, frontierOf, feedRules}
-use Rattle.plain.specs.Plain.{plain}
-use Rattle.plain.specs.Means.{listAutomata}
-use Rattle.plain.proofs.Lawful as plain
-use Rattle.plain.proofs.Lawful.{list-passes, list-shorter}
+use Rattle.list.proofs.Named.{step-named}
+use Rattle.feed.specs.Calls.{Bytes}
+use Rattle.feed.specs.Lawful.{Lawful}
+use Rattle.feed.proofs.Alike.{feed-same}
+use Rattle.list_flow.specs.Flow.{flowBytes, flowLayout, frontierOf, feedRules}
+use Rattle.list_feed.specs.Plain.{plain}
+use Rattle.list_feed.specs.Means.{listAutomata}
+use Rattle.list_feed.proofs.Lawful as plain
+use Rattle.list_feed.proofs.Lawful.{list-passes, list-shorter}
 use Rattle.matrix.specs.Matrix.{matrixed, filled, wrongMatrix, matrixRules, matrixFeed}
 use Rattle.matrix.specs.Means.{matrixMeans}
 use Rattle.matrix.proofs.Exact.{follows, same-verdict, matrix-is-plain}

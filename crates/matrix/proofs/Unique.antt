@@ -5,9 +5,9 @@ use mathlib.Core.List.{List}
 use Rattle.rules.specs.Scan.{rising}
 use Rattle.rules.specs.Rules.{Rises, Refuses, verdict}
 use Rattle.rules.proofs.Rules.{refuses, rises}
-use Rattle.feeds.specs.declared.Fed.{Fed}
-use Rattle.feeds.specs.Fed.{Answers}
-use Rattle.feeds.proofs.Unique.{unique-answers}
+use Rattle.feed.specs.declared.Fed.{Fed}
+use Rattle.feed.specs.Fed.{Answers}
+use Rattle.feed.proofs.Unique.{unique-answers}
 use Rattle.matrix.specs.Matrix.{fillRules, Fills, matrixRules, matrixFeed}
 
 -- the filler gives one answer and leaves the same bytes

@@ -9,9 +9,9 @@ use borrow.Author.Tests.{eqb-true, eq-eqb}
 use Rattle.sets.specs.Set.{states, holds, setAt}
 use Rattle.sets.proofs.Sets.{holds-pow}
 use Rattle.sets.proofs.Members.{members-size}
-use Rattle.lists.specs.List.{records, from, target}
-use Rattle.lists.specs.Automaton.{edge, step, highest}
-use Rattle.lists.proofs.Steps.{edge-exactly, step-exactly, accepted-exactly}
+use Rattle.list.specs.List.{records, from, target}
+use Rattle.list.specs.Automaton.{edge, step, highest}
+use Rattle.list.proofs.Steps.{edge-exactly, step-exactly, accepted-exactly}
 use Rattle.matrix.specs.Matrix.{cell, matrixStep, filled}
 use Rattle.matrix.specs.Words.{MatrixFilled, MatrixMoves}
 use Rattle.matrix.proofs.Unions.{union-exactly}

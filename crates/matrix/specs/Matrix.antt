@@ -8,10 +8,10 @@ use lib.Dec.{eqb}
 use Rattle.sets.specs.Set.{states, setSize, holds, join, size, setBytes, setAt}
 use Rattle.rules.specs.Scan.{stack}
 use Rattle.rules.specs.Rules.{Rule, verdict}
-use Rattle.lists.specs.List.{listRules}
-use Rattle.lists.specs.Automaton.{step, accepted, highest}
-use Rattle.feeds.specs.Engine.{Engine, Outcome, feed}
-use Rattle.flows.specs.Flow.{flowLayout, feedRules}
+use Rattle.list.specs.List.{listRules}
+use Rattle.list.specs.Automaton.{step, accepted, highest}
+use Rattle.feed.specs.Engine.{Engine, Outcome, feed}
+use Rattle.list_flow.specs.Flow.{flowLayout, feedRules}
 
 -- bytes that a piece may have
 abbrev pub byteValues : ℕ

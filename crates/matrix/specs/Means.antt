@@ -3,7 +3,7 @@ use Prim.Native.Nat.{ℕ}
 use mathlib.Core.List.{List}
 use mathlib.Core.Path.{_≡_}
 use Rattle.sets.specs.Set.{states, size}
-use Rattle.feeds.specs.Lawful.{Means}
+use Rattle.feed.specs.Lawful.{Means}
 use Rattle.matrix.specs.Matrix.{matrixed, filled, matrixRules}
 
 -- the filler writes it; a byte counts the states of the frontier

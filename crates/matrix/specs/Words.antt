@@ -6,8 +6,8 @@ use mathlib.Core.List.{List}
 use mathlib.Core.Logic.{_↔_}
 use lib.ListN.{length}
 use Rattle.sets.specs.Set.{states, signatures, holds, members, setAt}
-use Rattle.lists.specs.List.{records, isAccept, from, target}
-use Rattle.lists.specs.Automaton.{edge, highest}
+use Rattle.list.specs.List.{records, isAccept, from, target}
+use Rattle.list.specs.Automaton.{edge, highest}
 use Rattle.matrix.specs.Matrix.{cell, matrixed, filled}
 
 -- a set of 128 bytes for each state up to the highest and each byte, at index s × 256 + c: t is in it exactly when an edge record that c takes leads from s to t

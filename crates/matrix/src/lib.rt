@@ -1,7 +1,7 @@
 // The bit matrix: the filler that writes it from a list, and the feed that joins the stored sets of the frontier's states.
-use feeds::Fed;
-use flows::Ran;
-use flows::Told;
+use feed::Fed;
+use list_flow::Ran;
+use list_flow::Told;
 use sets::StateSet;
 ghost use mathlib.Core.Path.{_≡_};
 ghost use mathlib.Core.Bool.{true, false, cond};
@@ -11,11 +11,11 @@ ghost use lib.Dec.{ltb};
 ghost use lib.Count.{ones};
 ghost use Rattle.sets.specs.Set.{states, setSize, setWords, setOf, setAt, meets, join};
 ghost use Rattle.rules.specs.Rules.{verdict};
-ghost use Rattle.lists.specs.List.{records, isEdge, from, target};
-ghost use Rattle.lists.specs.Automaton.{highest};
-ghost use Rattle.feeds.specs.Engine.{mostOffset};
-ghost use Rattle.feeds.specs.Fed.{Answers};
-ghost use Rattle.flows.specs.inner.Leaves.{Leaves};
+ghost use Rattle.list.specs.List.{records, isEdge, from, target};
+ghost use Rattle.list.specs.Automaton.{highest};
+ghost use Rattle.feed.specs.Engine.{mostOffset};
+ghost use Rattle.feed.specs.Fed.{Answers};
+ghost use Rattle.list_flow.specs.inner.Leaves.{Leaves};
 ghost use Rattle.matrix.specs.Matrix.{byteValues, matrixLength, cellAt, cell, unionOver, matrixed, fillRules, Fills, matrixRules, matrixFeed};
 ghost use Rattle.matrix.specs.inner.Filling.{joinedAt, marked, markedBytes, markedRecords};
 ghost use Rattle.matrix.specs.inner.Stepped.{Steps};
@@ -56,7 +56,7 @@ fn fill_byte(list: &[u8], i: usize, s: usize, t: usize, c: u8, matrix: &mut [u8]
     requires { ⌜ (i < records (now list)) × (s ≡ from (now list) i) × (t ≡ target (now list) i) × (t < states) × (cellAt (suc s) 0 ≤ length (now matrix)) ⌝ }
     ensures { λ r. ⌜ now (matrix .exit) ≡ marked (now (list .entry)) i (now (matrix .entry)) c ⌝ }
 {
-    if lists::edge(list, c, lists::exchanged(c), i) {
+    if list::edge(list, c, list::exchanged(c), i) {
         join_at(matrix, sets::BYTES * (BYTE_VALUES * s + c as usize), t);
     }
 }
@@ -66,9 +66,9 @@ fn fill_record(list: &[u8], i: usize, matrix: &mut [u8])
     requires { ⌜ (i < records (now list)) × (isEdge (now list) i ≡ true → (target (now list) i < states) × (cellAt (suc (from (now list) i)) 0 ≤ length (now matrix))) ⌝ }
     ensures { λ r. ⌜ now (matrix .exit) ≡ markedBytes (now (list .entry)) i (now (matrix .entry)) byteValues ⌝ }
 {
-    if lists::is_edge(list, i) {
-        let s = lists::from(list, i);
-        let t = lists::target(list, i);
+    if list::is_edge(list, i) {
+        let s = list::from(list, i);
+        let t = list::target(list, i);
         for c in 0..BYTE_VALUES {
             fill_byte(list, i, s, t, c as u8, matrix);
         }
@@ -80,7 +80,7 @@ fn fill_refusal(list: &[u8], n: usize, matrix: &[u8]) -> u32
     requires { ⌜ (n ≡ suc (highest (now list))) × (n ≤ 65536) ⌝ }
     ensures { λ r. ⌜ r ≡ verdict (fillRules (now (list .entry)) (now (matrix .entry))) ⌝ }
 {
-    let listed = lists::check_list(list);
+    let listed = list::check_list(list);
     if listed != rules::PASSED {
         return listed;
     }
@@ -94,13 +94,13 @@ fn fill_refusal(list: &[u8], n: usize, matrix: &[u8]) -> u32
 pub fn fill(list: &[u8], matrix: &mut [u8]) -> u32
     ensures { λ r. ⌜ Fills (now (list .entry)) (now (matrix .entry)) r (now (matrix .exit)) ⌝ }
 {
-    let rows = lists::state_count(list);
+    let rows = list::state_count(list);
     let refusal = fill_refusal(list, rows, matrix);
     if refusal != rules::PASSED {
         return refusal;
     }
     clear(matrix);
-    let n = lists::records(list);
+    let n = list::records(list);
     for i in 0..n {
         fill_record(list, i, matrix);
     }
@@ -206,7 +206,7 @@ fn feed_refusal(list: &[u8], n: usize, matrix: &[u8], flow: &[u8], start: u64, p
     requires { ⌜ (n ≡ suc (highest (now list))) × (n ≤ 65536) ⌝ }
     ensures { λ r. ⌜ r ≡ verdict (matrixRules (now (list .entry)) (now (matrix .entry)) (now (flow .entry)) start (now (piece .entry))) ⌝ }
 {
-    let met = flows::feed_refusal(list, flow, start, piece);
+    let met = list_flow::feed_refusal(list, flow, start, piece);
     if met != rules::PASSED {
         return met;
     }
@@ -231,7 +231,7 @@ fn feed_bytes(
     ensures { λ r. ⌜ Leaves (matrixed (now (list .entry)) (now (matrix .entry))) (setOf first) offset (now (piece .entry)) (now (pairs .entry)) r (now (pairs .exit)) ⌝ }
 {
     let narrow = (n + 63) / 64;
-    let watch = bytes_of(watched(lists::accepting(list), narrow));
+    let watch = bytes_of(watched(list::accepting(list), narrow));
     let mut f = bytes_of(first);
     let mut wide = sets::WORDS;
     let mut words = 0usize;
@@ -247,7 +247,7 @@ fn feed_bytes(
         };
         if meet(&next, &watch) {
             wide = sets::WORDS;
-            told = flows::tell_accepted(list, StateSet::whole(&next, 0), pairs, words, at);
+            told = list_flow::tell_accepted(list, StateSet::whole(&next, 0), pairs, words, at);
         }
         if !told.fits {
             return Ran {
@@ -282,10 +282,10 @@ pub fn feed(
 ) -> Fed
     ensures { λ r. ⌜ Answers (matrixFeed (now (list .entry)) (now (matrix .entry)) (now (flow .entry)) start (now (piece .entry)) (now (pairs .entry))) r (now (pairs .exit)) (now (flow .exit)) ⌝ }
 {
-    let n = lists::state_count(list);
+    let n = list::state_count(list);
     let refusal = feed_refusal(list, n, matrix, flow, start, piece);
     if refusal != rules::PASSED {
-        return feeds::refused(refusal);
+        return feed::refused(refusal);
     }
     let ran = feed_bytes(
         list,
@@ -296,5 +296,5 @@ pub fn feed(
         piece,
         pairs,
     );
-    flows::finish(flow, ran, piece.len())
+    list_flow::finish(flow, ran, piece.len())
 }

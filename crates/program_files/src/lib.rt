@@ -299,25 +299,25 @@ fn within(bytes: &[u8], n: usize) -> usize
 }
 
 // Copies a list into the front of a lent one: 28 where it has not the room.
-fn copy(list: &mut [u8], other: &[u8]) -> joins::Joined {
+fn copy(list: &mut [u8], other: &[u8]) -> list_join::Joined {
     if list.len() < other.len() {
-        return joins::Joined {
+        return list_join::Joined {
             refusal: 28,
             length: 0,
         };
     }
-    joins::Joined {
+    list_join::Joined {
         refusal: rules::PASSED,
         length: program_text::put_bytes(list, 0, other),
     }
 }
 
 // Folds the list that stands in the first n bytes of a lent list; `work` has as many bytes.
-fn fold_back(list: &mut [u8], n: usize, work: &mut [u8]) -> joins::Joined {
+fn fold_back(list: &mut [u8], n: usize, work: &mut [u8]) -> list_join::Joined {
     let used = within(list, n);
-    let folded = folds::fold(&list[..used], work);
+    let folded = list_fold::fold(&list[..used], work);
     if folded.refusal != rules::PASSED {
-        return joins::Joined {
+        return list_join::Joined {
             refusal: folded.refusal,
             length: 0,
         };
@@ -327,11 +327,11 @@ fn fold_back(list: &mut [u8], n: usize, work: &mut [u8]) -> joins::Joined {
 }
 
 // Joins a list to the one that stands in the first `used` bytes of a lent list, and folds the whole. Answers the refusal and the bytes of the new list.
-fn add(list: &mut [u8], used: usize, one: &[u8], work: &mut [u8]) -> joins::Joined {
+fn add(list: &mut [u8], used: usize, one: &[u8], work: &mut [u8]) -> list_join::Joined {
     if used == 0 {
         return copy(list, one);
     }
-    let joined = joins::join(list, used, one);
+    let joined = list_join::join(list, used, one);
     if joined.refusal != rules::PASSED {
         return joined;
     }
@@ -349,7 +349,7 @@ fn take_text(
     one: &mut [u8],
     work: &mut [u8],
 ) -> Gathered {
-    let made = compile::compile(text, g, one);
+    let made = text_compile::compile(text, g, one);
     if made.refusal != rules::PASSED {
         say_refused(
             line,
@@ -590,9 +590,9 @@ fn say_list(texts: u64, list: &[u8]) {
     io::write_all(SAYS, b"watch: ");
     io::print_decimal(SAYS, texts);
     say_texts(texts);
-    io::print_decimal(SAYS, lists::state_count(list) as u64);
+    io::print_decimal(SAYS, list::state_count(list) as u64);
     io::write_all(SAYS, b" states, ");
-    io::print_decimal(SAYS, lists::records(list) as u64);
+    io::print_decimal(SAYS, list::records(list) as u64);
     io::write_all(SAYS, b" records\n");
 }
 
@@ -666,10 +666,10 @@ pub fn compile_file(path: &[u8], out: &[u8]) {
 pub fn check_folder(path: &[u8]) {
     let mut list = program_text::list_buffer();
     let n = read_file(path, &mut list);
-    let refusal = lists::check_list(&list[..n]);
+    let refusal = list::check_list(&list[..n]);
     if refusal == rules::PASSED {
         io::write_all(OUT, b"states ");
-        io::print_decimal(OUT, lists::state_count(&list[..n]) as u64);
+        io::print_decimal(OUT, list::state_count(&list[..n]) as u64);
         io::write_all(OUT, b"\nrecords ");
         io::print_decimal(OUT, (n / RECORD) as u64);
         io::write_all(OUT, b"\n");

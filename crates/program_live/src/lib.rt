@@ -564,11 +564,11 @@ fn move_line(fd: i32, state: &[u8])
         return;
     }
     let first = sets::number_at(state, program_turn::FIRST_AT, 4);
-    let mut flow = [0u8; flows::FLOW_SIZE];
+    let mut flow = [0u8; list_flow::FLOW_SIZE];
     program_turn::take_part(state, program_turn::FLOW_AT, &mut flow);
     say(
         b"watch: the line begins at number ",
-        std::num::wrapping_add_u64(first, segments::offset_of(&flow)) % program_turn::CIRCLE,
+        std::num::wrapping_add_u64(first, segment_feed::offset_of(&flow)) % program_turn::CIRCLE,
     );
 }
 

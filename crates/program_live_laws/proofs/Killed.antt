@@ -12,24 +12,24 @@ use borrow.Author.Tests.{eqb-true, eqb-false, eq-eqb, ne-eqb, leb-true, le-ltb}
 use Rattle.sets.specs.Set.{num, placed, within}
 use Rattle.rules.specs.Rules.{verdict}
 use Rattle.rules.proofs.Rules.{skip, last, verdict-then, passes-front}
-use Rattle.resends.specs.Resend.{circle}
-use Rattle.lists.specs.List.{listRules}
-use Rattle.lists.specs.Automaton.{start, named}
-use Rattle.feeds.specs.Engine.{Outcome, mostOffset, run, told}
-use Rattle.feeds.specs.Calls.{Bytes}
-use Rattle.feeds.proofs.Runs.{bytes-take, bytes-drop}
-use Rattle.feeds.proofs.Feeds.{each-feed}
-use Rattle.feeds.proofs.Opening.{opens, opening-refusal}
-use Rattle.flows.specs.Flow.{flowSize, frontierOf, offsetOf, flowRules, feedRules}
-use Rattle.flows.proofs.Records.{length-flow, good-flow}
-use Rattle.plain.specs.Plain.{plain, openPairs, firstRules, openRules, opened, openFlow, plainFeed}
-use Rattle.renewals.specs.Renewal.{renewal}
-use Rattle.renewals.proofs.Renewing.{renews, whole-renews, renewed-offset}
-use Rattle.segments.specs.Ways.{plainWay}
-use Rattle.demands.specs.Calls.{Call, byList}
-use Rattle.demands.proofs.Due.{opened-frontier, opened-offset}
-use Rattle.renewal_demands.specs.Renewed.{raised, Flow, feeding, renewing}
-use Rattle.renewal_demands.proofs.Renewed.{At, act-done, at-start}
+use Rattle.segment.specs.Resend.{circle}
+use Rattle.list.specs.List.{listRules}
+use Rattle.list.specs.Automaton.{start, named}
+use Rattle.feed.specs.Engine.{Outcome, mostOffset, run, told}
+use Rattle.feed.specs.Calls.{Bytes}
+use Rattle.feed.proofs.Runs.{bytes-take, bytes-drop}
+use Rattle.feed.proofs.Feeds.{each-feed}
+use Rattle.feed.proofs.Opening.{opens, opening-refusal}
+use Rattle.list_flow.specs.Flow.{flowSize, frontierOf, offsetOf, flowRules, feedRules}
+use Rattle.list_flow.proofs.Records.{length-flow, good-flow}
+use Rattle.list_feed.specs.Plain.{plain, openPairs, firstRules, openRules, opened, openFlow, plainFeed}
+use Rattle.list_renew.specs.Renewal.{renewal}
+use Rattle.list_renew.proofs.Renewing.{renews, whole-renews, renewed-offset}
+use Rattle.segment_feed.specs.Ways.{plainWay}
+use Rattle.laws.specs.Calls.{Call, byList}
+use Rattle.laws.proofs.Due.{opened-frontier, opened-offset}
+use Rattle.list_renew_laws.specs.Renewed.{raised, Flow, feeding, renewing}
+use Rattle.list_renew_laws.proofs.Renewed.{At, act-done, at-start}
 use Rattle.program_text.specs.Text.{lastLine}
 use Rattle.program_turn.specs.State.{stateSize, wholeNumbers, longAt, wordAt, shortAt, flowOf, flowOffset, kindAt, firstAt, beforeAt, placeAt, linesAt, flowAt, near, bytesKind, plusNumber, numbered, renewOn, renewedState, freshState}
 use Rattle.program_turn.specs.Turn.{Turn, mostUnit, Given, noWords, noRecord, linesFrom, againText, turnText, isTold, isEnd, plainGiven, givenOf, lastTurn, linesTurn, feedTurn, turnOf, openTurn}

@@ -5,12 +5,12 @@ use mathlib.Core.List.{List, [], _∷_, _++_, append-nil, append-assoc}
 use native.Mathlib.Omega.{arith}
 use lib.ListN.{length, take, drop, getD, length-append, length-take, take-append-drop, List·getD-append}
 use lib.Seq.{take-add, getD-append-add}
-use Rattle.lists.specs.Automaton.{start}
-use Rattle.feeds.specs.Engine.{run, told}
-use Rattle.feeds.proofs.Runs.{run-append, told-append, told-length}
-use Rattle.plain.specs.Plain.{plain, openPairs, pairsOf}
-use Rattle.plain.proofs.Opening.{openPairs-long}
-use Rattle.renewal_demands.specs.Renewed.{raised}
+use Rattle.list.specs.Automaton.{start}
+use Rattle.feed.specs.Engine.{run, told}
+use Rattle.feed.proofs.Runs.{run-append, told-append, told-length}
+use Rattle.list_feed.specs.Plain.{plain, openPairs, pairsOf}
+use Rattle.list_feed.proofs.Opening.{openPairs-long}
+use Rattle.list_renew_laws.specs.Renewed.{raised}
 use Rattle.program_text.specs.Text.{line}
 use Rattle.program_turn.specs.State.{wholeNumbers}
 use Rattle.program_turn.specs.Turn.{linesFrom}

@@ -9,7 +9,7 @@ use lib.Seq.{take-append-seam, drop-append-seam, take-append-le, drop-append-le,
 use Rattle.sets.specs.Set.{num, digits, placed}
 use Rattle.sets.proofs.Laws.{num-digits, length-digits}
 use Rattle.sets.proofs.Placing.{placed-fits, length-placed}
-use Rattle.flows.specs.Flow.{flowSize}
+use Rattle.list_flow.specs.Flow.{flowSize}
 use Rattle.program_turn.specs.State.{stateSize, wholeNumbers, longAt, wordAt, flowOf, lengthAt, sumAt, kindAt, firstAt, beforeAt, placeAt, linesAt, flowAt, bytesKind, plusNumber, sumOf, freshState}
 
 module _ (S : List ℕ) (at : ℕ) (xs : List ℕ) (fits : at + length xs ≤ length S) where

@@ -4,8 +4,8 @@ use mathlib.Core.Bool.{true, false, cond}
 use mathlib.Core.List.{List, [], _∷_, _++_}
 use mathlib.Core.Path.{_≡_}
 use lib.ListN.{length, take, drop, replicate}
-use Rattle.feeds.specs.Calls.{Bytes}
-use Rattle.plain.specs.Plain.{openFlow, pairsOf}
+use Rattle.feed.specs.Calls.{Bytes}
+use Rattle.list_feed.specs.Plain.{openFlow, pairsOf}
 use Rattle.program_text.specs.Text.{lastLine}
 use Rattle.program_turn.specs.State.{stateSize, wholeNumbers, longAt, flowOffset, placeAt, linesAt, bytesKind, freshState}
 use Rattle.program_turn.specs.Turn.{Turn, mostUnit, noWords, noRecord, linesFrom, turnOf, openTurn}

@@ -5,26 +5,26 @@ use mathlib.Core.List.{List}
 use native.Mathlib.Omega.{arith}
 use lib.ListN.{length, take}
 use Rattle.rules.specs.Rules.{Rule, verdict}
-use Rattle.feeds.specs.Engine.{Engine, Outcome, mostOffset, room, run, costs, consumed, ended, feed}
-use Rattle.feeds.specs.Calls.{Bytes, costing, fedBy}
-use Rattle.feeds.specs.Lawful.{Means, Lawful, Reached, wayBy}
-use Rattle.feeds.specs.Demands.{Answered}
-use Rattle.feeds.proofs.Runs.{bytes-take, length-take-most}
-use Rattle.feeds.proofs.Follows.{consumed-same}
-use Rattle.feeds.proofs.Alike.{answered}
-use Rattle.feeds.proofs.Moves.{feed-ends}
-use Rattle.feeds.proofs.Lawful.{reached-next}
-use Rattle.feeds.proofs.Whole.{run-good, run-costing, follows-costing}
-use Rattle.flows.specs.Flow.{flowLayout, frontierOf, offsetOf, rowsOf, feedRules}
-use Rattle.flows.proofs.Records.{frontier-flow, offset-flow}
-use Rattle.flows.proofs.Kept.{good-feed}
-use Rattle.plain.specs.Plain.{plain, plainFeed}
-use Rattle.plain.specs.Means.{listAutomata}
-use Rattle.plain.proofs.Plain.{plain-cheap}
-use Rattle.plain.proofs.Lawful.{list-passes, reached-lt}
-use Rattle.plain.proofs.Lawful as list
+use Rattle.feed.specs.Engine.{Engine, Outcome, mostOffset, room, run, costs, consumed, ended, feed}
+use Rattle.feed.specs.Calls.{Bytes, costing, fedBy}
+use Rattle.feed.specs.Lawful.{Means, Lawful, Reached, wayBy}
+use Rattle.feed.specs.Demands.{Answered}
+use Rattle.feed.proofs.Runs.{bytes-take, length-take-most}
+use Rattle.feed.proofs.Follows.{consumed-same}
+use Rattle.feed.proofs.Alike.{answered}
+use Rattle.feed.proofs.Moves.{feed-ends}
+use Rattle.feed.proofs.Lawful.{reached-next}
+use Rattle.feed.proofs.Whole.{run-good, run-costing, follows-costing}
+use Rattle.list_flow.specs.Flow.{flowLayout, frontierOf, offsetOf, rowsOf, feedRules}
+use Rattle.list_flow.proofs.Records.{frontier-flow, offset-flow}
+use Rattle.list_flow.proofs.Kept.{good-feed}
+use Rattle.list_feed.specs.Plain.{plain, plainFeed}
+use Rattle.list_feed.specs.Means.{listAutomata}
+use Rattle.list_feed.proofs.Plain.{plain-cheap}
+use Rattle.list_feed.proofs.Lawful.{list-passes, reached-lt}
+use Rattle.list_feed.proofs.Lawful as list
 use Rattle.matrix.proofs.Lawful as matrix
-use Rattle.entries.proofs.Lawful as index
+use Rattle.index.proofs.Lawful as index
 use Rattle.program_run.specs.Run.{meansOf, Alike}
 
 -- each engine is lawful

@@ -5,12 +5,12 @@ use mathlib.Core.Bool.{Bool, true, false, true≢false}
 use mathlib.Core.List.{List}
 use lib.Dec.{eqb}
 use borrow.Author.Tests.{eqb-true}
-use Rattle.feeds.specs.Opening.{Opening}
-use Rattle.feeds.proofs.Opening.{opens, opening-refusal}
-use Rattle.plain.specs.Plain.{openPairs, openRules, opened, openFlow}
-use Rattle.app.specs.declared.Said.{Said}
-use Rattle.app.specs.App.{Turn, openTurn, noWords, noRecord, Says}
-use Rattle.app.proofs.Feeding.{open-by}
+use Rattle.feed.specs.Opening.{Opening}
+use Rattle.feed.proofs.Opening.{opens, opening-refusal}
+use Rattle.list_feed.specs.Plain.{openPairs, openRules, opened, openFlow}
+use Rattle.program.specs.declared.Said.{Said}
+use Rattle.program.specs.App.{Turn, openTurn, noWords, noRecord, Says}
+use Rattle.program.proofs.Feeding.{open-by}
 use Rattle.program_run.specs.Run.{Alike}
 use Rattle.program_run.proofs.Readying.{alike-opened}
 

@@ -8,22 +8,22 @@ use lib.Seq.{take-at, length-take-le}
 use borrow.Author.Tests.{eq-eqb, ne-eqb}
 use Rattle.rules.specs.Rules.{verdict}
 use Rattle.rules.proofs.Rules.{passes-front}
-use Rattle.lists.specs.List.{listRules}
-use Rattle.lists.specs.Automaton.{start}
-use Rattle.lists.proofs.Steps.{start-lt}
-use Rattle.feeds.specs.Fed.{Answers}
-use Rattle.feeds.specs.declared.Fed.{Fed}
-use Rattle.feeds.proofs.Lawful.{reached-start}
-use Rattle.flows.proofs.Records.{frontier-flow, flow-good}
-use Rattle.plain.specs.Plain.{opened, plainFeed}
-use Rattle.plain.specs.Means.{listAutomata}
+use Rattle.list.specs.List.{listRules}
+use Rattle.list.specs.Automaton.{start}
+use Rattle.list.proofs.Steps.{start-lt}
+use Rattle.feed.specs.Fed.{Answers}
+use Rattle.feed.specs.declared.Fed.{Fed}
+use Rattle.feed.proofs.Lawful.{reached-start}
+use Rattle.list_flow.proofs.Records.{frontier-flow, flow-good}
+use Rattle.list_feed.specs.Plain.{opened, plainFeed}
+use Rattle.list_feed.specs.Means.{listAutomata}
 use Rattle.matrix.specs.Matrix.{filled, Fills, matrixFeed}
 use Rattle.matrix.proofs.Exact.{filled-long}
 use Rattle.matrix.proofs.Filling.{fill-passes}
-use Rattle.entries.specs.Stand.{standFeed}
-use Rattle.build.proofs.Outcomes.{fronts-of}
-use Rattle.prepares.specs.Prepare.{Preparing, Prepares, refuses, passesLimit, prepares, splitsOf, madeIndex}
-use Rattle.prepares.proofs.Right.{prepared-checked}
+use Rattle.index.specs.Stand.{standFeed}
+use Rattle.table_build.proofs.Outcomes.{fronts-of}
+use Rattle.index_prepare.specs.Prepare.{Preparing, Prepares, refuses, passesLimit, prepares, splitsOf, madeIndex}
+use Rattle.index_prepare.proofs.Right.{prepared-checked}
 use Rattle.program_run.specs.declared.By.{By}
 use Rattle.program_run.specs.Run.{fedOf, Readied, Alike}
 

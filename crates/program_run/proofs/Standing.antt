@@ -4,7 +4,7 @@ use mathlib.Core.Path.{_≡_}
 use mathlib.Core.Bool.{Bool, false}
 use mathlib.Core.List.{List}
 use lib.ListN.{length}
-use Rattle.app.proofs.Handing.{allHanded, Running}
+use Rattle.program.proofs.Handing.{allHanded, Running}
 use Rattle.program_run.specs.Run.{Alike}
 
 -- from the record R₀ on, where the log log₀ ends at `begun`: at an offset with the record Q, and i texts taken

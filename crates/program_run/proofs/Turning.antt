@@ -7,21 +7,21 @@ use native.Mathlib.Omega.{arith}
 use lib.ListN.{length, take}
 use Rattle.io.specs.Counts.{Counts}
 use Rattle.rules.specs.Rules.{verdict}
-use Rattle.feeds.specs.Engine.{Outcome}
-use Rattle.feeds.specs.Calls.{Bytes}
-use Rattle.feeds.specs.Fed.{Answers}
-use Rattle.feeds.specs.declared.Fed.{Fed}
-use Rattle.feeds.specs.Demands.{Answered}
-use Rattle.feeds.specs.Lawful.{wayBy}
-use Rattle.feeds.proofs.Moves.{feed-fits}
-use Rattle.flows.specs.Flow.{feedRules}
-use Rattle.plain.specs.Plain.{plainFeed}
-use Rattle.plain.specs.Means.{listAutomata}
-use Rattle.plain.proofs.Plain.{plain-refusal}
+use Rattle.feed.specs.Engine.{Outcome}
+use Rattle.feed.specs.Calls.{Bytes}
+use Rattle.feed.specs.Fed.{Answers}
+use Rattle.feed.specs.declared.Fed.{Fed}
+use Rattle.feed.specs.Demands.{Answered}
+use Rattle.feed.specs.Lawful.{wayBy}
+use Rattle.feed.proofs.Moves.{feed-fits}
+use Rattle.list_flow.specs.Flow.{feedRules}
+use Rattle.list_feed.specs.Plain.{plainFeed}
+use Rattle.list_feed.specs.Means.{listAutomata}
+use Rattle.list_feed.proofs.Plain.{plain-refusal}
 use Rattle.program_text.specs.Text.{lines, lastLine}
-use Rattle.app.specs.declared.Said.{Said}
-use Rattle.app.specs.App.{Turn, turnOf, noWords, Says}
-use Rattle.app.proofs.Feeding.{says-end, says-refused, says-lines}
+use Rattle.program.specs.declared.Said.{Said}
+use Rattle.program.specs.App.{Turn, turnOf, noWords, Says}
+use Rattle.program.proofs.Feeding.{says-end, says-refused, says-lines}
 use Rattle.program_run.specs.declared.By.{By}
 use Rattle.program_run.specs.Run.{meansBy, fedOf, Readied, Alike, Spoken}
 use Rattle.program_run.proofs.Alike.{lawful-of, answers-so, leaves-so}

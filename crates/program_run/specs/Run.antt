@@ -4,15 +4,15 @@ use mathlib.Core.Path.{_≡_}
 use mathlib.Core.Bool.{false}
 use mathlib.Core.List.{List}
 use lib.ListN.{length, take}
-use Rattle.feeds.specs.Engine.{Outcome}
-use Rattle.feeds.specs.Calls.{fedBy}
-use Rattle.feeds.specs.Lawful.{Means, wayBy, Reached}
-use Rattle.flows.specs.Flow.{frontierOf, offsetOf, badFlow}
-use Rattle.plain.specs.Means.{listAutomata, listMeans}
+use Rattle.feed.specs.Engine.{Outcome}
+use Rattle.feed.specs.Calls.{fedBy}
+use Rattle.feed.specs.Lawful.{Means, wayBy, Reached}
+use Rattle.list_flow.specs.Flow.{frontierOf, offsetOf, badFlow}
+use Rattle.list_feed.specs.Means.{listAutomata, listMeans}
 use Rattle.matrix.specs.Means.{matrixMeans}
-use Rattle.entries.specs.Means.{standMeans}
-use Rattle.app.specs.declared.Said.{Said}
-use Rattle.app.specs.App.{Turn, Says}
+use Rattle.index.specs.Means.{standMeans}
+use Rattle.program.specs.declared.Said.{Said}
+use Rattle.program.specs.App.{Turn, Says}
 use Rattle.program_run.specs.declared.By.{By}
 
 -- the engine of a number: 0 the list, 1 the matrix X, from 2 on the splits S with the index X from split h, at one row a byte

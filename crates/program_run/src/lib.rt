@@ -2,17 +2,17 @@
 // the place of the index, else by the list. The opening's lines come first, then the list is prepared, then the input is read.
 // What is handed over is what 01's program (app) hands over, to the byte, for every list, every input and all answers of the writes: each engine answers as
 // the plain feed does, and the record that it leaves stands where the plain one does, but for the rows.
-use app::Said;
-use indexed::Stood;
+use index_feed::Stood;
+use program::Said;
 ghost use mathlib.Core.Path.{_≡_};
 ghost use mathlib.Core.Bool.{false};
 ghost use mathlib.Core.List.{List};
 ghost use Prim.Native.Nat.{ℕ, suc, _<_, _≤_};
 ghost use lib.ListN.{length, take, drop};
-ghost use Rattle.feeds.specs.Fed.{Answers};
+ghost use Rattle.feed.specs.Fed.{Answers};
 ghost use Rattle.matrix.specs.Matrix.{filled};
 ghost use Rattle.program_text.specs.Hand.{handed, Logs};
-ghost use Rattle.app.specs.App.{textSize, pieceSize, turnOf, textsFrom, texts};
+ghost use Rattle.program.specs.App.{textSize, pieceSize, turnOf, textsFrom, texts};
 ghost use Rattle.program_run.specs.Run.{fedOf, Readied, Alike, Spoken};
 
 // Words of the pairs buffer: room for 1,024 pairs, four times what one byte can tell.
@@ -47,7 +47,7 @@ fn fill_matrix(list: &[u8], index: &mut [u8]) -> usize
     ensures { λ r. ⌜ (length (now (index .exit)) ≡ length (now (index .entry))) × (r ≤ length (now (index .exit)))
         × (0 < r → take r (now (index .exit)) ≡ filled (now (list .entry))) ⌝ }
 {
-    let m = matrix::ROW_SIZE * lists::state_count(list);
+    let m = matrix::ROW_SIZE * list::state_count(list);
     if index.len() < m {
         return 0;
     }
@@ -62,7 +62,7 @@ fn fill_matrix(list: &[u8], index: &mut [u8]) -> usize
 fn ready(list: &[u8], splits: &mut [u8], index: &mut [u8]) -> By
     ensures { λ r. ⌜ Readied (now (list .entry)) (now (splits .exit)) (now (index .exit)) r ⌝ }
 {
-    let made = prepares::prepare(list, splits, index);
+    let made = index_prepare::prepare(list, splits, index);
     if made.refusal == rules::PASSED {
         return By {
             engine: BY_INDEX,
@@ -116,7 +116,7 @@ fn feed_by(
         (r .fed) (now (out .exit)) (now (flow .exit)) ⌝ }
 {
     if by.engine == BY_LIST {
-        let fed = plain::feed(list, flow, offset, rest, out);
+        let fed = list_feed::feed(list, flow, offset, rest, out);
         return Stood { fed: fed, split: 0 };
     }
     let n = by.index;
@@ -128,7 +128,7 @@ fn feed_by(
         };
     }
     let m = by.splits;
-    indexed::feed(&splits[..m], &index[..n], by.hint, flow, offset, rest, out)
+    index_feed::feed(&splits[..m], &index[..n], by.hint, flow, offset, rest, out)
 }
 
 // Feeds what is left of a piece once, and puts the lines of its pairs; where nothing is left, or the feed is refused, it puts the last line.
@@ -207,7 +207,7 @@ fn run(
     let mut split: usize = 0;
     let mut end = begun;
     loop {
-        n = app::read_piece(outside, input, offset, piece, n);
+        n = program::read_piece(outside, input, offset, piece, n);
         let from = (offset % PIECE as u64) as usize;
         let spoke = turn(
             list,
@@ -253,10 +253,10 @@ fn watch(
 ) -> usize
     ensures { λ r. ⌜ (outside ≡ false → Logs 0 (handed (texts (now (list .entry)) (now (input .entry))) (now (answers .entry))) (now (log .entry)) r (now (log .exit))) ⌝ }
 {
-    let mut flow = [0u8; flows::FLOW_SIZE];
+    let mut flow = [0u8; list_flow::FLOW_SIZE];
     let mut piece = io::buffer();
     let mut text = io::large_buffer();
-    let said = app::begin(list, &mut flow, &mut text);
+    let said = program::begin(list, &mut flow, &mut text);
     let taken = program_text::hand(outside, 1, &text[..said.length], answers, 0, log, 0);
     let end = taken.end;
     if said.last {
@@ -283,17 +283,17 @@ fn watch(
 }
 
 // Zeros for the splits of a prepared list.
-fn splits_buffer() -> [u8; prepares::PREPARE_SPLITS]
+fn splits_buffer() -> [u8; index_prepare::PREPARE_SPLITS]
     ensures { λ r. ⌜ 557056 ≡ length r ⌝ }
 {
-    [0; prepares::PREPARE_SPLITS]
+    [0; index_prepare::PREPARE_SPLITS]
 }
 
 // Zeros for its index, or for a matrix.
-fn index_buffer() -> [u8; prepares::PREPARE_INDEX]
+fn index_buffer() -> [u8; index_prepare::PREPARE_INDEX]
     ensures { λ r. ⌜ 4456576 ≡ length r ⌝ }
 {
-    [0; prepares::PREPARE_INDEX]
+    [0; index_prepare::PREPARE_INDEX]
 }
 
 // The program: watches standard input by the list of a path.

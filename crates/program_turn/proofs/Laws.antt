@@ -12,17 +12,17 @@ use borrow.Author.Tests.{eq-eqb, ne-eqb, le-leb, lt-leb}
 use Rattle.io.specs.Counts.{Counts}
 use Rattle.sets.specs.Set.{placed, digits}
 use Rattle.sets.proofs.Placing.{placed-fits}
-use Rattle.resends.specs.Resend.{circle, heldSize}
-use Rattle.feeds.specs.Fed.{Answers}
-use Rattle.feeds.specs.declared.Fed.{Fed}
-use Rattle.feeds.proofs.Feeds.{each-feed}
-use Rattle.flows.specs.Flow.{flowSize, offsetOf}
-use Rattle.plain.specs.Plain.{plainFeed}
-use Rattle.renewals.specs.Renewal.{renewal, Renews}
-use Rattle.segments.specs.Ways.{plainWay, plainSegment}
-use Rattle.segments.specs.Post.{Hears, sent, kept}
-use Rattle.segments.specs.declared.Heard.{Heard}
-use Rattle.segments.proofs.Looking.{segment-fits}
+use Rattle.segment.specs.Resend.{circle, heldSize}
+use Rattle.feed.specs.Fed.{Answers}
+use Rattle.feed.specs.declared.Fed.{Fed}
+use Rattle.feed.proofs.Feeds.{each-feed}
+use Rattle.list_flow.specs.Flow.{flowSize, offsetOf}
+use Rattle.list_feed.specs.Plain.{plainFeed}
+use Rattle.list_renew.specs.Renewal.{renewal, Renews}
+use Rattle.segment_feed.specs.Ways.{plainWay, plainSegment}
+use Rattle.segment_feed.specs.Post.{Hears, sent, kept}
+use Rattle.segment_feed.specs.declared.Heard.{Heard}
+use Rattle.segment_feed.proofs.Looking.{segment-fits}
 use Rattle.program_text.specs.Text.{mostDigits, lineSize, decimal, line, lastLine, Puts}
 use Rattle.program_text.proofs.Texts.{puts-none, puts-after, puts-less}
 use Rattle.program_turn.specs.State.{keptState, wholeNumbers, longAt, wordAt, shortAt, flowOf, heldOf, flowOffset, kindAt, firstAt, heldStartAt, heldLengthAt, beforeAt, flowAt, heldAt, near, plusNumber, numbered, renewOn, sumFrom}

@@ -5,9 +5,9 @@ use mathlib.Core.List.{List, [], _∷_}
 use lib.ListN.{length, take, drop}
 use lib.Dec.{eqb, leb}
 use Rattle.sets.specs.Set.{num, digits, placed}
-use Rattle.flows.specs.Flow.{flowSize, offsetOf}
-use Rattle.renewals.specs.Renewal.{renewal}
-use Rattle.resends.specs.Resend.{circle, heldSize}
+use Rattle.list_flow.specs.Flow.{flowSize, offsetOf}
+use Rattle.list_renew.specs.Renewal.{renewal}
+use Rattle.segment.specs.Resend.{circle, heldSize}
 
 -- ---- the places
 

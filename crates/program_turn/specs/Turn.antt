@@ -7,10 +7,10 @@ use lib.ListN.{length, take, getD, replicate}
 use lib.Dec.{eqb}
 use Rattle.io.specs.Counts.{Counts}
 use Rattle.sets.specs.Set.{placed}
-use Rattle.flows.specs.Flow.{flowSize, offsetOf}
-use Rattle.plain.specs.Plain.{openFlow, plainFeed}
-use Rattle.segments.specs.Ways.{plainSegment}
-use Rattle.segments.specs.Post.{sent, kept}
+use Rattle.list_flow.specs.Flow.{flowSize, offsetOf}
+use Rattle.list_feed.specs.Plain.{openFlow, plainFeed}
+use Rattle.segment_feed.specs.Ways.{plainSegment}
+use Rattle.segment_feed.specs.Post.{sent, kept}
 use Rattle.program_text.specs.Text.{decimal, line, lineSize, lastLine}
 use Rattle.program_turn.specs.State.{keptState, wholeNumbers, longAt, wordAt, shortAt, flowOf, heldOf, flowOffset, kindAt, firstAt, heldStartAt, heldLengthAt, beforeAt, placeAt, linesAt, flowAt, bytesKind, plusNumber, numbered, renewOn}
 use Rattle.program_turn.specs.declared.Given as given

@@ -6,8 +6,8 @@ ghost use Prim.Native.Nat.{_+_, _*_, _%_, _≤_, _<_};
 ghost use lib.ListN.{length, take, drop, replicate};
 ghost use Rattle.io.specs.Counts.{Counts};
 ghost use Rattle.sets.specs.Set.{placed};
-ghost use Rattle.flows.specs.Flow.{flowSize};
-ghost use Rattle.resends.specs.Resend.{heldSize};
+ghost use Rattle.list_flow.specs.Flow.{flowSize};
+ghost use Rattle.segment.specs.Resend.{heldSize};
 ghost use Rattle.program_text.specs.Text.{lineSize, line, Puts};
 ghost use Rattle.program_turn.specs.State.{stateSize, keptState, wholeNumbers, sumOf, shortAt, flowOffset, plusNumber, numbered, renewOn, isStateOf, freshState};
 ghost use Rattle.program_turn.specs.Turn.{mostPairs, mostUnit, textSize, linesFrom, againText, turnText, passedOf, overOf, isEnd, isTold, plainGiven, segmentGiven, givenOf, lastTurn, linesTurn, feedTurn, turnOf, openTurn, Gives, Says};
@@ -152,13 +152,13 @@ fn renew(state: &mut [u8])
     requires { ⌜ length (now state) ≡ stateSize ⌝ }
     ensures { λ r. ⌜ now (state .exit) ≡ renewOn (now (state .entry)) ⌝ }
 {
-    let mut flow = [0u8; flows::FLOW_SIZE];
+    let mut flow = [0u8; list_flow::FLOW_SIZE];
     take_part(state, FLOW_AT, &mut flow);
-    let offset = segments::offset_of(&flow);
+    let offset = segment_feed::offset_of(&flow);
     if offset <= NEAR {
         return;
     }
-    let refusal = renewals::renew(&mut flow);
+    let refusal = list_renew::renew(&mut flow);
     if refusal != rules::PASSED {
         return;
     }
@@ -250,10 +250,10 @@ fn give_plain(list: &[u8], state: &mut [u8], rest: &[u8], out: &mut [u32]) -> Gi
     requires { ⌜ length (now state) ≡ stateSize ⌝ }
     ensures { λ r. ⌜ Gives (plainGiven (now (list .entry)) (now (state .entry)) (now (rest .entry)) (now (out .entry))) r (now (out .exit)) (now (state .exit)) ⌝ }
 {
-    let mut flow = [0u8; flows::FLOW_SIZE];
+    let mut flow = [0u8; list_flow::FLOW_SIZE];
     take_part(state, FLOW_AT, &mut flow);
-    let at = segments::offset_of(&flow);
-    let fed = plain::feed(list, &mut flow, at, rest, out);
+    let at = segment_feed::offset_of(&flow);
+    let fed = list_feed::feed(list, &mut flow, at, rest, out);
     put_part(state, FLOW_AT, &flow);
     Given {
         refusal: fed.refusal,
@@ -279,7 +279,7 @@ fn keep(state: &mut [u8], flow: &[u8], held: &[u8], place: u32, count: u32)
 fn passed(refusal: u32) -> u32
     ensures { λ r. ⌜ r ≡ passedOf refusal ⌝ }
 {
-    if refusal == resends::NOT_TAKEN {
+    if refusal == segment::NOT_TAKEN {
         0
     } else {
         refusal
@@ -293,7 +293,7 @@ fn over(all: bool, refusal: u32, n: usize) -> usize
     if all {
         return n;
     }
-    if refusal == resends::NOT_TAKEN {
+    if refusal == segment::NOT_TAKEN {
         return n;
     }
     0
@@ -304,11 +304,11 @@ fn give_segment(list: &[u8], state: &mut [u8], start: u32, bytes: &[u8], out: &m
     requires { ⌜ (length (now state) ≡ stateSize) × (length (now bytes) ≤ mostUnit) ⌝ }
     ensures { λ r. ⌜ Gives (segmentGiven (now (list .entry)) (now (state .entry)) start (now (bytes .entry)) (now (out .entry))) r (now (out .exit)) (now (state .exit)) ⌝ }
 {
-    let mut flow = [0u8; flows::FLOW_SIZE];
+    let mut flow = [0u8; list_flow::FLOW_SIZE];
     let mut held = io::buffer();
     take_part(state, FLOW_AT, &mut flow);
     take_part(state, HELD_AT, &mut held);
-    let heard = segments::feed_segment(
+    let heard = segment_feed::feed_segment(
         list,
         &mut flow,
         short_number(state, FIRST_AT),
@@ -325,7 +325,7 @@ fn give_segment(list: &[u8], state: &mut [u8], start: u32, bytes: &[u8], out: &m
         pairs: heard.pairs,
         done: over(heard.all, heard.refusal, bytes.len()),
         moved: over(heard.all, heard.refusal, bytes.len() + HEAD),
-        again: heard.refusal == resends::NOT_TAKEN,
+        again: heard.refusal == segment::NOT_TAKEN,
     }
 }
 
@@ -368,10 +368,10 @@ fn offset_of(state: &[u8]) -> u64
     requires { ⌜ length (now state) ≡ stateSize ⌝ }
     ensures { λ r. ⌜ r ≡ flowOffset (now (state .entry)) ⌝ }
 {
-    let mut flow = [0u8; flows::FLOW_SIZE];
+    let mut flow = [0u8; list_flow::FLOW_SIZE];
     take_part(state, FLOW_AT, &mut flow);
     let before = sets::number_at(state, BEFORE_AT, 8);
-    std::num::wrapping_add_u64(before, segments::offset_of(&flow))
+    std::num::wrapping_add_u64(before, segment_feed::offset_of(&flow))
 }
 
 // Says the last line: `end` and the offset, or `refused` and the number.
@@ -471,9 +471,9 @@ pub fn begin(keeping: bool, list: &[u8], state: &mut [u8], text: &mut [u8]) -> S
     requires { ⌜ (length (now state) ≡ stateSize) × (textSize ≤ length (now text)) ⌝ }
     ensures { λ r. ⌜ Says (openTurn keeping (now (list .entry)) (now (state .entry))) r (now (text .exit)) (now (state .exit)) ⌝ }
 {
-    let mut flow = [0u8; flows::FLOW_SIZE];
+    let mut flow = [0u8; list_flow::FLOW_SIZE];
     let mut out = [0u32; PAIR_WORDS];
-    let opened = plain::open_flow(list, &mut flow, &mut out);
+    let opened = list_feed::open_flow(list, &mut flow, &mut out);
     if opened.refusal != rules::PASSED {
         return say_last(text, state, opened.refusal);
     }

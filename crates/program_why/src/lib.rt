@@ -68,7 +68,7 @@ fn keep(records: &mut [u8], k: usize, flow: &[u8]) {
     if MOST_PIECES <= k {
         return;
     }
-    let at = flows::FLOW_SIZE * k;
+    let at = list_flow::FLOW_SIZE * k;
     if records.len() < at {
         return;
     }
@@ -80,7 +80,7 @@ fn keep(records: &mut [u8], k: usize, flow: &[u8]) {
 
 // Feeds what is left of a piece from a place on; answers how many bytes it consumed, none where it is refused.
 fn feed_rest(list: &[u8], flow: &mut [u8], start: u64, rest: &[u8], out: &mut [u32]) -> usize {
-    let fed = plain::feed(list, flow, start, rest, out);
+    let fed = list_feed::feed(list, flow, start, rest, out);
     if fed.refusal != rules::PASSED {
         return 0;
     }
@@ -111,10 +111,10 @@ fn feed_piece(list: &[u8], flow: &mut [u8], start: u64, piece: &[u8], out: &mut 
 
 // Keeps the record before each of so many pieces; answers the refusal of the opening, or 6 where a piece cannot be fed.
 fn keep_records(list: &[u8], fd: i32, pieces: usize, records: &mut [u8]) -> u32 {
-    let mut flow = [0u8; flows::FLOW_SIZE];
+    let mut flow = [0u8; list_flow::FLOW_SIZE];
     let mut piece = io::buffer();
     let mut out = [0u32; PAIR_WORDS];
-    let opened = plain::open_flow(list, &mut flow, &mut out);
+    let opened = list_feed::open_flow(list, &mut flow, &mut out);
     if opened.refusal != rules::PASSED {
         return opened.refusal;
     }
@@ -165,7 +165,7 @@ fn ask(
     work: &mut [u8],
 ) -> u32 {
     if asked.pair {
-        return reasons::why(
+        return list_why::why(
             list,
             flow,
             start,
@@ -176,7 +176,7 @@ fn ask(
             work,
         );
     }
-    reasons::why_state(
+    list_why::why_state(
         list,
         flow,
         start,
@@ -201,13 +201,13 @@ fn ask_piece(
     if MOST_PIECES <= k {
         return NOT_A_PLACE;
     }
-    let at = flows::FLOW_SIZE * k;
-    if records.len() < at + flows::FLOW_SIZE {
+    let at = list_flow::FLOW_SIZE * k;
+    if records.len() < at + list_flow::FLOW_SIZE {
         return NOT_A_PLACE;
     }
     ask(
         list,
-        &records[at..at + flows::FLOW_SIZE],
+        &records[at..at + list_flow::FLOW_SIZE],
         start_of(k),
         piece,
         asked,
@@ -317,7 +317,7 @@ fn ask_all(
 
 // The line of a state and of the record that led to it.
 fn say_state(list: &[u8], before: u16, byte: u8, state: u16) {
-    let edge = reasons::find_edge(list, before as u32, byte as u32, state as u32);
+    let edge = list_why::find_edge(list, before as u32, byte as u32, state as u32);
     io::print_decimal(OUT, state as u64);
     io::write_all(OUT, b" ");
     io::print_decimal(OUT, edge.place as u64);

@@ -9,18 +9,18 @@ use lib.Dec.{eqb}
 use borrow.Author.Tests.{eq-eqb, ne-eqb}
 use borrow.Rule.Slice.PartMut.{midOf}
 use Rattle.rules.specs.Rules.{verdict}
-use Rattle.flows.specs.Flow.{offsetOf}
-use Rattle.tables.specs.Table.{mostSplits}
-use Rattle.entries.specs.Stand.{stoodAt}
-use Rattle.entries.proofs.Lawful.{stood-few}
-use Rattle.resends.specs.Resend.{circle, taking, due}
-use Rattle.resends.specs.Post.{Takes}
-use Rattle.resends.specs.declared.Held.{Held}
-use Rattle.segments.specs.Segment.{Sent, Kept, Look, dueOf, looked, mostLooks, doorRules, atDoor}
-use Rattle.segments.specs.Post.{Looks}
-use Rattle.segments.specs.declared.Looked.{Looked}
-use Rattle.segments.proofs.Looking.{looked-off}
-use Rattle.segments.proofs.Hearing.{mid-end, due-here}
+use Rattle.list_flow.specs.Flow.{offsetOf}
+use Rattle.table.specs.Table.{mostSplits}
+use Rattle.index.specs.Stand.{stoodAt}
+use Rattle.index.proofs.Lawful.{stood-few}
+use Rattle.segment.specs.Resend.{circle, taking, due}
+use Rattle.segment.specs.Post.{Takes}
+use Rattle.segment.specs.declared.Held.{Held}
+use Rattle.segment_feed.specs.Segment.{Sent, Kept, Look, dueOf, looked, mostLooks, doorRules, atDoor}
+use Rattle.segment_feed.specs.Post.{Looks}
+use Rattle.segment_feed.specs.declared.Looked.{Looked}
+use Rattle.segment_feed.proofs.Looking.{looked-off}
+use Rattle.segment_feed.proofs.Hearing.{mid-end, due-here}
 use Rattle.segment_index.specs.Standing.{standWay, stoodMore, stoodAfter, stoodBy}
 use Rattle.segment_index.specs.Post.{MoreAt}
 use Rattle.segment_index.specs.declared.LookedAt.{LookedAt}

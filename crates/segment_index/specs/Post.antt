@@ -2,8 +2,8 @@
 use Prim.Native.Nat.{ℕ}
 use mathlib.Core.Path.{_≡_}
 use mathlib.Core.List.{List}
-use Rattle.segments.specs.Segment.{Sent, Look}
-use Rattle.segments.specs.Post.{Looks, More}
+use Rattle.segment_feed.specs.Segment.{Sent, Look}
+use Rattle.segment_feed.specs.Post.{Looks, More}
 use Rattle.segment_index.specs.Standing.{standWay, stoodMore}
 use Rattle.segment_index.specs.declared.LookedAt.{LookedAt}
 

@@ -4,10 +4,10 @@ use mathlib.Core.Bool.{cond}
 use mathlib.Core.List.{List}
 use lib.ListN.{length, drop}
 use lib.Dec.{eqb}
-use Rattle.feeds.specs.Calls.{Way}
-use Rattle.flows.specs.Flow.{offsetOf}
-use Rattle.entries.specs.Stand.{Stand, indexed, standLayout, standRules, stoodAt}
-use Rattle.segments.specs.Segment.{Sent, Kept, Heard, Look, dueOf, looked, mostLooks, atDoor, feedSegment}
+use Rattle.feed.specs.Calls.{Way}
+use Rattle.list_flow.specs.Flow.{offsetOf}
+use Rattle.index.specs.Stand.{Stand, indexed, standLayout, standRules, stoodAt}
+use Rattle.segment_feed.specs.Segment.{Sent, Kept, Heard, Look, dueOf, looked, mostLooks, atDoor, feedSegment}
 
 -- by the splits S and the index X, from the split h where the flow stands there
 abbrev pub standWay : List ℕ → List ℕ → ℕ → Way

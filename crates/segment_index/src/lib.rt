@@ -1,10 +1,10 @@
 // Feeding a flow by segments by its index: what a segment does around the feed is that of every engine; here is the look with the feed by an index in it,
 // which says beside the rest at which split the flow then stands.
-use segments::Heard;
-use segments::Looked;
+use segment_feed::Heard;
+use segment_feed::Looked;
 ghost use mathlib.Core.Path.{_≡_};
 ghost use lib.ListN.{length};
-ghost use Rattle.segments.specs.Post.{Hears, Roomy, sent, kept};
+ghost use Rattle.segment_feed.specs.Post.{Hears, Roomy, sent, kept};
 ghost use Rattle.segment_index.specs.Standing.{standSegment, stoodBy};
 ghost use Rattle.segment_index.specs.Post.{MoreAt};
 
@@ -42,21 +42,21 @@ fn look(
     if !on {
         return there;
     }
-    let at = segments::offset_of(flow);
-    let next = segments::next_of(first, at);
-    let taken = resends::take(next, held, so.start, so.length, start, segment);
-    let due = resends::due(next, held, taken.start, taken.length, start, segment);
+    let at = segment_feed::offset_of(flow);
+    let next = segment_feed::next_of(first, at);
+    let taken = segment::take(next, held, so.start, so.length, start, segment);
+    let due = segment::due(next, held, taken.start, taken.length, start, segment);
     if due.len() == 0 {
-        let unfed = segments::idle(so, taken);
+        let unfed = segment_feed::idle(so, taken);
         return LookedAt {
             so: unfed,
             split: there.split,
         };
     }
     let w = 2 * so.pairs;
-    let stood = indexed::feed(splits, index, hint, flow, at, due, &mut pairs[w..]);
+    let stood = index_feed::feed(splits, index, hint, flow, at, due, &mut pairs[w..]);
     let fed = stood.fed;
-    let led = segments::busy(so, taken, fed);
+    let led = segment_feed::busy(so, taken, fed);
     LookedAt {
         so: led,
         split: stood.split,
@@ -84,15 +84,15 @@ pub fn feed_segment(
         × (r .split ≡ stoodBy (now (splits .entry)) (now (index .entry)) hint (sent first start (now (segment .entry)))
         (kept (now (flow .entry)) (now (held .entry)) «held_start» «held_length») (now (pairs .entry))) ⌝ }
 {
-    let at = segments::offset_of(flow);
-    let met = indexed::refusal(splits, index, hint, flow, at, &segment[0..0]);
-    let refusal = segments::door(met, held.len(), held_length, segment.len());
-    let begun = segments::begun(refusal, held_start, held_length);
+    let at = segment_feed::offset_of(flow);
+    let met = index_feed::refusal(splits, index, hint, flow, at, &segment[0..0]);
+    let refusal = segment_feed::door(met, held.len(), held_length, segment.len());
+    let begun = segment_feed::begun(refusal, held_start, held_length);
     let mut there = LookedAt {
         so: begun,
         split: hint,
     };
-    for i in 0..segments::MOST_LOOKS {
+    for i in 0..segment_feed::MOST_LOOKS {
         there = look(
             splits,
             index,
@@ -107,7 +107,7 @@ pub fn feed_segment(
         );
     }
     let so = there.so;
-    let heard = segments::answered(so);
+    let heard = segment_feed::answered(so);
     HeardAt {
         heard: heard,
         split: there.split,

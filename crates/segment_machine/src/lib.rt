@@ -1,9 +1,9 @@
 // Feeding a flow of an automaton with bits and counters by segments: what a segment does around the feed is that of every engine; here is the look with its
 // feed in it.
-use segments::Heard;
-use segments::Looked;
+use segment_feed::Heard;
+use segment_feed::Looked;
 ghost use lib.ListN.{length};
-ghost use Rattle.segments.specs.Post.{Hears, More, Roomy, sent, kept};
+ghost use Rattle.segment_feed.specs.Post.{Hears, More, Roomy, sent, kept};
 ghost use Rattle.segment_machine.specs.Ways.{machineWay, machineSegment};
 
 // One look more where one follows: the segment is taken, and what is then due is fed, with the words behind the pairs told.
@@ -26,16 +26,16 @@ fn look(
     if !on {
         return so;
     }
-    let at = extended::offset_of(flow);
-    let next = segments::next_of(first, at);
-    let taken = resends::take(next, held, so.start, so.length, start, segment);
-    let due = resends::due(next, held, taken.start, taken.length, start, segment);
+    let at = machine::offset_of(flow);
+    let next = segment_feed::next_of(first, at);
+    let taken = segment::take(next, held, so.start, so.length, start, segment);
+    let due = segment::due(next, held, taken.start, taken.length, start, segment);
     if due.len() == 0 {
-        return segments::idle(so, taken);
+        return segment_feed::idle(so, taken);
     }
     let w = 2 * so.pairs;
-    let fed = extended::feed(moves, programs, flow, at, due, &mut pairs[w..]);
-    segments::busy(so, taken, fed)
+    let fed = machine::feed(moves, programs, flow, at, due, &mut pairs[w..]);
+    segment_feed::busy(so, taken, fed)
 }
 
 // Feeds a segment to a flow of an automaton with bits and counters. A refusal at the door changes nothing.
@@ -55,11 +55,11 @@ pub fn feed_segment(
         (kept (now (flow .entry)) (now (held .entry)) «held_start» «held_length») (now (pairs .entry)))
         r (now (pairs .exit)) (now (flow .exit)) (now (held .exit)) ⌝ }
 {
-    let at = extended::offset_of(flow);
-    let met = extended::feed_refusal(moves, programs, flow, at, &segment[0..0]);
-    let refusal = segments::door(met, held.len(), held_length, segment.len());
-    let mut so = segments::begun(refusal, held_start, held_length);
-    for i in 0..segments::MOST_LOOKS {
+    let at = machine::offset_of(flow);
+    let met = machine::feed_refusal(moves, programs, flow, at, &segment[0..0]);
+    let refusal = segment_feed::door(met, held.len(), held_length, segment.len());
+    let mut so = segment_feed::begun(refusal, held_start, held_length);
+    for i in 0..segment_feed::MOST_LOOKS {
         so = look(
             moves,
             programs,
@@ -72,5 +72,5 @@ pub fn feed_segment(
             pairs,
         );
     }
-    segments::answered(so)
+    segment_feed::answered(so)
 }

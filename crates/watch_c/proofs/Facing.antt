@@ -4,20 +4,20 @@ use mathlib.Core.Bool.{Bool}
 use mathlib.Core.Path.{_≡_, sym, ap, _∙_}
 use mathlib.Core.List.{List}
 use native.Mathlib.Omega.{arith}
-use Rattle.feeds.specs.Engine.{Outcome}
-use Rattle.feeds.specs.Opening.{Opening}
-use Rattle.feeds.specs.declared.Fed.{Fed}
-use Rattle.feeds.specs.Fed.{Answers}
-use Rattle.feeds.specs.Calls.{Bytes}
-use Rattle.tables.specs.Table.{Table}
-use Rattle.entries.specs.Stand.{stoodAt}
-use Rattle.entries.proofs.Lawful.{stood-few}
-use Rattle.build.specs.Build.{Building, Builds}
-use Rattle.build.proofs.Reached.{unique-build}
-use Rattle.prepares.specs.Prepare.{Preparing, Prepares}
-use Rattle.prepares.proofs.Ends.{unique-prepare}
-use Rattle.compile.specs.Compile.{Compiles}
-use Rattle.compile.proofs.Exactly.{unique-compile}
+use Rattle.feed.specs.Engine.{Outcome}
+use Rattle.feed.specs.Opening.{Opening}
+use Rattle.feed.specs.declared.Fed.{Fed}
+use Rattle.feed.specs.Fed.{Answers}
+use Rattle.feed.specs.Calls.{Bytes}
+use Rattle.table.specs.Table.{Table}
+use Rattle.index.specs.Stand.{stoodAt}
+use Rattle.index.proofs.Lawful.{stood-few}
+use Rattle.table_build.specs.Build.{Building, Builds}
+use Rattle.table_build.proofs.Reached.{unique-build}
+use Rattle.index_prepare.specs.Prepare.{Preparing, Prepares}
+use Rattle.index_prepare.proofs.Ends.{unique-prepare}
+use Rattle.text_compile.specs.Compile.{Compiles}
+use Rattle.text_compile.proofs.Exactly.{unique-compile}
 use Rattle.watch_c.specs.declared.WatchBuilt.{WatchBuilt}
 use Rattle.watch_c.specs.declared.WatchCompiled.{WatchCompiled}
 use Rattle.watch_c.specs.declared.WatchFed.{WatchFed}

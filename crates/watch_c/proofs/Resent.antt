@@ -2,7 +2,7 @@
 use Prim.Native.Nat.{ℕ}
 use mathlib.Core.Path.{_≡_, sym, ap, _∙_}
 use mathlib.Core.List.{List}
-use Rattle.resends.specs.Resend.{Held, Part}
+use Rattle.segment.specs.Resend.{Held, Part}
 use Rattle.watch_c.specs.declared.WatchHeld.{WatchHeld}
 use Rattle.watch_c.specs.declared.WatchPart.{WatchPart}
 use Rattle.watch_c.specs.Resent.{FaceTakes, FaceFinds}

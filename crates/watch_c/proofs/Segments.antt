@@ -3,10 +3,10 @@ use Prim.Native.Nat.{ℕ, _≤_, _<_}
 use mathlib.Core.List.{List}
 use mathlib.Core.Path.{_≡_, sym, ap, _∙_}
 use native.Mathlib.Omega.{arith}
-use Rattle.segments.specs.Segment as segment
-use Rattle.segments.specs.Post.{Hears}
-use Rattle.segments.specs.declared.Heard.{Heard}
-use Rattle.segments.proofs.Unique.{unique-hears}
+use Rattle.segment_feed.specs.Segment as segment
+use Rattle.segment_feed.specs.Post.{Hears}
+use Rattle.segment_feed.specs.declared.Heard.{Heard}
+use Rattle.segment_feed.proofs.Unique.{unique-hears}
 use Rattle.segment_index.specs.Standing.{stoodBy}
 use Rattle.segment_index.proofs.Standing.{stood-by-few}
 use Rattle.watch_c.specs.declared.WatchHeard.{WatchHeard}

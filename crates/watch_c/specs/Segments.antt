@@ -1,5 +1,5 @@
 -- The C face's answer to a segment that is fed, against the library's.
-use Rattle.segments.specs.declared.Heard.{Heard}
+use Rattle.segment_feed.specs.declared.Heard.{Heard}
 use Rattle.watch_c.specs.declared.WatchHeard.{WatchHeard}
 use Rattle.watch_c.specs.declared.WatchHeardAt.{WatchHeardAt}
 

@@ -1,5 +1,5 @@
 -- The C face's answer to which edge record is taken, against the library's.
-use Rattle.reasons.specs.declared.Found.{Found}
+use Rattle.list_why.specs.declared.Found.{Found}
 use Rattle.watch_c.specs.declared.WatchFound.{WatchFound}
 
 -- the answer as the library gives it

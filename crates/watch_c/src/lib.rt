@@ -1,33 +1,33 @@
 // The C face: the library's twenty-nine functions under names of their own, over numbers and slices, and the face's version. Nothing else is here.
-use feeds::Fed;
-use indexed::Stood;
+use feed::Fed;
+use index_feed::Stood;
 ghost use mathlib.Core.Path.{_≡_};
 ghost use Prim.Native.Nat.{_≤_};
-ghost use Rattle.lists.specs.List.{listRefusal};
-ghost use Rattle.plain.specs.Plain.{openFlow, plainFeed};
-ghost use Rattle.tables.specs.Table.{table, tableRefusal};
-ghost use Rattle.splits.specs.Split.{splitFeed};
+ghost use Rattle.list.specs.List.{listRefusal};
+ghost use Rattle.list_feed.specs.Plain.{openFlow, plainFeed};
+ghost use Rattle.table.specs.Table.{table, tableRefusal};
+ghost use Rattle.table_feed.specs.Split.{splitFeed};
 ghost use Rattle.matrix.specs.Matrix.{Fills, matrixFeed};
-ghost use Rattle.entries.specs.Stand.{standFeed, stoodAt};
-ghost use Rattle.fills.specs.Filled.{FillsIndex};
-ghost use Rattle.build.specs.Build.{Builds};
-ghost use Rattle.prepares.specs.Prepare.{Prepares};
-ghost use Rattle.extended.specs.Machine.{machineRefusal};
-ghost use Rattle.extended.specs.Extended.{extendedOpen, extendedFeed};
+ghost use Rattle.index.specs.Stand.{standFeed, stoodAt};
+ghost use Rattle.index_fill.specs.Filled.{FillsIndex};
+ghost use Rattle.table_build.specs.Build.{Builds};
+ghost use Rattle.index_prepare.specs.Prepare.{Prepares};
+ghost use Rattle.machine.specs.Machine.{machineRefusal};
+ghost use Rattle.machine.specs.Extended.{extendedOpen, extendedFeed};
 ghost use lib.ListN.{length};
-ghost use Rattle.resends.specs.Resend.{taking, partDue};
+ghost use Rattle.segment.specs.Resend.{taking, partDue};
 ghost use Rattle.watch_c.specs.Resent.{FaceTakes, FaceFinds};
 ghost use Rattle.watch_c.specs.Face.{version, Faces, FaceAnswers, FaceOpens, stoodFed, faceBuilt, faceMade, faceCompiled, faceJoined, faceFolded};
-ghost use Rattle.certificates.specs.Certificate.{certificateRefusal};
-ghost use Rattle.compile.specs.Compile.{Compiles};
-ghost use Rattle.joins.specs.Join.{Joins};
-ghost use Rattle.folds.specs.Fold.{FoldAnswers};
-ghost use Rattle.reasons.specs.Run.{ofSignature, ofState};
-ghost use Rattle.reasons.specs.Reason.{Explains, Finds};
+ghost use Rattle.machine_certificate.specs.Certificate.{certificateRefusal};
+ghost use Rattle.text_compile.specs.Compile.{Compiles};
+ghost use Rattle.list_join.specs.Join.{Joins};
+ghost use Rattle.list_fold.specs.Fold.{FoldAnswers};
+ghost use Rattle.list_why.specs.Run.{ofSignature, ofState};
+ghost use Rattle.list_why.specs.Reason.{Explains, Finds};
 ghost use Rattle.watch_c.specs.Why.{faceFound};
-ghost use Rattle.renewals.specs.Renewal.{Renews, offsetSaid};
-ghost use Rattle.segments.specs.Ways.{plainSegment, splitSegment};
-ghost use Rattle.segments.specs.Post.{Hears, sent, kept};
+ghost use Rattle.list_renew.specs.Renewal.{Renews, offsetSaid};
+ghost use Rattle.segment_feed.specs.Ways.{plainSegment, splitSegment};
+ghost use Rattle.segment_feed.specs.Post.{Hears, sent, kept};
 ghost use Rattle.segment_index.specs.Standing.{standSegment, stoodBy};
 ghost use Rattle.segment_machine.specs.Ways.{machineSegment};
 ghost use Rattle.watch_c.specs.Segments.{faceHeard, faceHeardAt};
@@ -134,7 +134,7 @@ pub extern "C" fn watch_version() -> u32
 pub extern "C" fn watch_check_list(list: &[u8]) -> u32
     ensures { λ r. ⌜ r ≡ listRefusal (now (list .entry)) ⌝ }
 {
-    lists::check_list(list)
+    list::check_list(list)
 }
 
 // Opens a flow on a list, and tells the pairs of offset 0; a refusal leaves the record and the words as they are.
@@ -142,7 +142,7 @@ pub extern "C" fn watch_check_list(list: &[u8]) -> u32
 pub extern "C" fn watch_open(list: &[u8], flow: &mut [u8], pairs: &mut [u32]) -> WatchOpened
     ensures { λ r. ⌜ FaceOpens (openFlow (now (list .entry)) (now (flow .entry)) (now (pairs .entry))) r (now (pairs .exit)) (now (flow .exit)) ⌝ }
 {
-    let opened = plain::open_flow(list, flow, pairs);
+    let opened = list_feed::open_flow(list, flow, pairs);
     WatchOpened {
         pairs: opened.pairs as u64,
         refusal: opened.refusal,
@@ -160,7 +160,7 @@ pub extern "C" fn watch_feed(
 ) -> WatchFed
     ensures { λ r. ⌜ FaceAnswers (plainFeed (now (list .entry)) (now (flow .entry)) start (now (piece .entry)) (now (pairs .entry))) r (now (pairs .exit)) (now (flow .exit)) ⌝ }
 {
-    let f = plain::feed(list, flow, start, piece, pairs);
+    let f = list_feed::feed(list, flow, start, piece, pairs);
     face(f)
 }
 
@@ -177,7 +177,7 @@ pub extern "C" fn watch_check_table(
     ensures { λ r. ⌜ r ≡ tableRefusal (now (list .entry)) bound
         (table (now (classes .entry)) (now (parts .entry)) (now (rows .entry)) (now (splits .entry))) ⌝ }
 {
-    tables::check_table(list, bound, classes, parts, rows, splits)
+    table::check_table(list, bound, classes, parts, rows, splits)
 }
 
 // The split feed of a piece that begins at `start`.
@@ -198,7 +198,7 @@ pub extern "C" fn watch_split_feed(
         (table (now (classes .entry)) (now (parts .entry)) (now (rows .entry)) (now (splits .entry)))
         (now (flow .entry)) start (now (piece .entry)) (now (pairs .entry))) r (now (pairs .exit)) (now (flow .exit)) ⌝ }
 {
-    let f = splits::feed(
+    let f = table_feed::feed(
         list,
         bound,
         classes,
@@ -251,7 +251,7 @@ pub extern "C" fn watch_fill_index(
     ensures { λ r. ⌜ FillsIndex (now (list .entry)) bound (table (now (classes .entry)) (now (parts .entry)) (now (rows .entry)) (now (splits .entry)))
         (now (index .entry)) r (now (index .exit)) ⌝ }
 {
-    fills::fill(list, bound, classes, parts, rows, splits, index)
+    index_fill::fill(list, bound, classes, parts, rows, splits, index)
 }
 
 // The prepared feed of a piece that begins at `start`, from the split that is handed in where the flow stands there; any number may be.
@@ -268,7 +268,7 @@ pub extern "C" fn watch_prepared_feed(
     ensures { λ r. ⌜ FaceAnswers (standFeed (now (splits .entry)) (now (index .entry)) split (now (flow .entry)) start (now (piece .entry)) (now (pairs .entry))) (stoodFed r) (now (pairs .exit)) (now (flow .exit))
         × (r .split ≡ stoodAt (now (splits .entry)) (now (index .entry)) split (now (flow .entry)) start (now (piece .entry)) (now (pairs .entry))) ⌝ }
 {
-    let s = indexed::feed(splits, index, split as usize, flow, start, piece, pairs);
+    let s = index_feed::feed(splits, index, split as usize, flow, start, piece, pairs);
     face_stood(s)
 }
 
@@ -284,7 +284,7 @@ pub extern "C" fn watch_build(
     ensures { λ r. ⌜ Builds (now (list .entry)) (table (now (classes .entry)) (now (parts .entry)) (now (rows .entry)) (now (splits .entry)))
         (faceBuilt r (table (now (classes .exit)) (now (parts .exit)) (now (rows .exit)) (now (splits .exit)))) ⌝ }
 {
-    let built = build::build(list, classes, parts, rows, splits);
+    let built = table_build::build(list, classes, parts, rows, splits);
     WatchBuilt {
         classes: built.classes as u64,
         parts: built.parts as u64,
@@ -299,7 +299,7 @@ pub extern "C" fn watch_build(
 pub extern "C" fn watch_prepare(list: &[u8], splits: &mut [u8], index: &mut [u8]) -> WatchMade
     ensures { λ r. ⌜ Prepares (now (list .entry)) (now (splits .entry)) (now (index .entry)) (faceMade r (now (splits .exit)) (now (index .exit))) ⌝ }
 {
-    let made = prepares::prepare(list, splits, index);
+    let made = index_prepare::prepare(list, splits, index);
     WatchMade {
         splits: made.splits as u64,
         index: made.index as u64,
@@ -312,7 +312,7 @@ pub extern "C" fn watch_prepare(list: &[u8], splits: &mut [u8], index: &mut [u8]
 pub extern "C" fn watch_x_check(moves: &[u8], programs: &[u8]) -> u32
     ensures { λ r. ⌜ r ≡ machineRefusal (now (moves .entry)) (now (programs .entry)) ⌝ }
 {
-    extended::check(moves, programs)
+    machine::check(moves, programs)
 }
 
 // Opens a flow on an automaton with bits and counters, and tells the pairs of offset 0; a refusal leaves the record and the words as they are.
@@ -325,7 +325,7 @@ pub extern "C" fn watch_x_open(
 ) -> WatchOpened
     ensures { λ r. ⌜ FaceOpens (extendedOpen (now (moves .entry)) (now (programs .entry)) (now (flow .entry)) (now (pairs .entry))) r (now (pairs .exit)) (now (flow .exit)) ⌝ }
 {
-    let opened = extended::open_flow(moves, programs, flow, pairs);
+    let opened = machine::open_flow(moves, programs, flow, pairs);
     WatchOpened {
         pairs: opened.pairs as u64,
         refusal: opened.refusal,
@@ -344,7 +344,7 @@ pub extern "C" fn watch_x_feed(
 ) -> WatchFed
     ensures { λ r. ⌜ FaceAnswers (extendedFeed (now (moves .entry)) (now (programs .entry)) (now (flow .entry)) start (now (piece .entry)) (now (pairs .entry))) r (now (pairs .exit)) (now (flow .exit)) ⌝ }
 {
-    let f = extended::feed(moves, programs, flow, start, piece, pairs);
+    let f = machine::feed(moves, programs, flow, start, piece, pairs);
     face(f)
 }
 
@@ -376,7 +376,7 @@ pub extern "C" fn watch_take(
 ) -> WatchHeld
     ensures { λ r. ⌜ FaceTakes (taking next (now (held .entry)) «held_start» «held_length» start (now (segment .entry))) r (now (held .exit)) ⌝ }
 {
-    let h = resends::take(next, held, held_start, held_length, start, segment);
+    let h = segment::take(next, held, held_start, held_length, start, segment);
     WatchHeld {
         refusal: h.refusal,
         start: h.start,
@@ -396,7 +396,7 @@ pub extern "C" fn watch_due(
 ) -> WatchPart
     ensures { λ r. ⌜ FaceFinds (partDue next (length (now (held .entry))) «held_start» «held_length» start (length (now (segment .entry)))) r ⌝ }
 {
-    let d = resends::part_due(
+    let d = segment::part_due(
         next,
         held.len(),
         held_start,
@@ -422,7 +422,7 @@ pub extern "C" fn watch_check_certificate(
 ) -> u32
     ensures { λ r. ⌜ r ≡ certificateRefusal (now (list .entry)) (now (moves .entry)) (now (programs .entry)) (now (certificate .entry)) ⌝ }
 {
-    certificates::check_certificate(list, moves, programs, certificate)
+    machine_certificate::check_certificate(list, moves, programs, certificate)
 }
 
 // Compiles a signature text to a list in the front of a lent one; a refusal leaves it as it is.
@@ -430,7 +430,7 @@ pub extern "C" fn watch_check_certificate(
 pub extern "C" fn watch_compile(text: &[u8], signature: u8, list: &mut [u8]) -> WatchCompiled
     ensures { λ r. ⌜ Compiles (now (text .entry)) signature (now (list .entry)) (faceCompiled r) (now (list .exit)) ⌝ }
 {
-    let compiled = compile::compile(text, signature, list);
+    let compiled = text_compile::compile(text, signature, list);
     WatchCompiled {
         place: compiled.place as u64,
         length: compiled.length as u64,
@@ -443,7 +443,7 @@ pub extern "C" fn watch_compile(text: &[u8], signature: u8, list: &mut [u8]) -> 
 pub extern "C" fn watch_join(list: &mut [u8], used: u64, other: &[u8]) -> WatchJoined
     ensures { λ r. ⌜ Joins (now (list .entry)) used (now (other .entry)) (faceJoined r) (now (list .exit)) ⌝ }
 {
-    let joined = joins::join(list, used as usize, other);
+    let joined = list_join::join(list, used as usize, other);
     WatchJoined {
         length: joined.length as u64,
         refusal: joined.refusal,
@@ -455,7 +455,7 @@ pub extern "C" fn watch_join(list: &mut [u8], used: u64, other: &[u8]) -> WatchJ
 pub extern "C" fn watch_fold(list: &[u8], folded: &mut [u8]) -> WatchJoined
     ensures { λ r. ⌜ FoldAnswers (now (list .entry)) (now (folded .entry)) (faceFolded r) (now (folded .exit)) ⌝ }
 {
-    let answer = folds::fold(list, folded);
+    let answer = list_fold::fold(list, folded);
     WatchJoined {
         length: answer.length as u64,
         refusal: answer.refusal,
@@ -476,7 +476,7 @@ pub extern "C" fn watch_why(
 ) -> u32
     ensures { λ r. ⌜ Explains (now (list .entry)) (now (flow .entry)) start (now (piece .entry)) (ofSignature signature) offset (now (run .entry)) (now (work .entry)) r (now (run .exit)) (now (work .exit)) ⌝ }
 {
-    reasons::why(list, flow, start, piece, signature, offset, run, work)
+    list_why::why(list, flow, start, piece, signature, offset, run, work)
 }
 
 // Says why a state is in the frontier at an offset: the same, of a run that leads to it.
@@ -493,7 +493,7 @@ pub extern "C" fn watch_why_state(
 ) -> u32
     ensures { λ r. ⌜ Explains (now (list .entry)) (now (flow .entry)) start (now (piece .entry)) (ofState state) offset (now (run .entry)) (now (work .entry)) r (now (run .exit)) (now (work .exit)) ⌝ }
 {
-    reasons::why_state(list, flow, start, piece, state, offset, run, work)
+    list_why::why_state(list, flow, start, piece, state, offset, run, work)
 }
 
 // What the question which edge record leads from one state to another answers, as C lays it out; the place is `record` there.
@@ -508,7 +508,7 @@ pub struct WatchFound {
 pub extern "C" fn watch_edge(list: &[u8], from: u32, byte: u32, to: u32) -> WatchFound
     ensures { λ r. ⌜ Finds (now (list .entry)) from byte to (faceFound r) ⌝ }
 {
-    let found = reasons::find_edge(list, from, byte, to);
+    let found = list_why::find_edge(list, from, byte, to);
     WatchFound {
         place: found.place as u64,
         refusal: found.refusal,
@@ -520,7 +520,7 @@ pub extern "C" fn watch_edge(list: &[u8], from: u32, byte: u32, to: u32) -> Watc
 pub extern "C" fn watch_renew(flow: &mut [u8]) -> u32
     ensures { λ r. ⌜ Renews (now (flow .entry)) r (now (flow .exit)) ⌝ }
 {
-    renewals::renew(flow)
+    list_renew::renew(flow)
 }
 
 // The offset of a flow record of either size; of another length 18,446,744,073,709,551,615.
@@ -528,7 +528,7 @@ pub extern "C" fn watch_renew(flow: &mut [u8]) -> u32
 pub extern "C" fn watch_offset(flow: &[u8]) -> u64
     ensures { λ r. ⌜ r ≡ offsetSaid (now (flow .entry)) ⌝ }
 {
-    renewals::offset(flow)
+    list_renew::offset(flow)
 }
 
 // What feeding a segment answers, as C lays it out; the held place at exit is `held_start` and `held_length` there.
@@ -560,7 +560,7 @@ pub extern "C" fn watch_feed_segment(
         (kept (now (flow .entry)) (now (held .entry)) «held_start» «held_length») (now (pairs .entry)))
         (faceHeard r) (now (pairs .exit)) (now (flow .exit)) (now (held .exit)) ⌝ }
 {
-    let h = segments::feed_segment(
+    let h = segment_feed::feed_segment(
         list,
         flow,
         first,
@@ -604,7 +604,7 @@ pub extern "C" fn watch_split_feed_segment(
         (kept (now (flow .entry)) (now (held .entry)) «held_start» «held_length») (now (pairs .entry)))
         (faceHeard r) (now (pairs .exit)) (now (flow .exit)) (now (held .exit)) ⌝ }
 {
-    let h = segments::split_feed_segment(
+    let h = segment_feed::split_feed_segment(
         list,
         bound,
         classes,

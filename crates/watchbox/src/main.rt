@@ -1,4 +1,4 @@
 // The watch box's program: `abab` by the list of signature 7 after any "ab".
 fn main() {
-    app::start();
+    program::start();
 }

@@ -24,7 +24,7 @@ def clause_lines(tape):
         ("clause broken alone", "lines"), *((name, tape.broken[name]) for name in [*CLAUSES, "several", "none"]))]
 
 
-CHECKS = Stream("certificate", "crates/certificate_vectors/stdin", "crates/certificate_vectors/stdout", Tape, None, make,
+CHECKS = Stream("certificate", "crates/machine_certificate_replay/stdin", "crates/machine_certificate_replay/stdout", Tape, None, make,
                 {"z": ("certificate check", [0, 1, 2, 3, 22, 24])}, more=clause_lines)
 LONGEST = Stream("certificate", "tools/second/certificate/certificates", "tools/second/certificate/certified", Longest, None,
                  make_longest, {})

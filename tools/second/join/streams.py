@@ -13,5 +13,5 @@ def make(tape):
 
 
 STREAMS = [Stream(
-    "join", "crates/joined_vectors/stdin", "crates/joined_vectors/stdout", Tape, Checked, make,
+    "join", "crates/list_join_replay/stdin", "crates/list_join_replay/stdout", Tape, Checked, make,
     {"j": ("join", [0, 1, 2, 3, 27, 28]), "f": ("fold", [0, 1, 2, 3, 28])})]

@@ -39,7 +39,7 @@ def make(tape):
 
 
 FEEDS = Stream(
-    "list", "crates/vectors/stdin", "crates/vectors/stdout", Feeds, None, make,
+    "list", "crates/list_replay/stdin", "crates/list_replay/stdout", Feeds, None, make,
     {"c": ("list check", [0, 1, 2, 3]),
      "o": ("opening", [0, 1, 2, 3, 4, 15]),
      "f": ("plain feed", [0, 1, 2, 3, 4, 5, 6]),

@@ -14,5 +14,5 @@ def make(tape):
 
 
 STREAMS = [Stream(
-    "machine", "crates/extended_vectors/stdin", "crates/extended_vectors/stdout", Tape, None, make,
+    "machine", "crates/machine_replay/stdin", "crates/machine_replay/stdout", Tape, None, make,
     {"c": ("check", [0, 24]), "o": ("opening", [0, 4, 15, 24]), "f": ("feed", [0, 4, 5, 6, 24])})]

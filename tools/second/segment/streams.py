@@ -13,7 +13,7 @@ def make(tape):
 
 
 STREAMS = [Stream(
-    "segment", "crates/resent/stdin", "crates/resent/stdout", Tape, None, make,
+    "segment", "crates/segment_replay/stdin", "crates/segment_replay/stdout", Tape, None, make,
     {"t": ("take", [0, 18]), "o": ("opening", [0]),
      "g": ("feed", [0, 1, 2, 3, 4, 6, 7, 8, 9, 14, 18]), "n": ("renewal", [0, 4]),
      "p": ("feed by an index", [0, 4, 6, 8, 14, 18]), "x": ("feed by an automaton", [0, 4, 6, 18, 24])})]

@@ -14,5 +14,5 @@ def make(tape):
 
 
 STREAMS = [Stream(
-    "text", "crates/text_vectors/stdin", "crates/text_vectors/stdout", Tape, Checked, make,
+    "text", "crates/text_replay/stdin", "crates/text_replay/stdout", Tape, Checked, make,
     {"k": ("compile", [0, 19, 20, 21]), "m": ("match", [0, 1, 15])})]

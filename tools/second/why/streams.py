@@ -13,5 +13,5 @@ def make(tape):
 
 
 STREAMS = [Stream(
-    "why", "crates/reason_vectors/stdin", "crates/reason_vectors/stdout", Tape, None, make,
+    "why", "crates/list_why_replay/stdin", "crates/list_why_replay/stdout", Tape, None, make,
     {"w": ("why", [0, 1, 2, 3, 4, 5, 6, 25, 26]), "e": ("edge", [0, 1, 2, 3, 26])})]

@@ -5,11 +5,11 @@ use Prim.Native.Nat.{suc, _*_, _≤_}
 use native.Mathlib.Omega.{arith}
 use Rattle.sets.specs.Set.{states}
 use Rattle.rules.specs.Rules.{verdict}
-use Rattle.feeds.proofs.Looping.{rows-most, answers-refused}
-use Rattle.flows.specs.Flow.{flowLayout}
-use Rattle.flows.proofs.Ending.{fits, finishes}
+use Rattle.feed.proofs.Looping.{rows-most, answers-refused}
+use Rattle.list_flow.specs.Flow.{flowLayout}
+use Rattle.list_flow.proofs.Ending.{fits, finishes}
 use Rattle.matrix.specs.Matrix.{matrixed, matrixRules}
-use Rattle.lists.proofs.Highest.{highest-state}
+use Rattle.list.proofs.Highest.{highest-state}
 use Rattle.matrix.proofs.Feeding.{matrix-cheap, Passes, matrix-passes}
 use Rattle.matrix.proofs.feed.Statement.{statement}
 use Rattle.matrix.proofs.feed.Tie as tie

@@ -12,13 +12,13 @@ use Rattle.sets.specs.Set.{states, setWords, setSize, setOf, setAt, meets}
 use Rattle.sets.proofs.Sets.{words-lt, set-at-lt}
 use Rattle.sets.proofs.Whole.{valid-of}
 use Rattle.rules.proofs.Scanning.{choose}
-use Rattle.lists.specs.Automaton.{accepted, accepting}
-use Rattle.feeds.specs.inner.Going.{Going}
-use Rattle.feeds.proofs.Going.{start, finish, length-kept}
-use Rattle.feeds.proofs.Looping.{words-fit, rows-most, refused-free}
-use Rattle.flows.specs.inner.Told.{TellsAll}
-use Rattle.flows.proofs.Accepting.{all-quiet, told-as, goes-on, stops}
-use Rattle.flows.proofs.Ending.{leaves}
+use Rattle.list.specs.Automaton.{accepted, accepting}
+use Rattle.feed.specs.inner.Going.{Going}
+use Rattle.feed.proofs.Going.{start, finish, length-kept}
+use Rattle.feed.proofs.Looping.{words-fit, rows-most, refused-free}
+use Rattle.list_flow.specs.inner.Told.{TellsAll}
+use Rattle.list_flow.proofs.Accepting.{all-quiet, told-as, goes-on, stops}
+use Rattle.list_flow.proofs.Ending.{leaves}
 use Rattle.matrix.specs.Matrix.{cell, unionOver, matrixStep, matrixed}
 use Rattle.matrix.proofs.Feeding.{matrix-cheap, reach-as}
 use Rattle.matrix.proofs.feed_bytes.Statement.{statement}

@@ -8,7 +8,7 @@ use mathlib.Core.List.{[], _∷_}
 use borrow.Author.Tests.{eq-eqb, ne-eqb}
 use Rattle.rules.specs.Rules.{verdict}
 use Rattle.rules.proofs.Rules.{stop, last, verdict-then, verdict-refused}
-use Rattle.flows.specs.Flow.{feedRules}
+use Rattle.list_flow.specs.Flow.{feedRules}
 use Rattle.matrix.specs.Matrix.{matrixLength, wrongMatrix, matrixRules}
 use borrow.Author.Needs.{needs}
 use Rattle.matrix.proofs.feed_refusal.Statement.{statement}

@@ -10,7 +10,7 @@ use native.Mathlib.Numerals.{add-one}
 use lib.ListN.{length, replicate}
 use borrow.Author.Tests.{eq-eqb, ne-eqb}
 use Rattle.rules.specs.Rules.{verdict}
-use Rattle.lists.specs.List.{records, listRefusal}
+use Rattle.list.specs.List.{records, listRefusal}
 use Rattle.matrix.specs.Matrix.{byteValues, matrixLength, filled, fillRules}
 use Rattle.matrix.specs.inner.Filling.{markedBytes, markedRecords}
 use Rattle.matrix.proofs.Writing.{zeros-long}

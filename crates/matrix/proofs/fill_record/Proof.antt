@@ -7,7 +7,7 @@ use mathlib.Core.List.{List}
 use mathlib.Core.Path.{_≡_, refl, sym, ap, _∙_}
 use native.Mathlib.Numerals.{add-one}
 use Rattle.sets.specs.Set.{states}
-use Rattle.lists.specs.List.{from, target}
+use Rattle.list.specs.List.{from, target}
 use Rattle.matrix.specs.Matrix.{byteValues, cellAt}
 use Rattle.matrix.specs.inner.Filling.{marked, markedBytes}
 use Rattle.matrix.proofs.Filling.{no-edge}

@@ -8,7 +8,7 @@ use mathlib.Core.List.{[], _∷_}
 use borrow.Author.Tests.{eq-eqb, ne-eqb}
 use Rattle.rules.specs.Rules.{verdict}
 use Rattle.rules.proofs.Rules.{stop, last, verdict-then, verdict-refused}
-use Rattle.lists.specs.List.{listRules}
+use Rattle.list.specs.List.{listRules}
 use Rattle.matrix.specs.Matrix.{matrixLength, wrongMatrix, fillRules}
 use borrow.Author.Needs.{needs}
 use Rattle.matrix.proofs.fill_refusal.Statement.{statement}

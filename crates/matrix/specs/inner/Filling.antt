@@ -3,8 +3,8 @@ use Prim.Native.Nat.{ℕ, zero, suc}
 use mathlib.Core.Bool.{cond}
 use mathlib.Core.List.{List}
 use Rattle.sets.specs.Set.{states, insert, setBytes, setAt, placed}
-use Rattle.lists.specs.List.{from, target}
-use Rattle.lists.specs.Automaton.{edge}
+use Rattle.list.specs.List.{from, target}
+use Rattle.list.specs.Automaton.{edge}
 use Rattle.matrix.specs.Matrix.{byteValues, cellAt}
 
 -- t becomes a member of the set that stands at a place

@@ -5,10 +5,10 @@ use Prim.Native.Nat.{_≤_, _<_, _-_, _+_, _%_}
 use lib.ListN.{length}
 use mathlib.Core.Path.{_≡_, sym, _∙_}
 use mathlib.Core.Bool.{false}
-use Rattle.feeds.specs.Engine.{mostOffset}
-use Rattle.app.specs.App.{pieceSize, Held}
-use Rattle.app.proofs.Feeding.{turn-moves}
-use Rattle.app.proofs.Handing.{front-most, held-next, running, text-fits, over-last, over-cut, goes-on}
+use Rattle.feed.specs.Engine.{mostOffset}
+use Rattle.program.specs.App.{pieceSize, Held}
+use Rattle.program.proofs.Feeding.{turn-moves}
+use Rattle.program.proofs.Handing.{front-most, held-next, running, text-fits, over-last, over-cut, goes-on}
 use Rattle.program_run.proofs.Readying.{ready-from}
 use Rattle.program_run.proofs.Standing.{Standing}
 use Rattle.program_run.proofs.run.Statement.{statement}

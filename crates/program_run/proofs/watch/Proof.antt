@@ -1,6 +1,6 @@
 -- `watch` meets its promise: the opening's text is handed over, and, unless it is the last or is cut, those of the loop by the engine that is readied. Assumes nothing.
 use borrow.Author.Needs.{needs}
-use Rattle.app.proofs.Handing.{begun-last, begun-cut, begun-then}
+use Rattle.program.proofs.Handing.{begun-last, begun-cut, begun-then}
 use Rattle.program_run.proofs.Beginning.{begun-alike}
 use Rattle.program_run.proofs.watch.Statement.{statement}
 use Rattle.program_run.proofs.watch.Tie as tie

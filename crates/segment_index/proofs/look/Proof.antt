@@ -3,7 +3,7 @@ use borrow.Author.Needs.{needs}
 use mathlib.Core.Path.{sym, _∙_}
 use native.Mathlib.Omega.{arith}
 use borrow.Author.Tests.{not-true, not-false}
-use Rattle.segments.proofs.Hearing.{looks-off, looks-idle, looks-busy, fed-few}
+use Rattle.segment_feed.proofs.Hearing.{looks-off, looks-idle, looks-busy, fed-few}
 use Rattle.segment_index.specs.Standing.{standWay}
 use Rattle.segment_index.proofs.Standing.{stood-off, stood-idle, stood-busy}
 use Rattle.segment_index.proofs.look.Statement.{statement}

@@ -5,10 +5,10 @@ use Prim.Native.Nat.{_-_, _≤_}
 use mathlib.Core.Path.{_≡_, refl, _∙_}
 use lib.ListN.{length}
 use Rattle.segment_machine.specs.Ways.{machineWay}
-use Rattle.feeds.specs.Calls.{Way}
-use Rattle.segments.specs.Segment.{Sent, Kept, mostLooks}
-use Rattle.segments.specs.Post.{sent, kept}
-use Rattle.segments.proofs.Hearing.{door-is, stands-begun, Stands, roomy, stands-more, hears-so}
+use Rattle.feed.specs.Calls.{Way}
+use Rattle.segment_feed.specs.Segment.{Sent, Kept, mostLooks}
+use Rattle.segment_feed.specs.Post.{sent, kept}
+use Rattle.segment_feed.proofs.Hearing.{door-is, stands-begun, Stands, roomy, stands-more, hears-so}
 use Rattle.segment_machine.proofs.feed_segment.Statement.{statement}
 use Rattle.segment_machine.proofs.feed_segment.Tie as tie
 

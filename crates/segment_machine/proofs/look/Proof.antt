@@ -2,7 +2,7 @@
 use borrow.Author.Needs.{needs}
 use native.Mathlib.Omega.{arith}
 use borrow.Author.Tests.{not-true, not-false}
-use Rattle.segments.proofs.Hearing.{looks-off, looks-idle, looks-busy, fed-few}
+use Rattle.segment_feed.proofs.Hearing.{looks-off, looks-idle, looks-busy, fed-few}
 use Rattle.segment_machine.specs.Ways.{machineWay}
 use Rattle.segment_machine.proofs.look.Statement.{statement}
 use Rattle.segment_machine.proofs.look.Tie as tie

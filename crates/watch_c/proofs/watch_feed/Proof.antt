@@ -1,4 +1,4 @@
--- `watch_feed` hands on what `plain::feed` answers and leaves. Assumes nothing.
+-- `watch_feed` hands on what `list_feed::feed` answers and leaves. Assumes nothing.
 use borrow.Author.Needs.{needs}
 use Rattle.watch_c.proofs.Facing.{faced}
 use Rattle.watch_c.proofs.watch_feed.Statement.{statement}

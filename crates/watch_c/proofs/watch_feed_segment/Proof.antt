@@ -1,4 +1,4 @@
--- `watch_feed_segment` hands on what `segments::feed_segment` answers and leaves. Assumes nothing.
+-- `watch_feed_segment` hands on what `segment_feed::feed_segment` answers and leaves. Assumes nothing.
 use borrow.Author.Needs.{needs}
 use Rattle.watch_c.proofs.watch_feed_segment.Statement.{statement}
 use Rattle.watch_c.proofs.watch_feed_segment.Tie as tie

@@ -1,4 +1,4 @@
--- `watch_prepared_feed` hands on what `indexed::feed` answers and leaves. Assumes nothing.
+-- `watch_prepared_feed` hands on what `index_feed::feed` answers and leaves. Assumes nothing.
 use borrow.Author.Needs.{needs}
 use mathlib.Core.Path.{_∙_}
 use Rattle.watch_c.proofs.Facing.{faced, stood-fits}

@@ -1,7 +1,7 @@
 -- `watch_prepared_feed_segment` hands on what `segment_index::feed_segment` answers and leaves. Assumes nothing.
 use borrow.Author.Needs.{needs}
 use native.Mathlib.Omega.{arith}
-use Rattle.segments.specs.Post.{sent, kept}
+use Rattle.segment_feed.specs.Post.{sent, kept}
 use Rattle.watch_c.proofs.Segments.{stood-by-fits}
 use Rattle.watch_c.proofs.watch_prepared_feed_segment.Statement.{statement}
 use Rattle.watch_c.proofs.watch_prepared_feed_segment.Tie as tie

@@ -1,4 +1,4 @@
--- `watch_split_feed` hands on what `splits::feed` answers and leaves. Assumes nothing.
+-- `watch_split_feed` hands on what `table_feed::feed` answers and leaves. Assumes nothing.
 use borrow.Author.Needs.{needs}
 use Rattle.watch_c.proofs.Facing.{faced}
 use Rattle.watch_c.proofs.watch_split_feed.Statement.{statement}

@@ -1,4 +1,4 @@
--- `watch_x_feed` hands on what `extended::feed` answers and leaves. Assumes nothing.
+-- `watch_x_feed` hands on what `machine::feed` answers and leaves. Assumes nothing.
 use borrow.Author.Needs.{needs}
 use Rattle.watch_c.proofs.Facing.{faced}
 use Rattle.watch_c.proofs.watch_x_feed.Statement.{statement}

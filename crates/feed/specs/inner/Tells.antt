@@ -1,0 +1,20 @@
+-- What telling a set of signatures leaves, and a refused feed's answer.
+use Prim.Native.Nat.{ℕ, _+_, _*_}
+use mathlib.Core.Path.{_≡_}
+use mathlib.Core.Bool.{false}
+use mathlib.Core.List.{List}
+use Rattle.sets.specs.Set.{signatures, size, members, placed}
+use Rattle.feed.specs.Engine.{pairsAt}
+use Rattle.feed.specs.declared.Fed.{Fed}
+
+-- the code answers f where rule n refuses: zero bytes, zero pairs, not all
+pub record Unfed (n : ℕ) (f : Fed) : Type 0 where
+  pub refusal : f .refusal ≡ n
+  pub bytes : f .bytes ≡ 0
+  pub pairs : f .pairs ≡ 0
+  pub all : f .all ≡ false
+
+-- the pairs of G's members at offset k stand from word w on, and v is the word after them
+pub record Tells (G : ℕ) (out : List ℕ) (w k v : ℕ) (left : List ℕ) : Type 0 where
+  pub next : v ≡ w + 2 * size signatures G
+  pub wrote : left ≡ placed out w (pairsAt k (members signatures G))

@@ -1,0 +1,80 @@
+// What every opening and every feed has: its answer, and the words of the pairs that it tells.
+use sets::SigSet;
+ghost use mathlib.Core.Path.{_≡_};
+ghost use Prim.Native.Nat.{_+_, _*_, _^_, _≤_, _<_};
+ghost use lib.ListN.{length};
+ghost use Rattle.sets.specs.Set.{signatures, size, members, sigsOf, placed};
+ghost use Rattle.feed.specs.Engine.{pairsAt};
+ghost use Rattle.feed.specs.inner.Tells.{Unfed, Tells};
+
+// The largest offset.
+pub const MOST_OFFSET: u64 = 4294967295;
+
+// What a feed answers: a refusal's number or 0, the bytes consumed, the pairs told, and whether all bytes were consumed.
+pub struct Fed {
+    pub refusal: u32,
+    pub bytes: usize,
+    pub pairs: usize,
+    pub all: bool,
+}
+
+// What opening a flow answers: a refusal's number or 0, and the pairs told.
+pub struct Opened {
+    pub refusal: u32,
+    pub pairs: usize,
+}
+
+// The answer of a feed that a rule refuses.
+pub fn refused(refusal: u32) -> Fed
+    ensures { λ f. ⌜ Unfed refusal f ⌝ }
+{
+    Fed {
+        refusal: refusal,
+        bytes: 0,
+        pairs: 0,
+        all: false,
+    }
+}
+
+// Writes signature s and the offset at word w, where the bit is 1; answers the word after.
+fn tell_one(pairs: &mut [u32], w: usize, bit: u64, s: usize, offset: u32) -> usize
+    requires { ⌜ (bit < 2) × (bit * 2 ^ s < 2 ^ signatures) × (w + 2 * size signatures (bit * 2 ^ s) ≤ length (now pairs)) ⌝ }
+    ensures { λ r. ⌜ Tells (bit * 2 ^ s) (now (pairs .entry)) w offset r (now (pairs .exit)) ⌝ }
+{
+    if bit == 1 {
+        let signature = s as u32;
+        pairs[w] = signature;
+        pairs[w + 1] = offset;
+        return w + 2;
+    }
+    w
+}
+
+// Writes signature and offset for each bit of a word that is 1, from word `at` on; its lowest bit is signature `base`. Each is found by the zeros below it. Answers the word after.
+fn tell_word(pairs: &mut [u32], at: usize, word: u64, base: usize, offset: u32) -> usize
+    requires { ⌜ (word * 2 ^ base < 2 ^ signatures) × (at + 2 * size signatures (word * 2 ^ base) ≤ length (now pairs)) ⌝ }
+    ensures { λ r. ⌜ Tells (word * 2 ^ base) (now (pairs .entry)) at offset r (now (pairs .exit)) ⌝ }
+{
+    let mut w = at;
+    let mut rest = word;
+    let mut s = base;
+    while rest != 0 {
+        let zeros = sets_words::lowest(rest);
+        w = tell_one(pairs, w, 1, s + zeros, offset);
+        rest = (rest >> zeros) / 2;
+        s = s + zeros + 1;
+    }
+    w
+}
+
+// Writes signature and offset for each member of the set, from word `at` on, where there is room for all of them.
+pub fn tell(pairs: &mut [u32], at: usize, g: SigSet, offset: u32)
+    requires { ⌜ at + 2 * size signatures (sigsOf g) ≤ length (now pairs) ⌝ }
+    ensures { λ r. ⌜ now (pairs .exit) ≡ placed (now (pairs .entry)) at (pairsAt offset (members signatures (sigsOf g))) ⌝ }
+{
+    let words = g.words;
+    let mut w = at;
+    for i in 0..sets::SIG_WORDS {
+        w = tell_word(pairs, w, words[i], 64 * i, offset);
+    }
+}

@@ -1,0 +1,24 @@
+-- `begin` is the hint where it holds, else it seeks. Assumes nothing.
+use borrow.Author.Needs.{needs}
+use mathlib.Core.Path.{sym, ap, _∙_}
+use Rattle.index.specs.Stand.{soughtOf}
+use Rattle.index_feed.proofs.begin.Statement.{statement}
+use Rattle.index_feed.proofs.begin.Tie as tie
+
+returns : tie.Need-returns
+returns c = sym (rw (c .if1 .taken))
+
+load-requires : tie.Need-load-requires
+load-requires c κs = search needs
+
+find-requires : tie.Need-find-requires
+find-requires c κs = search needs
+
+returns-2 : tie.Need-returns-2
+returns-2 c =
+    let left = c .before .before in
+    let a = left .before .before .before .args in
+    c .find .ensures ∙ ap (soughtOf (a .splits .now)) (c .before .load .ensures) ∙ sym (rw (left .if1 .left))
+
+pub begin-spec : {M : Type 1} → statement M
+begin-spec = tie.close (tie.spec returns load-requires find-requires returns-2)

@@ -1,0 +1,62 @@
+-- `follow` reads the signatures only where the word tells and a whole entry stands there. Assumes nothing.
+use borrow.Author.Needs.{needs}
+use borrow.Author.Tests.{lt-ltb, le-ltb}
+use mathlib.Core.Path.{sym}
+use Prim.Native.Nat.{_-_}
+use Rattle.index.specs.Entry.{limit, telling, toldOf}
+use Rattle.index_turns.proofs.Striding.{none-told}
+use Rattle.index_turns.proofs.follow.Statement.{statement}
+use Rattle.index_turns.proofs.follow.Tie as tie
+
+returns : tie.Need-returns
+unfolding toldOf
+returns c =
+    let a = c .before .before .before .args in
+    let l = lt-ltb (a .word) telling (c .if1 .taken) in
+    (sym (rw l), none-told (a .index .now) (a .word) (rw l) _ _ _)
+
+sub-if2 : tie.Need-sub-if2
+sub-if2 c = search needs
+
+returns-2 : tie.Need-returns-2
+unfolding toldOf
+returns-2 c =
+    let a = c .before .before .before .before .args in
+    let l = le-ltb (a .word) telling (c .before .if1 .left) in
+    let h = le-ltb (a .word - telling) (limit (a .index .now)) (c .if2 .taken) in
+    (sym (rw l), none-told (a .index .now) (a .word) (rw (l, h)) _ _ _)
+
+add-whole : tie.Need-add-whole
+add-whole c = search needs
+
+whole-requires : tie.Need-whole-requires
+whole-requires c κs = search needs
+
+tell-set-requires : tie.Need-tell-set-requires
+tell-set-requires c κs = search needs
+
+same-length : tie.Need-same-length
+same-length c = search needs
+
+returns-3 : tie.Need-returns-3
+unfolding toldOf
+returns-3 c =
+    let told = c .before .before in
+    let read = told .before .before in
+    let a = read .before .before .before .before .before .args in
+    let l = le-ltb (a .word) telling (read .before .before .if1 .left) in
+    let h = lt-ltb (a .word - telling) (limit (a .index .now)) (read .before .if2 .left) in
+    (sym (rw l), rw (l, h) (rw (read .whole .ensures) at (told .tell-set .ensures)))
+
+pub follow-spec : {M : Type 1} → statement M
+follow-spec =
+    tie.close
+    (tie.spec
+    returns
+    sub-if2
+    returns-2
+    add-whole
+    whole-requires
+    tell-set-requires
+    same-length
+    returns-3)

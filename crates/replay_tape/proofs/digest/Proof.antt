@@ -1,0 +1,48 @@
+-- `digest` is safe, and ends: the digest stays below its modulus. Assumes nothing.
+use borrow.Author.Needs.{needs}
+use Prim.Native.Nat.{_≤_, _<_, _-_}
+use lib.ListN.{length}
+use mathlib.Core.Path.{_≡_}
+use Rattle.replay_tape.proofs.digest.Statement.{statement}
+use Rattle.replay_tape.proofs.digest.Tie as tie
+
+abbrev Inv-loop : tie.InvT-loop
+Inv-loop b h₀ i₀ i-end h i = (i ≤ i-end) × (i-end ≡ length b) × (h < 4294967291)
+
+abbrev μ-loop : tie.MeasureT-loop
+μ-loop b h₀ i₀ i-end h i = i-end - i
+
+loop-holds : tie.Need-loop-holds Inv-loop μ-loop
+loop-holds c = search needs
+
+shared-slice-read-digest-byte : tie.Need-shared-slice-read-digest-byte Inv-loop μ-loop
+shared-slice-read-digest-byte c = search needs
+
+digest-byte-requires : tie.Need-digest-byte-requires Inv-loop μ-loop
+digest-byte-requires c κs = search needs
+
+add-i : tie.Need-add-i Inv-loop μ-loop
+add-i c = search needs
+
+loop-less : tie.Need-loop-less Inv-loop μ-loop
+loop-less c = search needs
+
+loop-again : tie.Need-loop-again Inv-loop μ-loop
+loop-again c = search needs
+
+returns : tie.Need-returns Inv-loop μ-loop
+returns c = search needs
+
+pub digest-spec : {M : Type 1} → statement M
+digest-spec =
+    tie.close
+    (tie.spec
+    Inv-loop
+    μ-loop
+    loop-holds
+    shared-slice-read-digest-byte
+    digest-byte-requires
+    add-i
+    loop-less
+    loop-again
+    returns)

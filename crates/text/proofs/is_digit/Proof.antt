@@ -1,0 +1,12 @@
+-- `is_digit` meets its promise. Assumes nothing.
+use borrow.Author.Needs.{needs}
+use Rattle.text.specs.Grammar.{isDigit}
+use Rattle.text.proofs.is_digit.Statement.{statement}
+use Rattle.text.proofs.is_digit.Tie as tie
+
+returns : tie.Need-returns
+unfolding isDigit
+returns c = search needs
+
+pub is-digit-spec : {M : Type 1} → statement M
+is-digit-spec = tie.close (tie.spec returns)

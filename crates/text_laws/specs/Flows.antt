@@ -1,0 +1,69 @@
+-- What a list that compiling wrote is good for: it passes 1 to 3 in every entry point, and a flow under it tells exactly the pairs of the text's language.
+use Prim.Native.Nat.{ℕ, _+_, _*_, _≤_, _<_}
+use mathlib.Core.Path.{_≡_}
+use mathlib.Core.Bool.{true}
+use mathlib.Core.List.{List, _++_}
+use mathlib.Core.Logic.{_⊎_, _↔_}
+use lib.ListN.{length, take}
+use Rattle.list.specs.List.{listRefusal}
+use Rattle.feed.specs.Calls.{Bytes}
+use Rattle.feed.specs.Pairs.{Pair, Before}
+use Rattle.list_feed.specs.Plain.{openFlow, plainFeed}
+use Rattle.table.specs.Table.{Table, tableRefusal}
+use Rattle.table_feed.specs.Split.{splitFeed}
+use Rattle.matrix.specs.Matrix.{Fills, matrixFeed}
+use Rattle.index_fill.specs.Filled.{FillsIndex}
+use Rattle.table_build.specs.Build.{Building, Builds}
+use Rattle.machine_certificate.specs.Certificate.{certificateRefusal}
+use Rattle.segment_feed.specs.Segment.{Sent, Kept, Heard}
+use Rattle.segment_feed.specs.Ways.{plainSegment, splitSegment}
+use Rattle.feed.specs.Demands.{openTold}
+use Rattle.laws.specs.Calls.{Call, bytesOf, wordsOf, InBytes, Each}
+use Rattle.laws.specs.Demands.{Swaps}
+use Rattle.text.specs.Grammar.{Text}
+use Rattle.text_compile.specs.declared.Compiled.{Compiled}
+use Rattle.text_compile.specs.Compile.{Compiles}
+use Rattle.text_compile.specs.Words.{Reading}
+use Rattle.text_laws.specs.Language.{EndsIn, RecordsRise}
+
+-- the list that compiling answered: so many bytes of the lent one
+abbrev pub front : Compiled → List ℕ → List ℕ
+front r B = take (r .length) B
+
+-- no refusal, or one that comes after 1 to 3
+abbrev pub Past : ℕ → Type 0
+Past n = (n ≡ 0) ⊎ (3 < n)
+
+-- in no entry point that takes a list is L refused with 1 to 3
+pub record PassesAll (L : List ℕ) : Type 0 where
+  pub lists : listRefusal L ≡ 0
+  pub opens : (R out : List ℕ) → Past (openFlow L R out .refusal)
+  pub feeds : (R : List ℕ) (at : ℕ) (piece out : List ℕ) → Past (plainFeed L R at piece out .refusal)
+  pub fills : (X : List ℕ) (refusal : ℕ) (left : List ℕ) → Fills L X refusal left → Past refusal
+  pub matrices : (X R : List ℕ) (at : ℕ) (piece out : List ℕ) → Past (matrixFeed L X R at piece out .refusal)
+  pub tables : (b : ℕ) (T : Table) → Past (tableRefusal L b T)
+  pub splits : (b : ℕ) (T : Table) (R : List ℕ) (at : ℕ) (piece out : List ℕ) → Past (splitFeed L b T R at piece out .refusal)
+  pub indexes : (b : ℕ) (T : Table) (X : List ℕ) (refusal : ℕ) (left : List ℕ) → FillsIndex L b T X refusal left → Past refusal
+  pub builds : (T : Table) (o : Building) → Builds L T o → Past (o .refusal)
+  pub certificates : (M P Z : List ℕ) → Past (certificateRefusal L M P Z)
+  pub segments : (g : Sent) (S : Kept) (out : List ℕ) → Past (plainSegment L g S out .refusal)
+  pub split-segments : (b : ℕ) (T : Table) (g : Sent) (S : Kept) (out : List ℕ) → Past (splitSegment L b T g S out .refusal)
+
+-- ws are the pairs of the language of x on the bytes bs: (g, k) exactly where the first k bytes end in a word of it, k = 0 too; by offset, each once
+pub record Tells (x : Text) (g : ℕ) (bs ws : List ℕ) : Type 0 where
+  pub told : (h k : ℕ) → Pair ws h k ↔ ((k ≤ length bs) × (h ≡ g) × EndsIn x (take k bs))
+  pub ordered : (i j : ℕ) → i < j → 2 * j + 1 < length ws → Before ws i j
+
+-- L is a list for the language of x under the signature g
+pub record Serves (x : Text) (g : ℕ) (L : List ℕ) : Type 0 where
+  pub rises : RecordsRise L
+  pub passes : PassesAll L
+  -- a flow opened on L and fed by any calls, cut anywhere: plain, through tables that the check accepts, by the filler's matrix, with refused calls between
+  pub tells : (R out : List ℕ) → openFlow L R out .refusal ≡ 0 → (cs : List Call) → InBytes cs → Each (Swaps L) (openFlow L R out .saved) cs
+      → Tells x g (bytesOf (openFlow L R out .saved) cs) (openTold (openFlow L R out) ++ wordsOf (openFlow L R out .saved) cs)
+
+-- where compiling T under the signature g, into the lent list A, answered r without a refusal and left B: its front is a list for the language of the text's reading
+abbrev pub CompiledServes : Type 0
+CompiledServes =
+    (T : List ℕ) (g : ℕ) (A : List ℕ) (r : Compiled) (B : List ℕ) → Bytes T → g < 256 → Compiles T g A r B → r .refusal ≡ 0
+    → (x : Text) × Reading T x × Serves x g (front r B)
