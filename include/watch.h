@@ -330,8 +330,8 @@
  *     watch_check_certificate, which keeps the places of the records and bytes that step alike,
  *     14,056, watch_join, which keeps the new numbers of states and marks of those that are named,
  *     10,968, watch_check_table, which keeps bytes that step alike, 5,720, and all others but one
- *     2,000 at most: watch_compile keeps a row for each state, 160 KiB, goes as deep as the brackets
- *     do, and takes WATCH_COMPILE_STACK.
+ *     2,000 at most: watch_compile keeps a row for each state, 160 KiB, goes as deep as the
+ *     brackets do, and takes WATCH_COMPILE_STACK.
  *     tools/stack reads the number off the archive for each function, and tools/test-outside holds
  *     these to it.
  *   - No heap, no statics, no locks, no system calls: the archive has no data that can be written,
