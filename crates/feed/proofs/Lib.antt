@@ -13,4 +13,5 @@ pub mod Lawful
 pub mod Telling
 pub mod Looping
 pub mod Opening
+pub mod Piece
 pub mod Unique

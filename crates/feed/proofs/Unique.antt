@@ -4,12 +4,18 @@ use mathlib.Core.List.{List}
 use mathlib.Core.Bool.{Bool}
 use Prim.Native.Nat.{ℕ}
 use Rattle.sets.specs.Set.{signatures, members, placed}
+use Rattle.rules.specs.Rules.{verdict}
 use Rattle.feed.specs.declared.Fed.{Fed}
 use Rattle.feed.specs.Engine.{Outcome, pairsAt}
+use Rattle.feed.specs.Piece.{pieceRules}
 use Rattle.feed.specs.inner.Tells.{Unfed}
 use Rattle.feed.specs.Fed.{Answers}
 use Rattle.feed.specs.Opening.{Opening, Opens}
 use Rattle.feed.specs.declared.Opened.{Opened}
+
+-- the check of a piece gives one number
+pub unique-piece-refusal : (r q k at : ℕ) (piece : List ℕ) → r ≡ verdict (pieceRules k at piece) → q ≡ verdict (pieceRules k at piece) → r ≡ q
+unique-piece-refusal r q k at piece e f = e ∙ sym f
 
 -- telling leaves one list of words
 pub unique-tell : (r q out : List ℕ) (at k G : ℕ)

@@ -4,7 +4,9 @@ ghost use mathlib.Core.Path.{_≡_};
 ghost use Prim.Native.Nat.{_+_, _*_, _^_, _≤_, _<_};
 ghost use lib.ListN.{length};
 ghost use Rattle.sets.specs.Set.{signatures, size, members, sigsOf, placed};
-ghost use Rattle.feed.specs.Engine.{pairsAt};
+ghost use Rattle.rules.specs.Rules.{verdict};
+ghost use Rattle.feed.specs.Engine.{mostOffset, pairsAt};
+ghost use Rattle.feed.specs.Piece.{pieceRules};
 ghost use Rattle.feed.specs.inner.Tells.{Unfed, Tells};
 
 // The largest offset.
@@ -34,6 +36,20 @@ pub fn refused(refusal: u32) -> Fed
         pairs: 0,
         all: false,
     }
+}
+
+// The check of a piece at the offset of its flow: the number of the first of the rules 5 and 6 that refuses it, 0 where neither does.
+pub fn piece_refusal(offset: u64, start: u64, piece: &[u8]) -> u32
+    requires { ⌜ offset ≤ mostOffset ⌝ }
+    ensures { λ r. ⌜ r ≡ verdict (pieceRules offset start (now (piece .entry))) ⌝ }
+{
+    if start != offset {
+        return rules::OTHER_START;
+    }
+    if piece.len() as u64 > MOST_OFFSET - offset {
+        return rules::TOO_LONG;
+    }
+    rules::PASSED
 }
 
 // Writes signature s and the offset at word w, where the bit is 1; answers the word after.

@@ -12,7 +12,8 @@ use Rattle.feed.proofs.Moves.{no-refusal}
 use Rattle.feed.proofs.Feeds.{each-feed}
 use Rattle.feed.proofs.Calls.{along-map}
 use Rattle.feed.proofs.Whole.{Kind, Met, met, runs, counts, cuts, call-refusal}
-use Rattle.list_flow.specs.Flow.{frontierOf, offsetOf, otherStart}
+use Rattle.feed.specs.Piece.{otherStart}
+use Rattle.list_flow.specs.Flow.{frontierOf, offsetOf}
 use Rattle.list_flow.proofs.Records.{frontier-lt, flow-again}
 use Rattle.list_feed.proofs.Plain.{plain-kept}
 use Rattle.laws.specs.Calls.{Call, wayOf, outcome, ruled, asked, bytesOf, InBytes, Each}
@@ -59,7 +60,7 @@ plain-cuts L R cs ds hR good hc hd fc fd e =
 -- ---- of one call
 
 -- a rule refuses it: nothing changes
-call-elsewhere : (R : List ℕ) (c : Call) → otherStart R (c .at) ≡ true → (outcome R c .refusal ≡ 0 → ⊥) × Unchanged R (c .out) (outcome R c)
+call-elsewhere : (R : List ℕ) (c : Call) → otherStart (offsetOf R) (c .at) ≡ true → (outcome R c .refusal ≡ 0 → ⊥) × Unchanged R (c .out) (outcome R c)
 call-elsewhere R c e = (
   λ z. refuses (no-refusal (wayOf (c .via) (c .list) .engine) (wayOf (c .via) (c .list) .layout) R (ruled R c) (c .piece) (c .out) z),
   each-feed (wayOf (c .via) (c .list)) R (c .at) (c .piece) (c .out) .refused refuses .1,

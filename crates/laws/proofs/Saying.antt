@@ -19,12 +19,13 @@ use Rattle.rules.proofs.Saying.{Says, says-append, tells}
 use Rattle.list.specs.List.{records, isStart, goodRecord, badLength, badRecord, noStart, listRules}
 use Rattle.list.specs.Words.{Edge-bytes, Start-bytes, Accept-bytes}
 use Rattle.list.proofs.Listed.{bad-length, bad-record, record-exactly, no-start, kind-start}
-use Rattle.list_flow.specs.Flow.{frontierOf, badFlow, otherStart, tooLong, wrongSize, flowRules, feedRules}
-use Rattle.list_flow.proofs.Refused.{wrong-size, bad-flow, other-start, too-long}
+use Rattle.list_flow.specs.Flow.{frontierOf, offsetOf, badFlow, wrongSize, flowRules, feedRules}
+use Rattle.list_flow.proofs.Refused.{wrong-size, bad-flow}
 use Rattle.list.specs.Automaton.{start, accepted, named, highest}
 use Rattle.list.proofs.Named.{names-bytes, named-bytes, outside-exactly}
 use Rattle.feed.specs.Engine.{room}
 use Rattle.feed.specs.Opening.{noRoom}
+use Rattle.feed.proofs.Piece.{other-start, too-long, piece-says}
 use Rattle.list_feed.specs.Plain.{openPairs, openRules}
 use Rattle.list_feed.proofs.Opening.{openPairs-long}
 use Rattle.table.specs.Table.{Table, mostSplits, mostBound, splitSize, partCount, splitCount, splitSet, slots, usedSlots, takenSlots, goodSlots, inOrder, unordered, badBound, badClasses, badCount, badLengths, badSplits, badRows, badUnion, noStartSplit, notClosed, sizeRules, risingRules, tableRules}
@@ -104,7 +105,7 @@ module _ (L : List ℕ) where
   pub feed-says : (R : List ℕ) (at : ℕ) (piece : List ℕ) → Says (feedRules L R at piece) (feedWords L R at piece)
   feed-says R at piece =
       says-append (listRules L) (flowRules (within (frontierOf R) (named L)) R at piece) (listWords L) (flowWords (Foreign L R) R at piece) list-says
-      (refl, either-words _ (Foreign L R) (badFlow R) (not (within (frontierOf R) (named L))) (bad-flow R) (foreign R), (refl, other-start R at, (refl, too-long R piece, tt)))
+      (refl, either-words _ (Foreign L R) (badFlow R) (not (within (frontierOf R) (named L))) (bad-flow R) (foreign R), piece-says (offsetOf R) at piece)
 
   -- the highest state is one number, and it is the definition's
   highest-words : Highest L (highest L)
@@ -274,7 +275,7 @@ module _ (S X : List ℕ) (h : ℕ) where
   prepared-says R at piece = (
     refl,
     either-words _ (Unnamed S X h R) (badFlow R) (not (namedBy S X h (frontierOf R))) (bad-flow R) (unnamed R),
-    (refl, other-start R at, (refl, too-long R piece, (refl, index-lists, tt))),
+    (refl, other-start (offsetOf R) at, (refl, too-long (offsetOf R) piece, (refl, index-lists, tt))),
   )
 
 -- ---- each entry point

@@ -11,10 +11,11 @@ use Rattle.list.specs.List.{listRules, listRefusal}
 use Rattle.list.specs.Automaton.{start, accepted}
 use Rattle.feed.specs.Pairs.{Pair}
 use Rattle.feed.specs.Engine.{Engine, Outcome, run, costs, room, feed}
-use Rattle.list_flow.specs.Flow.{flowLayout, frontierOf, offsetOf, rowsOf, badFlow, otherStart, feedRules}
+use Rattle.list_flow.specs.Flow.{flowLayout, frontierOf, offsetOf, rowsOf, badFlow, feedRules}
 use Rattle.feed.specs.Calls.{Bytes, costing}
 use Rattle.feed.specs.Demands.{Unchanged, Answered, OneOpening, OneFeed, Runs, Counts, Flowed, Alike}
 use Rattle.feed.specs.Opening.{Opening}
+use Rattle.feed.specs.Piece.{otherStart}
 use Rattle.feed.specs.Demands as calls
 use Rattle.feed.specs.Lawful as lawful
 use Rattle.list_feed.specs.Means.{listAutomata}
@@ -166,7 +167,7 @@ pub record OneCall : Type 0 where
   -- the room is all that fits: two words more would be more than there are
   pub room-whole : (out : List ℕ) → (2 * room out ≤ length out) × (length out < 2 * room out + 2)
   -- a piece that does not begin at the flow's offset is refused and changes nothing
-  pub elsewhere : (R : List ℕ) (c : Call) → otherStart R (c .at) ≡ true → (outcome R c .refusal ≡ 0 → ⊥) × Unchanged R (c .out) (outcome R c)
+  pub elsewhere : (R : List ℕ) (c : Call) → otherStart (offsetOf R) (c .at) ≡ true → (outcome R c .refusal ≡ 0 → ⊥) × Unchanged R (c .out) (outcome R c)
   -- a feed leaves no record that a later feed on its list refuses with 4, if what it goes by is checked: then it names no foreign state
   pub never-4 : (R : List ℕ) (c : Call) → Bytes (c .piece) → Checked (c .list) (c .via) → Fit (c .list) R → Fit (c .list) (outcome R c .saved)
   -- and such a record no call on the list refuses with 4, whatever table or matrix it goes by, checked or not, and by every index that names what the list does

@@ -11,7 +11,7 @@ use Rattle.list.specs.List.{recordSize, mostRecords, records}
 use Rattle.list.specs.Automaton.{start, step, accepted}
 use Rattle.list.specs.Words.{Edge-bytes, Start-bytes, Accept-bytes, Names-bytes}
 use Rattle.sets.specs.Order.{Smaller}
-use Rattle.feed.specs.Engine.{mostOffset}
+use Rattle.feed.specs.Piece.{pieceWords}
 use Rattle.list_flow.specs.Flow.{flowSize, frontierOf, offsetOf, reservedOf, rowsOf}
 use Rattle.table.specs.Table.{Table, byteValues, mostClass, mostParts, mostSplits, mostBound, splitSize, classCount, partCount, splitCount}
 use Rattle.table.specs.Table.{part, row, splitSet, slots, usedSlots, takenSlots, joined}
@@ -49,9 +49,7 @@ Foreign L R = (s : ℕ) × (holds (frontierOf R) s ≡ true) × ((s < states) ×
 abbrev pub flowWords : Type 0 → List ℕ → ℕ → List ℕ → List Row
 flowWords foreign R k piece =
     (4, (((length R ≡ flowSize → ⊥) ⊎ (reservedOf R ≡ 0 → ⊥)) ⊎ (states * offsetOf R < rowsOf R)) ⊎ foreign)
-    ∷ (5, k ≡ offsetOf R → ⊥)
-    ∷ (6, mostOffset < offsetOf R + length piece)
-    ∷ []
+    ∷ pieceWords (offsetOf R) k piece
 
 abbrev pub feedWords : List ℕ → List ℕ → ℕ → List ℕ → List Row
 feedWords L R k piece = listWords L ++ flowWords (Foreign L R) R k piece

@@ -82,14 +82,7 @@ pub fn flow_refusal(known: bool, flow: &[u8], start: u64, piece: &[u8]) -> u32
     if bad_flow(flow) | !known {
         return rules::FLOW_RECORD;
     }
-    let offset = offset_of(flow);
-    if start != offset {
-        return rules::OTHER_START;
-    }
-    if piece.len() as u64 > feed::MOST_OFFSET - offset {
-        return rules::TOO_LONG;
-    }
-    rules::PASSED
+    feed::piece_refusal(offset_of(flow), start, piece)
 }
 
 // The check of a feed over a list whose record has not the size of one: the number of the first of the rules 1 to 4 that refuses it.

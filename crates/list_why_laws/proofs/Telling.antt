@@ -26,7 +26,7 @@ use Rattle.feed.proofs.Runs.{length-take-most}
 use Rattle.feed.proofs.Lawful.{reached-start, reached-next}
 use Rattle.feed.proofs.Opening.{opening-refusal}
 use Rattle.feed.proofs.Whole.{Kind, Met, Written, Within, met, met-within, runs}
-use Rattle.list_flow.specs.Flow.{flowLayout, frontierOf, offsetOf, rowsOf, badFlow, otherStart, tooLong, flowRules, feedRules}
+use Rattle.list_flow.specs.Flow.{flowLayout, frontierOf, offsetOf, rowsOf, badFlow, flowRules, feedRules}
 use Rattle.list_flow.proofs.Records.{frontier-lt, flow-good}
 use Rattle.list_feed.specs.Plain.{plain, opened, openPairs, firstRules, openRules, openFlow}
 use Rattle.list_feed.specs.Means.{listAutomata}

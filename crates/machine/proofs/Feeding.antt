@@ -7,7 +7,7 @@ use native.Mathlib.Omega.{arith}
 use native.Mathlib.Decide.{ℕ-discrete}
 use lib.ListN.{length, getD, take}
 use lib.Dec.{leb, ltb}
-use borrow.Author.Tests.{eqb-true, ltb-false, le-leb, lt-leb, not-false}
+use borrow.Author.Tests.{le-leb, lt-leb}
 use Rattle.sets.specs.Set.{signatures, size, members, placed}
 use Rattle.sets.proofs.Members.{members-size}
 use Rattle.sets.proofs.Placing.{placed-empty}
@@ -15,6 +15,8 @@ use Rattle.rules.specs.Rules.{verdict}
 use Rattle.rules.proofs.Rules.{passes}
 use Rattle.rules.proofs.Scanning.{and-false}
 use Rattle.feed.specs.Engine.{Engine, room, consumed, pairsAt, ended, feed, mostOffset}
+use Rattle.feed.specs.Piece.{pieceRules}
+use Rattle.feed.proofs.Piece.{piece-passes}
 use Rattle.feed.proofs.Runs.{pairsAt-length}
 use Rattle.feed.specs.inner.Going.{Going}
 use Rattle.feed.proofs.Looping.{more-by, stop-by}
@@ -23,7 +25,7 @@ use Rattle.feed.proofs.Telling.{tells-none}
 use Rattle.machine.specs.declared.Config.{Config}
 use Rattle.machine.specs.Program.{programLength, moved, programmed, alertsOf}
 use Rattle.machine.specs.Machine.{stateCount, move, badMachine, machineRules, idle, machine}
-use Rattle.machine.specs.Record.{flowLayout, offsetOf, badFlow, otherStart, tooLong, flowRules}
+use Rattle.machine.specs.Record.{flowLayout, offsetOf, badFlow, flowRules}
 use Rattle.machine.specs.Extended.{feedRules, extendedFeed}
 use Rattle.machine.specs.inner.Ran.{TellsRoom}
 use Rattle.machine.proofs.Programs.{idle-after, idle-alerted}
@@ -75,10 +77,9 @@ module _ (M P R : List ℕ) (at : ℕ) (piece : List ℕ) where
       → (badMachine M P ≡ false) × (badFlow (stateCount M) R ≡ false) × (at ≡ offsetOf R) × (offsetOf R + length piece ≤ mostOffset)
   feed-passes v =
       let m = passes 23 (badMachine M P) (flowRules (stateCount M) R at piece) v in
-      let a = passes 3 (badFlow (stateCount M) R) ((5, otherStart R at) ∷ (6, tooLong R piece) ∷ []) (m .1) in
-      let b = passes 4 (otherStart R at) ((6, tooLong R piece) ∷ []) (a .1) in
-      let c = passes 5 (tooLong R piece) [] (b .1) in
-      (m .0, a .0, eqb-true at (offsetOf R) (not-false _ (b .0)), ltb-false mostOffset (offsetOf R + length piece) (c .0))
+      let a = passes 3 (badFlow (stateCount M) R) (pieceRules (offsetOf R) at piece) (m .1) in
+      let p = piece-passes (offsetOf R) at piece (a .1) in
+      (m .0, a .0, p .0, p .1)
 
   -- nothing halts, so a feed refuses by its rules alone
   pub extended-refusal : (out : List ℕ) → extendedFeed M P R at piece out .refusal ≡ verdict (feedRules M P R at piece)

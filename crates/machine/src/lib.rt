@@ -439,14 +439,7 @@ fn flow_refusal(states: usize, flow: &[u8], start: u64, piece: &[u8]) -> u32
     if bad_flow(states, flow) {
         return rules::FLOW_RECORD;
     }
-    let offset = offset_of(flow);
-    if start != offset {
-        return rules::OTHER_START;
-    }
-    if piece.len() as u64 > feed::MOST_OFFSET - offset {
-        return rules::TOO_LONG;
-    }
-    rules::PASSED
+    feed::piece_refusal(offset_of(flow), start, piece)
 }
 
 // The check of a feed: the number of the first of the rules 24 and 4 to 6 that refuses it, 0 where none does.

@@ -1,16 +1,16 @@
 -- What comes next on two flows that consumed the same bytes: the plain feed and the machine's feed answer it alike. Assumes nothing.
-use Prim.Native.Nat.{ℕ, _+_}
+use Prim.Native.Nat.{ℕ}
 use mathlib.Core.Path.{_≡_, refl, sym, ap, _∙_}
 use mathlib.Core.Bool.{Bool, true, false, _||_, not}
 use mathlib.Core.List.{List, [], _∷_, _++_}
 use lib.ListN.{length}
-use lib.Dec.{eqb, ltb}
 use Rattle.sets.specs.Set.{within}
 use Rattle.rules.specs.Rules.{Rule, verdict}
 use Rattle.rules.proofs.Rules.{verdict-then, skip, stop}
 use Rattle.list.specs.List.{listRules, listRefusal}
 use Rattle.list.specs.Automaton.{start, named}
-use Rattle.feed.specs.Engine.{Outcome, mostOffset}
+use Rattle.feed.specs.Engine.{Outcome}
+use Rattle.feed.specs.Piece.{pieceRules}
 use Rattle.feed.specs.Calls.{Bytes, Follows}
 use Rattle.feed.specs.Demands.{Answered}
 use Rattle.feed.proofs.Follows.{run-related}
@@ -35,8 +35,8 @@ use Rattle.machine_certificate_laws.specs.Alike.{ListFlow, listBytes, li
 -- ---- 5 and 6 alone are left of the rules
 
 -- by the offset k
-abbrev left : ℕ → ℕ → ℕ → ℕ
-left k at n = verdict ((5, not (eqb at k)) ∷ ((6, ltb mostOffset (k + n)) ∷ []))
+abbrev left : ℕ → ℕ → List ℕ → ℕ
+left k at piece = verdict (pieceRules k at piece)
 
 -- where 4 is not given it does not apply
 not-given : (b : Bool) (rs : List Rule) → (verdict ((4, b) ∷ rs) ≡ 4 → ⊥) → b ≡ false
@@ -47,7 +47,7 @@ module _ (L : List ℕ) (good : listRefusal L ≡ 0) (f : ListFlow L) (at : ℕ)
   list-swapped : Swapped L (openFlow L (f .flow) (f .out)) (f .calls)
   list-swapped = swapped L (f .flow) (f .out) (f .opens) (f .calls) (f .in-bytes) (f .by-list)
 
-  list-left : verdict (list.feedRules L (listAfter L f) at piece) ≡ left (length (listBytes L f)) at (length piece)
+  list-left : verdict (list.feedRules L (listAfter L f) at piece) ≡ left (length (listBytes L f)) at piece
   list-left =
       let R = listAfter L f in
       let S = openFlow L (f .flow) (f .out) .saved in
@@ -56,16 +56,16 @@ module _ (L : List ℕ) (good : listRefusal L ≡ 0) (f : ListFlow L) (at : ℕ)
       (along-more calls.asked s (Swaps L) S (f .calls) (f .by-list) (λ v. (refl, tt))) in
       let free = along-last calls.asked s _ S (f .calls) (more .never-4) refl tt in
       let b = list.badFlow R || not (within (list.frontierOf R) (named L)) in
-      let rest : List Rule = (5, list.otherStart R at) ∷ ((6, list.tooLong R piece) ∷ []) in
+      let rest : List Rule = pieceRules (list.offsetOf R) at piece in
       let e : verdict (list.feedRules L R at piece) ≡ verdict ((4, b) ∷ rest) = verdict-then (listRules L) ((4, b) ∷ rest) refl good in
       let z : b ≡ false = not-given b rest (λ q. free (rules-alone (plain L) list.flowLayout R (list.feedRules L R at piece) piece out (λ x. refl) ∙ e ∙ q)) in
-      e ∙ skip 4 rest z ∙ ap (λ (k : ℕ). left k at (length piece)) (list-swapped .flows .offset)
+      e ∙ skip 4 rest z ∙ ap (λ (k : ℕ). left k at piece) (list-swapped .flows .offset)
 
 module _ (M P : List ℕ) (hm : Bytes M) (hp : Bytes P) (good : machineRefusal M P ≡ 0) (g : MachineFlow M P) (at : ℕ) (piece out : List ℕ) (hb : Bytes piece) where
   machine-opened : Demand2Opened M P (extendedOpen M P (g .flow) (g .out)) (g .calls)
   machine-opened = demand-2-opened M P hm hp (g .flow) (g .out) (g .opens) (g .calls) (g .in-bytes) (g .by-machine)
 
-  machine-left : verdict (feedRules M P (machineAfter M P g) at piece) ≡ left (length (machineBytes M P g)) at (length piece)
+  machine-left : verdict (feedRules M P (machineAfter M P g) at piece) ≡ left (length (machineBytes M P g)) at piece
   machine-left =
       let R = machineAfter M P g in
       let S = extendedOpen M P (g .flow) (g .out) .saved in
@@ -73,10 +73,10 @@ module _ (M P : List ℕ) (hm : Bytes M) (hp : Bytes P) (good : machineRefusal M
       let more = demand-2-opened M P hm hp (g .flow) (g .out) (g .opens) (g .calls ++ (c ∷ [])) (pieces-more asked c (g .calls) (g .in-bytes) hb)
       (along-more asked c (By M P) S (g .calls) (g .by-machine) (λ v. (refl, refl))) in
       let free = along-last asked c _ S (g .calls) (more .never-4) refl refl in
-      let rest : List Rule = (5, ext.otherStart R at) ∷ ((6, ext.tooLong R piece) ∷ []) in
+      let rest : List Rule = pieceRules (ext.offsetOf R) at piece in
       let e : verdict (feedRules M P R at piece) ≡ verdict ((4, ext.badFlow (stateCount M) R) ∷ rest) = verdict-then (machineRules M P) ((4, ext.badFlow (stateCount M) R) ∷ rest) refl good in
       let z = not-given (ext.badFlow (stateCount M) R) rest (λ q. free (extended-refusal M P R at piece out ∙ e ∙ q)) in
-      e ∙ skip 4 rest z ∙ ap (λ (k : ℕ). left k at (length piece)) (machine-opened .flows .offset)
+      e ∙ skip 4 rest z ∙ ap (λ (k : ℕ). left k at piece) (machine-opened .flows .offset)
 
 -- ---- so both answer alike
 
@@ -91,7 +91,7 @@ module _ (L M P : List ℕ) (hm : Bytes M) (hp : Bytes P) (list-good : listRefus
       turned _ _
       (answered (machine M P) (plain L) Rel follows ext.flowLayout list.flowLayout (machineAfter M P g) (listAfter L f) r (op .flows .offset ∙ ap length (sym e) ∙ sym (sw .flows .offset)) piece out h
       (feedRules M P (machineAfter M P g) at piece) (list.feedRules L (listAfter L f) at piece)
-      (machine-left M P hm hp machine-good g at piece out h ∙ ap (λ (bs : List ℕ). left (length bs) at (length piece)) (sym e) ∙ sym (list-left L list-good f at piece out h)))
+      (machine-left M P hm hp machine-good g at piece out h ∙ ap (λ (bs : List ℕ). left (length bs) at piece) (sym e) ∙ sym (list-left L list-good f at piece out h)))
     where
       turned : (o p : Outcome) → Answered o p → Answered p o
       turned o p a = record { refusal = sym (a .refusal); bytes = sym (a .bytes); pairs = sym (a .pairs); all = sym (a .all); words = sym (a .words) }

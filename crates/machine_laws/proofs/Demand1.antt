@@ -15,13 +15,14 @@ use Rattle.rules.proofs.Saying.{tells}
 use Rattle.feed.specs.Demands.{OneOpening}
 use Rattle.feed.proofs.Feeds.{each-feed}
 use Rattle.feed.proofs.Opening.{opening-refusal, one-opening}
+use Rattle.feed.proofs.Piece.{piece-says}
 use Rattle.machine.specs.Machine.{stateCount, badMachine, machineRules, firstAlerts}
-use Rattle.machine.specs.Record.{flowSize, wrongSize}
+use Rattle.machine.specs.Record.{flowSize, offsetOf, wrongSize}
 use Rattle.machine.specs.Words.{machineWords, openWords, feedWords}
 use Rattle.machine.specs.Extended.{openPairs, firstRules, openRules, opened, extendedOpen, feedRules}
 use Rattle.machine.proofs.Feeding.{extended-refusal}
 use Rattle.machine.proofs.Opening.{openPairs-long}
-use Rattle.machine.proofs.Said.{machine-said, size-said, flow-said, start-said, long-said, room-said}
+use Rattle.machine.proofs.Said.{machine-said, size-said, flow-said, room-said}
 use Rattle.machine_laws.specs.Calls.{wayOf, ruled}
 use Rattle.machine_laws.specs.Demands.{Demand1}
 
@@ -45,7 +46,7 @@ module _ (M P R out : List ℕ) where
 
 pub feed-tells : (M P R : List ℕ) (at : ℕ) (piece : List ℕ) → InWords (feedWords M P R at piece) (verdict (feedRules M P R at piece))
 feed-tells M P R at piece =
-    tells (feedRules M P R at piece) (feedWords M P R at piece) refl (refl, machine-said M P, (refl, flow-said R (stateCount M), (refl, start-said R at, (refl, long-said R piece, tt))))
+    tells (feedRules M P R at piece) (feedWords M P R at piece) refl (refl, machine-said M P, (refl, flow-said R (stateCount M), piece-says (offsetOf R) at piece))
 
 pub demand-1 : Demand1
 demand-1 =

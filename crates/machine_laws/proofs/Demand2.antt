@@ -19,9 +19,10 @@ use Rattle.feed.proofs.Feeds.{each-feed}
 use Rattle.feed.proofs.Moves.{no-refusal}
 use Rattle.feed.proofs.Calls.{along-all, along-map, along-both}
 use Rattle.feed.proofs.Whole.{Kind, Written, Within, Met, met, met-within, runs, flowed, cuts, by-feed, run-good, all-fed}
+use Rattle.feed.specs.Piece.{otherStart}
 use Rattle.machine.specs.declared.Config.{Config}
 use Rattle.machine.specs.Machine.{mostStates, stateCount, badMachine, machine, first, firstAlerts}
-use Rattle.machine.specs.Record.{configOf, offsetOf, flowBytes, flowLayout, badFlow, otherStart}
+use Rattle.machine.specs.Record.{configOf, offsetOf, flowBytes, flowLayout, badFlow}
 use Rattle.machine.specs.Extended.{openPairs, opened, extendedOpen, feedRules}
 use Rattle.machine.proofs.Machines.{good-machine}
 use Rattle.machine.proofs.Records.{Fine, config-flow, offset-flow, flow-sound, good-flow, flow-again, read-fine, offset-lt}
@@ -131,7 +132,7 @@ demand-2-opened M P hm hp R out z cs hb h = opened-so M P hm hp R out z cs hb h
 -- ---- of one call
 
 -- a rule refuses it: nothing changes
-call-elsewhere : (R : List ℕ) (c : Call) → otherStart R (c .at) ≡ true → (outcome R c .refusal ≡ 0 → ⊥) × Unchanged R (c .out) (outcome R c)
+call-elsewhere : (R : List ℕ) (c : Call) → otherStart (offsetOf R) (c .at) ≡ true → (outcome R c .refusal ≡ 0 → ⊥) × Unchanged R (c .out) (outcome R c)
 call-elsewhere R c e = (
   λ z. refuses (no-refusal (machine (c .moves) (c .programs)) flowLayout R (ruled R c) (c .piece) (c .out) z),
   each-feed (wayOf (c .moves) (c .programs)) R (c .at) (c .piece) (c .out) .refused refuses .1,

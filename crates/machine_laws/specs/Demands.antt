@@ -10,8 +10,9 @@ use Rattle.feed.specs.Calls.{Bytes}
 use Rattle.feed.specs.Demands.{Unchanged, OneOpening, OneFeed, Runs, Flowed, Alike}
 use Rattle.feed.specs.Demands as calls
 use Rattle.feed.specs.Opening.{Opening}
+use Rattle.feed.specs.Piece.{otherStart}
 use Rattle.machine.specs.Machine.{stateCount, machineRules, machineRefusal, machine, first, firstAlerts}
-use Rattle.machine.specs.Record.{flowLayout, badFlow, otherStart}
+use Rattle.machine.specs.Record.{flowLayout, offsetOf, badFlow}
 use Rattle.machine.specs.Extended.{openPairs, firstRules, opened, extendedOpen}
 use Rattle.machine.specs.Words.{machineWords, openWords, feedWords}
 use Rattle.machine_laws.specs.Calls.{Call, wayOf, outcome, ruled, asked, bytesOf, wordsOf, after, InBytes, Each}
@@ -73,7 +74,7 @@ MachineCuts =
 -- of one call
 pub record OneCall : Type 0 where
   -- a piece that does not begin at the flow's offset is refused and changes nothing
-  pub elsewhere : (R : List ℕ) (c : Call) → otherStart R (c .at) ≡ true → (outcome R c .refusal ≡ 0 → ⊥) × Unchanged R (c .out) (outcome R c)
+  pub elsewhere : (R : List ℕ) (c : Call) → otherStart (offsetOf R) (c .at) ≡ true → (outcome R c .refusal ≡ 0 → ⊥) × Unchanged R (c .out) (outcome R c)
   -- a feed leaves no record that a later feed by its lists refuses with 4
   pub never-4 : (R : List ℕ) (c : Call) → Bytes R → Bytes (c .piece) → Bytes (c .programs) → badFlow (stateCount (c .moves)) R ≡ false
       → badFlow (stateCount (c .moves)) (outcome R c .saved) ≡ false
