@@ -24,7 +24,7 @@ use Rattle.feed.specs.Opening.{Opening, noRoom, opening, Opens}
 use Rattle.feed.specs.Demands.{OneOpening, Due}
 use Rattle.feed.proofs.Runs.{pairsAt-length}
 use Rattle.feed.proofs.Moves.{behind-stay, behind-many}
-use Rattle.feed.proofs.Told.{pairsAt-offset, pairsAt-exactly, pairsAt-ordered, pair-append, before-append, told-exactly, told-ordered, told-beyond}
+use Rattle.feed.proofs.Due.{pairsAt-offset, pairsAt-exactly, pairsAt-ordered, pair-append, before-append, told-exactly, told-ordered, told-beyond}
 
 module _ (rules : List Rule) (ws Q R out : List ℕ) where
   -- no rule applies, or one does

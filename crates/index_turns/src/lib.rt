@@ -1,13 +1,11 @@
 // The loops of a feed by places that tell: stretches of turns with the bytes that tell between them, and blocks of bytes skipped where a stretch stays at a place.
 use index_blocks::Ranges;
-use list_flow::Told;
 use sets::SigSet;
 ghost use mathlib.Core.Path.{_≡_};
 ghost use Prim.Native.Nat.{_+_, _≤_, _<_};
 ghost use lib.ListN.{length};
-ghost use Rattle.sets.specs.Set.{sigsOf};
 ghost use Rattle.feed.specs.Engine.{mostOffset};
-ghost use Rattle.list_flow.specs.inner.Told.{TellsAll};
+ghost use Rattle.feed.specs.inner.Told.{TellsAll};
 ghost use Rattle.index.specs.Entry.{entrySize, limit, telling, placeOf, toldOf};
 ghost use Rattle.index_turns.specs.inner.Goes.{Strides};
 
@@ -36,25 +34,6 @@ pub struct Stands {
     pub rows: u64,
 }
 
-// Tells a set of signatures behind the words that are written: all of it, or nothing where it does not fit.
-fn tell_set(g: SigSet, pairs: &mut [u32], words: usize, offset: u32) -> Told
-    requires { ⌜ words ≤ length (now pairs) ⌝ }
-    ensures { λ t. ⌜ TellsAll (sigsOf g) (now (pairs .entry)) words offset t (now (pairs .exit)) ⌝ }
-{
-    let n = g.count() as usize;
-    if (pairs.len() - words) / 2 < n {
-        return Told {
-            fits: false,
-            words: words,
-        };
-    }
-    feed::tell(pairs, words, g, offset);
-    Told {
-        fits: true,
-        words: words + 2 * n,
-    }
-}
-
 // Follows a word: tells what it says at an offset, behind the words that are written, where there is room for them.
 fn follow(index: &[u8], word: usize, pairs: &mut [u32], words: usize, offset: u32) -> Followed
     requires { ⌜ (words ≤ length (now pairs)) × (entrySize ≤ length (now index)) ⌝ }
@@ -75,10 +54,10 @@ fn follow(index: &[u8], word: usize, pairs: &mut [u32], words: usize, offset: u3
             words: words,
         };
     }
-    let t = tell_set(
-        SigSet::whole(index, at + index::SIGS_PLACE),
+    let t = feed::tell_all(
         pairs,
         words,
+        SigSet::whole(index, at + index::SIGS_PLACE),
         offset,
     );
     Followed {

@@ -16,7 +16,7 @@ use Rattle.feed.specs.Pairs.{Pair}
 use Rattle.feed.specs.Engine.{run, told}
 use Rattle.feed.specs.Opening.{Opening}
 use Rattle.feed.proofs.Runs.{run-more}
-use Rattle.feed.proofs.Told.{told-exactly}
+use Rattle.feed.proofs.Due.{told-exactly}
 use Rattle.feed.proofs.Opening.{opens, opening-refusal, opening-tells}
 use Rattle.feed.proofs.Opening as flow
 use Rattle.list_flow.specs.Flow.{frontierOf, offsetOf, rowsOf}

@@ -2,7 +2,7 @@
 use feed::Fed;
 use feed::Opened;
 use list_flow::Ran;
-use list_flow::Told;
+use feed::Told;
 use sets::StateSet;
 ghost use mathlib.Core.Path.{_≡_};
 ghost use Prim.Native.Nat.{_+_, _≤_};

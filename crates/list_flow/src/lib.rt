@@ -1,5 +1,6 @@
 // The record of a list's flow, read, checked and written.
 use feed::Fed;
+use feed::Told;
 use sets::StateSet;
 ghost use mathlib.Core.Path.{_≡_};
 ghost use mathlib.Core.Bool.{true, cond};
@@ -13,7 +14,7 @@ ghost use Rattle.list_flow.specs.Flow.{flowSize, offsetOf, reservedOf, r
 ghost use Rattle.list.specs.List.{listRules};
 ghost use Rattle.list.specs.Automaton.{accepted};
 ghost use Rattle.list_flow.specs.inner.Ran.{Finishes};
-ghost use Rattle.list_flow.specs.inner.Told.{TellsAll};
+ghost use Rattle.feed.specs.inner.Told.{TellsAll};
 
 // Bytes in a flow record.
 pub const FLOW_SIZE: usize = sets::BYTES + 16;
@@ -35,12 +36,6 @@ pub struct Ran {
     pub bytes: usize,
     pub words: usize,
     pub rows: u64,
-}
-
-// What telling a byte's pairs leaves: whether they all fit, and how many words are written.
-pub struct Told {
-    pub fits: bool,
-    pub words: usize,
 }
 
 // The offset of a record.
@@ -127,19 +122,7 @@ pub fn tell_accepted(list: &[u8], f: StateSet, pairs: &mut [u32], words: usize, 
     requires { ⌜ words ≤ length (now pairs) ⌝ }
     ensures { λ t. ⌜ TellsAll (accepted (now (list .entry)) (setOf f)) (now (pairs .entry)) words offset t (now (pairs .exit)) ⌝ }
 {
-    let g = list::accepted(list, f);
-    let n = g.count() as usize;
-    if (pairs.len() - words) / 2 < n {
-        return Told {
-            fits: false,
-            words: words,
-        };
-    }
-    feed::tell(pairs, words, g, offset);
-    Told {
-        fits: true,
-        words: words + 2 * n,
-    }
+    feed::tell_all(pairs, words, list::accepted(list, f), offset)
 }
 
 // The end of a feed of a piece of `len` bytes: what its loop leaves is saved and answered.
@@ -151,10 +134,5 @@ pub fn finish(flow: &mut [u8], ran: Ran, len: usize) -> Fed
     let rows = rows_of(flow) + ran.rows;
     let frontier = ran.frontier;
     save(flow, frontier, offset, rows);
-    Fed {
-        refusal: ran.refusal,
-        bytes: ran.bytes,
-        pairs: ran.words / 2,
-        all: ran.bytes == len,
-    }
+    feed::ended(ran.refusal, ran.bytes, ran.words, len)
 }

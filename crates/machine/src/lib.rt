@@ -1,6 +1,7 @@
 // The automaton with bits and counters: its check, opening a flow, and the feed that runs it over a piece, byte by byte.
 use feed::Fed;
 use feed::Opened;
+use feed::Told;
 use sets::SigSet;
 ghost use mathlib.Core.Path.{_≡_};
 ghost use mathlib.Core.Bool.{true, false};
@@ -14,12 +15,13 @@ ghost use Rattle.feed.specs.Engine.{mostOffset, room, consumed};
 ghost use Rattle.feed.specs.Fed.{Answers};
 ghost use Rattle.feed.specs.Opening.{Opens};
 ghost use Rattle.feed.specs.inner.Going.{Going};
+ghost use Rattle.feed.specs.inner.Told.{TellsAll};
 ghost use Rattle.machine.specs.Program.{counterCount, programLength, lower, bitsBy, countersBy, alertNow, word};
 ghost use Rattle.machine.specs.Machine.{mostStates, byteValues, moveSize, programSize, stateCount, move, badLengths, goodTarget, goodInstruction, goodRecord};
 ghost use Rattle.machine.specs.Machine.{badMachine, machineRefusal, idle, machine};
 ghost use Rattle.machine.specs.Record.{flowSize, offsetOf, fours, configAt, configOf, fourBytes, flowBytes, goodCounters, badFlow, flowRules};
 ghost use Rattle.machine.specs.Extended.{firstRules, extendedOpen, feedRules, extendedFeed};
-ghost use Rattle.machine.specs.inner.Ran.{Runs, Programs, TellsRoom};
+ghost use Rattle.machine.specs.inner.Ran.{Runs, Programs};
 
 // The most states of a machine.
 pub const X_STATES: usize = 1024;
@@ -345,26 +347,18 @@ fn none_of(g: SigSet) -> bool
     all == 0
 }
 
-// How many signatures a set has; one without any costs little.
-fn many(g: SigSet) -> usize
-    ensures { λ r. ⌜ r ≡ size signatures (sigsOf g) ⌝ }
-{
-    if none_of(g) { 0 } else { g.count() as usize }
-}
-
-// Tells the pairs of a set from word `words` on, where there is room for all of them; answers how many they are.
-fn tell_alerts(pairs: &mut [u32], words: usize, g: SigSet, offset: u32) -> usize
+// Tells a set of signatures behind the words that are written: all of it, or nothing where it does not fit. One without any costs little.
+fn tell_alerts(pairs: &mut [u32], words: usize, g: SigSet, offset: u32) -> Told
     requires { ⌜ words ≤ length (now pairs) ⌝ }
-    ensures { λ n. ⌜ TellsRoom (sigsOf g) (now (pairs .entry)) words offset n (now (pairs .exit)) ⌝ }
+    ensures { λ t. ⌜ TellsAll (sigsOf g) (now (pairs .entry)) words offset t (now (pairs .exit)) ⌝ }
 {
-    let n = many(g);
-    if n == 0 {
-        return 0;
+    if none_of(g) {
+        return Told {
+            fits: true,
+            words: words,
+        };
     }
-    if n <= (pairs.len() - words) / 2 {
-        feed::tell(pairs, words, g, offset);
-    }
-    n
+    feed::tell_all(pairs, words, g, offset)
 }
 
 // The offset of a record.
@@ -510,9 +504,9 @@ pub fn open_flow(moves: &[u8], programs: &[u8], flow: &mut [u8], pairs: &mut [u3
         },
     );
     let alerts = first.alerts;
-    let room = pairs.len() / 2;
-    let n = tell_alerts(pairs, 0, alerts, 0);
-    if room < n {
+    let told = tell_alerts(pairs, 0, alerts, 0);
+    let fits = told.fits;
+    if !fits {
         return Opened {
             refusal: rules::NO_ROOM,
             pairs: 0,
@@ -522,7 +516,7 @@ pub fn open_flow(moves: &[u8], programs: &[u8], flow: &mut [u8], pairs: &mut [u3
     save(flow, config, 0);
     Opened {
         refusal: rules::PASSED,
-        pairs: n,
+        pairs: told.words / 2,
     }
 }
 
@@ -550,16 +544,16 @@ fn feed_bytes(
         let step = run_program(programs, q, x);
         let alerts = step.alerts;
         let after = step.config;
-        let room = (pairs.len() - words) / 2;
-        let n = tell_alerts(pairs, words, alerts, (offset + i as u64 + 1) as u32);
-        if room < n {
+        let told = tell_alerts(pairs, words, alerts, (offset + i as u64 + 1) as u32);
+        let fits = told.fits;
+        if !fits {
             return Ran {
                 config: x,
                 bytes: i,
                 words: words,
             };
         }
-        words = words + 2 * n;
+        words = told.words;
         x = after;
     }
     Ran {
@@ -587,10 +581,5 @@ pub fn feed(
     let ran = feed_bytes(moves, programs, load(flow), start, piece, pairs);
     let config = ran.config;
     save(flow, config, start + ran.bytes as u64);
-    Fed {
-        refusal: rules::PASSED,
-        bytes: ran.bytes,
-        pairs: ran.words / 2,
-        all: ran.bytes == piece.len(),
-    }
+    feed::ended(rules::PASSED, ran.bytes, ran.words, piece.len())
 }

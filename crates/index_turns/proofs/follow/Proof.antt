@@ -32,8 +32,8 @@ add-whole c = search needs
 whole-requires : tie.Need-whole-requires
 whole-requires c κs = search needs
 
-tell-set-requires : tie.Need-tell-set-requires
-tell-set-requires c κs = search needs
+tell-all-requires : tie.Need-tell-all-requires
+tell-all-requires c κs = search needs
 
 same-length : tie.Need-same-length
 same-length c = search needs
@@ -46,7 +46,7 @@ returns-3 c =
     let a = read .before .before .before .before .before .args in
     let l = le-ltb (a .word) telling (read .before .before .if1 .left) in
     let h = lt-ltb (a .word - telling) (limit (a .index .now)) (read .before .if2 .left) in
-    (sym (rw l), rw (l, h) (rw (read .whole .ensures) at (told .tell-set .ensures)))
+    (sym (rw l), rw (l, h) (rw (read .whole .ensures) at (told .tell-all .ensures)))
 
 pub follow-spec : {M : Type 1} → statement M
 follow-spec =
@@ -57,6 +57,6 @@ follow-spec =
     returns-2
     add-whole
     whole-requires
-    tell-set-requires
+    tell-all-requires
     same-length
     returns-3)

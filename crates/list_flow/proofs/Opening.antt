@@ -18,9 +18,9 @@ use Rattle.feed.specs.Engine.{room}
 use Rattle.feed.specs.Opening.{noRoom, Opens}
 use Rattle.feed.proofs.Runs.{pairsAt-length}
 use Rattle.feed.proofs.Opening.{opening-refusal, opening-fits, opens-told, opens-refused}
+use Rattle.feed.specs.declared.Told.{Told}
+use Rattle.feed.specs.inner.Told.{TellsAll}
 use Rattle.list_flow.specs.Flow.{flowSize, flowBytes, wrongSize}
-use Rattle.list_flow.specs.declared.Told.{Told}
-use Rattle.list_flow.specs.inner.Told.{TellsAll}
 use Rattle.list_feed.specs.Plain.{openPairs, firstRules, openRules, openFlow, opened}
 
 -- ---- how many pairs

@@ -6,8 +6,8 @@ use mathlib.Core.List.{List}
 use lib.ListN.{length}
 use lib.Dec.{leb}
 use Rattle.sets.specs.Set.{signatures, size, members, placed}
 use Rattle.feed.specs.Engine.{pairsAt}
-use Rattle.list_flow.specs.declared.Told.{Told}
+use Rattle.feed.specs.declared.Told.{Told}
 
 -- of the pairs of G's members at offset k, from word w on
 pub record TellsAll (G : ℕ) (out : List ℕ) (w k : ℕ) (t : Told) (left : List ℕ) : Type 0 where

@@ -1,11 +1,11 @@
--- `tell_set` meets its promise. Assumes nothing.
+-- `tell_all` meets its promise. Assumes nothing.
 use borrow.Author.Needs.{needs}
 use mathlib.Core.Path.{refl}
 use native.Mathlib.Omega.{arith}
 use Rattle.sets.specs.Set.{sigsOf}
-use Rattle.list_flow.proofs.Accepting.{all-fits, all-not}
-use Rattle.index_turns.proofs.tell_set.Statement.{statement}
-use Rattle.index_turns.proofs.tell_set.Tie as tie
+use Rattle.feed.proofs.Fitting.{all-fits, all-not}
+use Rattle.feed.proofs.tell_all.Statement.{statement}
+use Rattle.feed.proofs.tell_all.Tie as tie
 
 count-requires : tie.Need-count-requires
 count-requires c κs = search needs
@@ -43,8 +43,8 @@ returns-2 c =
     all-fits (sigsOf (a .g)) (a .pairs .now) (a .words) (a .offset) _
     (sigsOf (a .g)) (count .count .result) refl (count .count .ensures) (λ h. omega (arith, fits .if1 .left)) refl refl _ (told .tell .ensures)
 
-pub tell-set-spec : {M : Type 1} → statement M
-tell-set-spec =
+pub tell-all-spec : {M : Type 1} → statement M
+tell-all-spec =
     tie.close
     (tie.spec
     count-requires
