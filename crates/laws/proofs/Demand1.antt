@@ -16,12 +16,12 @@ use Rattle.list.specs.List.{listRules}
 use Rattle.list.specs.Automaton.{start, accepted}
 use Rattle.list.proofs.Listed.{list-refuses}
 use Rattle.list_flow.specs.Flow.{flowLayout, feedRules}
+use Rattle.list_flow.specs.Opening.{openPairs, firstRules, openRules, opened, openFlow}
+use Rattle.list_flow.proofs.Opening.{openPairs-long}
 use Rattle.feed.specs.Demands.{OneOpening}
 use Rattle.feed.proofs.Halts.{by-rule}
 use Rattle.feed.proofs.Feeds.{each-feed}
 use Rattle.feed.proofs.Opening.{opening-refusal, one-opening}
-use Rattle.list_feed.specs.Plain.{openPairs, firstRules, openRules, opened, openFlow}
-use Rattle.list_feed.proofs.Opening.{openPairs-long}
 use Rattle.table.specs.Table.{Table, splitCount, inOrder, sizeRules, tableRules, tableRefusal}
 use Rattle.table.proofs.Checked.{table-exactly, in-order-first, in-order-exactly}
 use Rattle.table_feed.specs.Split.{split, splitRules, splitFeed}

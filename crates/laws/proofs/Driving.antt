@@ -26,7 +26,8 @@ use Rattle.feed.proofs.Feeds.{each-feed}
 use Rattle.feed.proofs.Calls.{along-more, pieces-more, after-more, eaten-more, told-more}
 use Rattle.feed.proofs.Made.{as-defined, pieces-calls}
 use Rattle.list_flow.specs.Flow.{frontierOf, offsetOf}
-use Rattle.list_feed.specs.Plain.{plain, openFlow}
+use Rattle.list_flow.specs.Opening.{openFlow}
+use Rattle.list_feed.specs.Plain.{plain}
 use Rattle.list.specs.Automaton.{start}
 use Rattle.feed.specs.Engine.{run}
 use Rattle.table.specs.Table.{Table, tableRefusal}

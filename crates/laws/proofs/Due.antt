@@ -21,8 +21,9 @@ use Rattle.feed.proofs.Opening.{opens, opening-refusal, opening-tells}
 use Rattle.feed.proofs.Opening as flow
 use Rattle.list_flow.specs.Flow.{frontierOf, offsetOf, rowsOf}
 use Rattle.list_flow.proofs.Records.{frontier-flow, offset-flow, rows-flow}
-use Rattle.list_feed.specs.Plain.{plain, opened, openPairs, openRules, openFlow}
-use Rattle.list_feed.proofs.Opening.{openPairs-long}
+use Rattle.list_flow.specs.Opening.{opened, openPairs, openRules, openFlow}
+use Rattle.list_flow.proofs.Opening.{openPairs-long}
+use Rattle.list_feed.specs.Plain.{plain}
 use Rattle.feed.specs.Demands.{openTold}
 use Rattle.laws.specs.Demands.{Due, DueSaid}
 

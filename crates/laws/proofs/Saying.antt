@@ -21,13 +21,13 @@ use Rattle.list.specs.Words.{Edge-bytes, Start-bytes, Accept-bytes}
 use Rattle.list.proofs.Listed.{bad-length, bad-record, record-exactly, no-start, kind-start}
 use Rattle.list_flow.specs.Flow.{frontierOf, offsetOf, badFlow, wrongSize, flowRules, feedRules}
 use Rattle.list_flow.proofs.Refused.{wrong-size, bad-flow}
+use Rattle.list_flow.specs.Opening.{openPairs, openRules}
+use Rattle.list_flow.proofs.Opening.{openPairs-long}
 use Rattle.list.specs.Automaton.{start, accepted, named, highest}
 use Rattle.list.proofs.Named.{names-bytes, named-bytes, outside-exactly}
 use Rattle.feed.specs.Engine.{room}
 use Rattle.feed.specs.Opening.{noRoom}
 use Rattle.feed.proofs.Piece.{other-start, too-long, piece-says}
-use Rattle.list_feed.specs.Plain.{openPairs, openRules}
-use Rattle.list_feed.proofs.Opening.{openPairs-long}
 use Rattle.table.specs.Table.{Table, mostSplits, mostBound, splitSize, partCount, splitCount, splitSet, slots, usedSlots, takenSlots, goodSlots, inOrder, unordered, badBound, badClasses, badCount, badLengths, badSplits, badRows, badUnion, noStartSplit, notClosed, sizeRules, risingRules, tableRules}
 use Rattle.table.proofs.Accepted.{Slots-good}
 use Rattle.table.proofs.Joined.{below-exactly}

@@ -23,7 +23,8 @@ use Rattle.feed.proofs.Feeds.{each-feed}
 use Rattle.feed.proofs.Whole.{Kind, Written, Within, Met, met, met-within, flowed, counts, cuts, none-eaten, call-rows, call-answered, call-refusal}
 use Rattle.list_flow.specs.Flow.{flowLayout, frontierOf, offsetOf, rowsOf, feedRules}
 use Rattle.list_flow.proofs.Records.{flow-good}
-use Rattle.list_feed.specs.Plain.{opened, openPairs, openFlow, plainFeed}
+use Rattle.list_flow.specs.Opening.{opened, openPairs, openFlow}
+use Rattle.list_feed.specs.Plain.{plainFeed}
 use Rattle.list_feed.specs.Means.{listAutomata}
 use Rattle.list_feed.proofs.Lawful.{reached-lt}
 use Rattle.table.specs.Table.{Table, tableRefusal}

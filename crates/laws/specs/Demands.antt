@@ -12,6 +12,7 @@ use Rattle.list.specs.Automaton.{start, accepted}
 use Rattle.feed.specs.Pairs.{Pair}
 use Rattle.feed.specs.Engine.{Engine, Outcome, run, costs, room, feed}
 use Rattle.list_flow.specs.Flow.{flowLayout, frontierOf, offsetOf, rowsOf, badFlow, feedRules}
+use Rattle.list_flow.specs.Opening.{opened, openPairs, firstRules, openRules, openFlow}
 use Rattle.feed.specs.Calls.{Bytes, costing}
 use Rattle.feed.specs.Demands.{Unchanged, Answered, OneOpening, OneFeed, Runs, Counts, Flowed, Alike}
 use Rattle.feed.specs.Opening.{Opening}
@@ -19,7 +20,7 @@ use Rattle.feed.specs.Piece.{otherStart}
 use Rattle.feed.specs.Demands as calls
 use Rattle.feed.specs.Lawful as lawful
 use Rattle.list_feed.specs.Means.{listAutomata}
-use Rattle.list_feed.specs.Plain.{plain, opened, openPairs, firstRules, openRules, openFlow, plainFeed}
+use Rattle.list_feed.specs.Plain.{plain, plainFeed}
 use Rattle.table.specs.Table.{Table, splitCount, sizeRules, tableRules, tableRefusal}
 use Rattle.table_feed.specs.Split.{taken, stuck, split, splitFeed}
 use Rattle.matrix.specs.Matrix.{filled, fillRules, Fills, matrixFeed}

@@ -15,7 +15,8 @@ use Rattle.feed.specs.declared.Fed.{Fed}
 use Rattle.feed.specs.declared.Opened.{Opened}
 use Rattle.feed.specs.Demands.{openTold}
 use Rattle.list_flow.specs.Flow.{frontierOf, offsetOf}
-use Rattle.list_feed.specs.Plain.{plain, openFlow}
+use Rattle.list_flow.specs.Opening.{openFlow}
+use Rattle.list_feed.specs.Plain.{plain}
 use Rattle.table.specs.Table.{Table, tableRefusal}
 use Rattle.matrix.specs.Matrix.{Fills}
 use Rattle.index_fill.specs.Filled.{FillsIndex}

@@ -251,7 +251,7 @@ fn drive(
     let checked = table::check_table(list, bound, classes, parts, rows, splits);
     let filled = matrix::fill(list, matrix);
     let indexed = index_fill::fill(list, bound, classes, parts, rows, splits, index);
-    let opened = list_feed::open_flow(list, flow, pairs);
+    let opened = list_flow::open_flow(list, flow, pairs);
     let told = 2 * opened.pairs;
     let fed = feed_all(
         list,

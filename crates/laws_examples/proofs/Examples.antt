@@ -14,7 +14,7 @@ use Rattle.feed.specs.Engine.{run, costs, due, pairsAt, told, consumed, ended, 
 use Rattle.feed.specs.Opening.{opening}
 use Rattle.feed.specs.Calls.{recordAfter, allTold}
 use Rattle.list_flow.specs.Flow.{flowBytes, badFlow}
-use Rattle.list_feed.specs.Plain.{openPairs}
+use Rattle.list_flow.specs.Opening.{openPairs}
 use Rattle.table.specs.Table.{largest, part, row, splitSet, slots, usedSlots, takenSlots, allBelow, joined, badClasses, badCount, badRowsLength, badLengths, goodSlots, inOrder, unordered, badSplits, badRows, badUnion, noStartSplit, notClosed, tableRefusal, splitOf}
 use Rattle.table_feed.specs.Split.{taken, stuck, splitStep}
 use Rattle.index.specs.Entry.{toldOf, splitAt, knownIn, badIndex}

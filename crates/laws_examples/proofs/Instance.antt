@@ -13,7 +13,7 @@ use Rattle.rules.specs.Rules.{Rule, verdict}
 use Rattle.rules.proofs.Rules.{stop}
 use Rattle.feed.specs.Calls.{Bytes}
 use Rattle.feed.proofs.Runs.{bytes-append}
-use Rattle.list_feed.specs.Plain.{openFlow}
+use Rattle.list_flow.specs.Opening.{openFlow}
 use Rattle.table.specs.Table.{Table, tableRefusal}
 use Rattle.matrix.specs.Matrix.{filled}
 use Rattle.index.specs.Stand.{standRules}

@@ -10,7 +10,8 @@ use Rattle.list.specs.Automaton.{start, edge, step}
 use Rattle.feed.specs.Engine.{Outcome, mostOffset, run}
 use Rattle.feed.specs.Opening.{Opening}
 use Rattle.list_flow.specs.Flow.{flowSize, flowBytes, rowsOf}
-use Rattle.list_feed.specs.Plain.{plain, opened, openFlow, pairsOf}
+use Rattle.list_flow.specs.Opening.{opened, openFlow}
+use Rattle.list_feed.specs.Plain.{plain, pairsOf}
 use Rattle.table.specs.Table.{Table, table, splitSize, mostClass, mostParts, mostSplits, mostBound, tableRefusal}
 use Rattle.matrix.specs.Matrix.{matrixLength, cellAt}
 use Rattle.index.specs.Entry.{entrySize, sigsPlace, costPlace, flagPlace, entryPlace, telling}

@@ -20,8 +20,8 @@ use Rattle.feed.proofs.Runs.{pairsAt-length}
 use Rattle.feed.proofs.Opening.{opening-refusal, opening-fits, opens-told, opens-refused}
 use Rattle.feed.specs.declared.Told.{Told}
 use Rattle.feed.specs.inner.Told.{TellsAll}
 use Rattle.list_flow.specs.Flow.{flowSize, flowBytes, wrongSize}
-use Rattle.list_feed.specs.Plain.{openPairs, firstRules, openRules, openFlow, opened}
+use Rattle.list_flow.specs.Opening.{openPairs, firstRules, openRules, openFlow, opened}
 
 -- ---- how many pairs
 

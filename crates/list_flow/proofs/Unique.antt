@@ -7,9 +7,12 @@ use lib.ListN.{length}
 use lib.Dec.{eqb}
 use Rattle.rules.specs.Rules.{verdict}
 use Rattle.feed.specs.declared.Fed.{Fed}
-use Rattle.feed.proofs.Unique.{unique-ended}
+use Rattle.feed.specs.declared.Opened.{Opened}
+use Rattle.feed.specs.Opening.{Opens}
+use Rattle.feed.proofs.Unique.{unique-ended, unique-opens}
 use Rattle.list_flow.specs.declared.Ran.{Ran}
 use Rattle.list_flow.specs.inner.Ran.{Finishes}
+use Rattle.list_flow.specs.Opening.{openFlow}
 use Rattle.list_flow.specs.Flow.{flowSize, offsetOf, rowsOf, flowBytes, flowRules, feedRules}
 
 module _ (r q : ℕ) (R : List ℕ) (at : ℕ) (piece : List ℕ) where
@@ -28,3 +31,8 @@ unique-finish ran len R f g sv tv a b = (
   unique-ended (ran .refusal) (ran .bytes) (ran .words) len f g (a .fed) (b .fed),
   a .saved ∙ sym (b .saved),
 )
+
+-- opening gives one answer and leaves the same words and the same record
+pub unique-open : (L R out : List ℕ) (f g : Opened) (ws vs sv tv : List ℕ)
+    → Opens (openFlow L R out) f ws sv → Opens (openFlow L R out) g vs tv → (f ≡ g) × (ws ≡ vs) × (sv ≡ tv)
+unique-open L R out f g ws vs sv tv a b = unique-opens (openFlow L R out) f g ws vs sv tv a b

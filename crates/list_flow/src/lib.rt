@@ -1,5 +1,6 @@
-// The record of a list's flow, read, checked and written.
+// The record of a list's flow: opened, read, checked and written.
 use feed::Fed;
+use feed::Opened;
 use feed::Told;
 use sets::StateSet;
 ghost use mathlib.Core.Path.{_≡_};
@@ -11,6 +12,8 @@ ghost use lib.Dec.{eqb};
 ghost use Rattle.sets.specs.Set.{setOf};
 ghost use Rattle.rules.specs.Rules.{verdict};
 ghost use Rattle.list_flow.specs.Flow.{flowSize, offsetOf, reservedOf, rowsOf, flowBytes, badFlow, flowRules, feedRules};
+ghost use Rattle.list_flow.specs.Opening.{firstRules, openFlow};
+ghost use Rattle.feed.specs.Opening.{Opens};
 ghost use Rattle.list.specs.List.{listRules};
 ghost use Rattle.list.specs.Automaton.{accepted};
 ghost use Rattle.list_flow.specs.inner.Ran.{Finishes};
@@ -20,11 +23,11 @@ ghost use Rattle.feed.specs.inner.Told.{TellsAll};
 pub const FLOW_SIZE: usize = sets::BYTES + 16;
 
 // The places of the offset, the reserved bytes and the rows read in a record.
-const OFFSET_AT: usize = sets::BYTES;
+pub const OFFSET_AT: usize = sets::BYTES;
 
-const RESERVED_AT: usize = sets::BYTES + 4;
+pub const RESERVED_AT: usize = sets::BYTES + 4;
 
-const ROWS_AT: usize = sets::BYTES + 8;
+pub const ROWS_AT: usize = sets::BYTES + 8;
 
 // The most rows that a byte reads.
 const MOST_ROWS: u64 = sets::STATES as u64;
@@ -39,7 +42,7 @@ pub struct Ran {
 }
 
 // The offset of a record.
-fn offset_of(flow: &[u8]) -> u64
+pub fn offset_of(flow: &[u8]) -> u64
     ensures { λ r. ⌜ r ≡ offsetOf (now (flow .entry)) ⌝ }
 {
     sets::number_at(flow, OFFSET_AT, 4)
@@ -135,4 +138,45 @@ pub fn finish(flow: &mut [u8], ran: Ran, len: usize) -> Fed
     let frontier = ran.frontier;
     save(flow, frontier, offset, rows);
     feed::ended(ran.refusal, ran.bytes, ran.words, len)
+}
+
+// The check of opening before the room: the number of the first of the rules 1 to 4 that refuses it, 0 where none does.
+fn open_refusal(list: &[u8], flow: &[u8]) -> u32
+    ensures { λ r. ⌜ r ≡ verdict (firstRules (now (list .entry)) (now (flow .entry))) ⌝ }
+{
+    let listed = list::check_list(list);
+    if listed != rules::PASSED {
+        return listed;
+    }
+    if flow.len() != FLOW_SIZE {
+        return rules::FLOW_RECORD;
+    }
+    rules::PASSED
+}
+
+// Opens a flow: its record then has the start states, offset 0 and no rows read, and the pairs of offset 0 are told. A refusal changes nothing.
+pub fn open_flow(list: &[u8], flow: &mut [u8], pairs: &mut [u32]) -> Opened
+    ensures { λ r. ⌜ Opens (openFlow (now (list .entry)) (now (flow .entry)) (now (pairs .entry))) r (now (pairs .exit)) (now (flow .exit)) ⌝ }
+{
+    let refusal = open_refusal(list, flow);
+    if refusal != rules::PASSED {
+        return Opened {
+            refusal: refusal,
+            pairs: 0,
+        };
+    }
+    let first = list::start_set(list);
+    let told = tell_accepted(list, first, pairs, 0, 0);
+    let fits = told.fits;
+    if !fits {
+        return Opened {
+            refusal: rules::NO_ROOM,
+            pairs: 0,
+        };
+    }
+    save(flow, first, 0, 0);
+    Opened {
+        refusal: rules::PASSED,
+        pairs: told.words / 2,
+    }
 }

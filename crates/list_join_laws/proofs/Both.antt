@@ -17,7 +17,8 @@ use Rattle.feed.specs.Pairs.{Pair}
 use Rattle.feed.specs.Engine.{told}
 use Rattle.feed.specs.Calls.{Bytes}
 use Rattle.feed.proofs.Runs.{bytes-take}
-use Rattle.list_feed.specs.Plain.{plain, openPairs, openFlow, pairsOf}
+use Rattle.list_flow.specs.Opening.{openPairs, openFlow}
+use Rattle.list_feed.specs.Plain.{plain, pairsOf}
 use Rattle.laws.specs.Calls.{bytesOf}
 use Rattle.laws.proofs.Engines.{calls-bytes}
 use Rattle.laws.proofs.Due.{due-all, due-said}

@@ -11,7 +11,8 @@ use Rattle.list.specs.Automaton.{start}
 use Rattle.feed.specs.Pairs.{Pair, Before}
 use Rattle.feed.specs.Engine.{run}
 use Rattle.feed.specs.Calls.{Bytes}
-use Rattle.list_feed.specs.Plain.{plain, openFlow, pairsOf}
+use Rattle.list_flow.specs.Opening.{openFlow}
+use Rattle.list_feed.specs.Plain.{plain, pairsOf}
 use Rattle.feed.specs.Demands.{openTold}
 use Rattle.laws.specs.Calls.{Call, bytesOf, wordsOf, InBytes, Each}
 use Rattle.laws.specs.Demands.{Swaps}

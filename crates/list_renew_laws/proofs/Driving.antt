@@ -14,7 +14,8 @@ use Rattle.feed.specs.declared.Fed.{Fed}
 use Rattle.feed.specs.declared.Opened.{Opened}
 use Rattle.list_flow.specs.Flow.{offsetOf}
 use Rattle.list_flow.proofs.Records.{good-flow}
-use Rattle.list_feed.specs.Plain.{openFlow, plainFeed}
+use Rattle.list_flow.specs.Opening.{openFlow}
+use Rattle.list_feed.specs.Plain.{plainFeed}
 use Rattle.list_renew.specs.Renewal.{renewal, Renews, offsetSaid}
 use Rattle.list_renew.proofs.Renewing.{renews-whole, offset-list}
 use Rattle.laws.specs.Calls.{byList, Call, outcome}

@@ -12,7 +12,7 @@ use Rattle.feed.specs.Calls.{Bytes, Way, recordAfter, allTold, allBytes, Along,
 use Rattle.feed.specs.Opening.{Opening}
 use Rattle.feed.proofs.Calls.{along-more, along-last, pieces-more, after-more, eaten-more, told-more}
 use Rattle.list_flow.specs.Flow.{offsetOf}
-use Rattle.list_feed.specs.Plain.{openFlow}
+use Rattle.list_flow.specs.Opening.{openFlow}
 use Rattle.segment.specs.Resend.{circle, Held, taking}
 use Rattle.segment.specs.Stream as stream
 use Rattle.segment.specs.Stream.{Line, numberOf, taken, passed, looking, looks, Numbered}

@@ -16,7 +16,8 @@ use Rattle.feed.proofs.Going.{unfed}
 use Rattle.feed.proofs.Whole.{Kind, Met, runs, run-good, call-refusal}
 use Rattle.list_flow.specs.Flow.{frontierOf, offsetOf}
 use Rattle.list_flow.proofs.Records.{frontier-flow, flow-good}
-use Rattle.list_feed.specs.Plain.{plain, opened, openFlow}
+use Rattle.list_flow.specs.Opening.{opened, openFlow}
+use Rattle.list_feed.specs.Plain.{plain}
 use Rattle.list_feed.specs.Means.{listAutomata}
 use Rattle.list_feed.proofs.Lawful.{reached-lt}
 use Rattle.list_renew.specs.Renewal.{renewed, renewal}

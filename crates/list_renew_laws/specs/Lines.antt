@@ -9,7 +9,8 @@ use Rattle.feed.specs.Calls.{Bytes, Asked, recordAfter, allTold, allBytes, Alon
 use Rattle.feed.specs.Opening.{Opening}
 use Rattle.feed.specs.Demands.{openTold}
 use Rattle.list_flow.specs.Flow.{frontierOf, offsetOf}
-use Rattle.list_feed.specs.Plain.{plain, openFlow}
+use Rattle.list_flow.specs.Opening.{openFlow}
+use Rattle.list_feed.specs.Plain.{plain}
 use Rattle.segment.specs.Resend.{circle}
 use Rattle.segment.specs.Stream as stream
 use Rattle.segment_feed.specs.Segment.{Kept, Heard}

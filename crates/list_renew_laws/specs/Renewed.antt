@@ -11,7 +11,8 @@ use Rattle.feed.specs.Calls.{Asked, recordAfter, allTold, allBytes, Along, Piec
 use Rattle.feed.specs.Opening.{Opening}
 use Rattle.feed.specs.Demands.{openTold}
 use Rattle.list_flow.specs.Flow.{frontierOf, offsetOf}
-use Rattle.list_feed.specs.Plain.{plain, openFlow}
+use Rattle.list_flow.specs.Opening.{openFlow}
+use Rattle.list_feed.specs.Plain.{plain}
 use Rattle.list_renew.specs.Renewal.{renewal}
 use Rattle.laws.specs.Calls.{Call, Names, outcome, asked}
 use Rattle.laws.specs.Demands.{Due, Swaps}

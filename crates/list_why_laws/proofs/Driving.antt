@@ -16,7 +16,7 @@ use Rattle.feed.specs.declared.Fed.{Fed}
 use Rattle.feed.specs.declared.Opened.{Opened}
 use Rattle.feed.specs.Opening.{Opens}
 use Rattle.feed.proofs.Feeds.{each-feed}
-use Rattle.list_feed.specs.Plain.{opened, openFlow}
+use Rattle.list_flow.specs.Opening.{opened, openFlow}
 use Rattle.table.specs.Table.{Table, tableRefusal}
 use Rattle.matrix.specs.Matrix.{Fills}
 use Rattle.matrix.proofs.Exact.{filled-left}

@@ -28,7 +28,8 @@ use Rattle.feed.proofs.Opening.{opening-refusal}
 use Rattle.feed.proofs.Whole.{Kind, Met, Written, Within, met, met-within, runs}
 use Rattle.list_flow.specs.Flow.{flowLayout, frontierOf, offsetOf, rowsOf, badFlow, flowRules, feedRules}
 use Rattle.list_flow.proofs.Records.{frontier-lt, flow-good}
-use Rattle.list_feed.specs.Plain.{plain, opened, openPairs, firstRules, openRules, openFlow}
+use Rattle.list_flow.specs.Opening.{opened, openPairs, firstRules, openRules, openFlow}
+use Rattle.list_feed.specs.Plain.{plain}
 use Rattle.list_feed.specs.Means.{listAutomata}
 use Rattle.list_feed.proofs.Lawful.{reached-lt}
 use Rattle.list_why.specs.Run.{Question, ofSignature, ofState, Runs}

@@ -9,7 +9,7 @@ use Rattle.feed.specs.Fed.{Answers}
 use Rattle.feed.specs.declared.Fed.{Fed}
 use Rattle.feed.specs.declared.Opened.{Opened}
 use Rattle.feed.specs.Opening.{Opens}
-use Rattle.list_feed.specs.Plain.{openFlow}
+use Rattle.list_flow.specs.Opening.{openFlow}
 use Rattle.table.specs.Table.{Table, tableRefusal}
 use Rattle.matrix.specs.Matrix.{Fills}
 use Rattle.index_fill.specs.Filled.{FillsIndex}

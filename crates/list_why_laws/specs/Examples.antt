@@ -7,7 +7,7 @@ use Rattle.rules.specs.Scan.{first}
 use Rattle.rules.specs.Rules.{verdict}
 use Rattle.list.specs.List.{records}
 use Rattle.list_flow.specs.Flow.{flowBytes}
-use Rattle.list_feed.specs.Plain.{opened}
+use Rattle.list_flow.specs.Opening.{opened}
 use Rattle.list_why.specs.Run.{Question, ofSignature, ofState}
 use Rattle.list_why.specs.Reason.{reason, fronts, whyRules, links, edgeRules}
 use Rattle.laws_examples.specs.Examples.{Row, L, loud, L₀, starts}

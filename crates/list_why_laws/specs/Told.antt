@@ -14,7 +14,7 @@ use Rattle.feed.specs.Calls.{Bytes}
 use Rattle.feed.specs.Opening.{Opening}
 use Rattle.feed.specs.Demands.{openTold}
 use Rattle.list_flow.specs.Flow.{frontierOf, offsetOf}
-use Rattle.list_feed.specs.Plain.{openFlow}
+use Rattle.list_flow.specs.Opening.{openFlow}
 use Rattle.laws.specs.Calls.{Call, bytesOf, wordsOf, after, InBytes, Each}
 use Rattle.laws.specs.Demands.{Plainly, Swaps}
 use Rattle.list_why.specs.Run.{ofSignature, ofState, Question, Runs}

@@ -133,8 +133,8 @@ fn drive_why(
     let checked = table::check_table(list, bound, classes, parts, rows, splits);
     let filled = matrix::fill(list, matrix);
     let indexed = index_fill::fill(list, bound, classes, parts, rows, splits, index);
-    let opened = list_feed::open_flow(list, first, pairs);
-    let again = list_feed::open_flow(list, flow, pairs);
+    let opened = list_flow::open_flow(list, first, pairs);
+    let again = list_flow::open_flow(list, flow, pairs);
     let asked = feed_and_ask(
         list,
         bound,

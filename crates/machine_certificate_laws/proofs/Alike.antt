@@ -18,7 +18,8 @@ use Rattle.feed.specs.Calls.{Bytes, Follows}
 use Rattle.feed.specs.Opening.{noRoom, opening}
 use Rattle.feed.proofs.Runs.{told-append}
 use Rattle.feed.proofs.Follows.{told-same}
-use Rattle.list_feed.specs.Plain.{plain, openPairs, openRules, opened, openFlow, pairsOf}
+use Rattle.list_flow.specs.Opening.{openPairs, openRules, opened, openFlow}
+use Rattle.list_feed.specs.Plain.{plain, pairsOf}
 use Rattle.laws.specs.Demands.{Due, Swapped}
 use Rattle.laws.proofs.Due.{due-all}
 use Rattle.laws.proofs.Swapping.{swapped}

@@ -10,7 +10,8 @@ use Rattle.feed.specs.Opening.{Opens}
 use Rattle.feed.specs.Made.{Made}
 use Rattle.feed.specs.declared.Fed.{Fed}
 use Rattle.feed.specs.Calls.{Bytes, allBytes, allTold, recordAfter}
-use Rattle.list_feed.specs.Plain.{openPairs, openFlow, pairsOf, plainFeed}
+use Rattle.list_flow.specs.Opening.{openPairs, openFlow}
+use Rattle.list_feed.specs.Plain.{pairsOf, plainFeed}
 use Rattle.laws.specs.Calls as list
 use Rattle.laws.specs.Demands.{Due}
 use Rattle.feed.specs.Demands.{Answered}

@@ -10,7 +10,7 @@ use Rattle.feed.specs.Engine.{run, costs, due, pairsAt, told, consumed, ended, 
 use Rattle.feed.specs.Opening.{opening}
 use Rattle.feed.specs.Calls.{allTold, allBytes}
 use Rattle.list_flow.specs.Flow.{flowBytes, badFlow}
-use Rattle.list_feed.specs.Plain.{openPairs}
+use Rattle.list_flow.specs.Opening.{openPairs}
 use Rattle.machine.specs.Program.{without, bitsBy, countersBy, alertsBy, after, alerted}
 use Rattle.machine.specs.Machine.{badLengths, goodInstruction, badMachine}
 use Rattle.machine.specs.Record.{fours, fourBytes, configAt}

@@ -8,7 +8,7 @@ use lib.Dec.{T, ltb, lit<}
 use borrow.Author.Tests.{ltb-true}
 use Rattle.rules.proofs.Scanning.{both}
 use Rattle.feed.specs.Calls.{Bytes}
-use Rattle.list_feed.specs.Plain.{openFlow}
+use Rattle.list_flow.specs.Opening.{openFlow}
 use Rattle.machine.specs.Extended.{extendedOpen}
 use Rattle.machine_certificate.specs.Certificate.{certificateRefusal}
 use Rattle.machine_certificate_laws.specs.Alike.{ListFlow, listBytes, listWords, MachineFlow, machineBytes, machineWords, Alike}

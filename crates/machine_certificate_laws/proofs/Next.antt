@@ -18,7 +18,8 @@ use Rattle.feed.proofs.Moves.{rules-alone}
 use Rattle.feed.proofs.Alike.{answered}
 use Rattle.feed.proofs.Calls.{along-more, along-last, pieces-more}
 use Rattle.list_flow.specs.Flow as list
-use Rattle.list_feed.specs.Plain.{plain, openFlow, plainFeed}
+use Rattle.list_flow.specs.Opening.{openFlow}
+use Rattle.list_feed.specs.Plain.{plain, plainFeed}
 use Rattle.laws.specs.Calls as calls
 use Rattle.laws.specs.Demands.{Swaps, Swapped}
 use Rattle.laws.proofs.Swapping.{swapped}

@@ -9,7 +9,8 @@ use Rattle.rules.specs.Rules.{Refuses}
 use Rattle.list.specs.List.{listRefusal}
 use Rattle.feed.specs.Calls.{Bytes}
 use Rattle.feed.specs.Opening.{Opening}
-use Rattle.list_feed.specs.Plain.{openFlow, plainFeed}
+use Rattle.list_flow.specs.Opening.{openFlow}
+use Rattle.list_feed.specs.Plain.{plainFeed}
 use Rattle.feed.specs.Demands.{openTold, Answered}
 use Rattle.laws.specs.Calls as list
 use Rattle.laws.specs.Demands.{Due, Swaps}

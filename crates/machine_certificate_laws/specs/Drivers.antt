@@ -9,7 +9,7 @@ use Rattle.feed.specs.Made.{Made}
 use Rattle.feed.specs.Demands.{Answered}
 use Rattle.feed.specs.declared.Fed.{Fed}
 use Rattle.feed.specs.declared.Opened.{Opened}
-use Rattle.list_feed.specs.Plain.{openRules}
+use Rattle.list_flow.specs.Opening.{openRules}
 use Rattle.laws.specs.Calls as list
 use Rattle.laws.specs.Demands.{Due}
 use Rattle.machine.specs.Extended as machine

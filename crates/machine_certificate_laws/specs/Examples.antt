@@ -4,7 +4,7 @@ use mathlib.Core.List.{List, [], _∷_, _++_}
 use lib.ListN.{replicate, take, drop, set}
 use Rattle.rules.specs.Rules.{verdict}
 use Rattle.feed.specs.Opening.{Opening}
-use Rattle.list_feed.specs.Plain.{openFlow}
+use Rattle.list_flow.specs.Opening.{openFlow}
 use Rattle.feed.specs.Demands.{openTold}
 use Rattle.laws.specs.Calls as list
 use Rattle.machine.specs.Program.{off}

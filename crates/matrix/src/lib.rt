@@ -1,7 +1,7 @@
 // The bit matrix: the filler that writes it from a list, and the feed that joins the stored sets of the frontier's states.
 use feed::Fed;
-use list_flow::Ran;
 use feed::Told;
+use list_flow::Ran;
 use sets::StateSet;
 ghost use mathlib.Core.Path.{_≡_};
 ghost use mathlib.Core.Bool.{true, false, cond};

@@ -28,9 +28,10 @@ use Rattle.list_flow.specs.Flow.{flowLayout, frontierOf, offsetOf, rowsOf, wron
 use Rattle.list_flow.proofs.Records.{frontier-flow, offset-flow, flow-good}
 use Rattle.list_flow.proofs.Passing.{feed-passes}
 use Rattle.list_flow.proofs.Kept.{rows-few}
-use Rattle.list_feed.specs.Plain.{plain, openPairs, openRules, opened, openFlow, pairsOf, plainFeed}
+use Rattle.list_flow.specs.Opening.{openPairs, openRules, opened, openFlow}
+use Rattle.list_flow.proofs.Opening.{openPairs-long, room-suffices}
+use Rattle.list_feed.specs.Plain.{plain, pairsOf, plainFeed}
 use Rattle.list_feed.proofs.Plain.{plain-refusal, plain-cheap}
-use Rattle.list_feed.proofs.Opening.{openPairs-long, room-suffices}
 use Rattle.list_feed.proofs.Progress.{progress}
 use Rattle.program_text.specs.Text.{line, lines, lastLine}
 use Rattle.program_text.specs.Hand.{handed, joined}

@@ -22,7 +22,8 @@ use Rattle.feed.proofs.Feeds.{each-feed}
 use Rattle.feed.proofs.Opening.{opens, opening-refusal}
 use Rattle.list_flow.specs.Flow.{flowSize, frontierOf, offsetOf, flowRules, feedRules}
 use Rattle.list_flow.proofs.Records.{length-flow, good-flow}
-use Rattle.list_feed.specs.Plain.{plain, openPairs, firstRules, openRules, opened, openFlow, plainFeed}
+use Rattle.list_flow.specs.Opening.{openPairs, firstRules, openRules, opened, openFlow}
+use Rattle.list_feed.specs.Plain.{plain, plainFeed}
 use Rattle.list_renew.specs.Renewal.{renewal}
 use Rattle.list_renew.proofs.Renewing.{renews, whole-renews, renewed-offset}
 use Rattle.segment_feed.specs.Ways.{plainWay}

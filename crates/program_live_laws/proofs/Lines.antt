@@ -8,8 +8,9 @@ use lib.Seq.{take-add, getD-append-add}
 use Rattle.list.specs.Automaton.{start}
 use Rattle.feed.specs.Engine.{run, told}
 use Rattle.feed.proofs.Runs.{run-append, told-append, told-length}
-use Rattle.list_feed.specs.Plain.{plain, openPairs, pairsOf}
-use Rattle.list_feed.proofs.Opening.{openPairs-long}
+use Rattle.list_flow.specs.Opening.{openPairs}
+use Rattle.list_flow.proofs.Opening.{openPairs-long}
+use Rattle.list_feed.specs.Plain.{plain, pairsOf}
 use Rattle.list_renew_laws.specs.Renewed.{raised}
 use Rattle.program_text.specs.Text.{line}
 use Rattle.program_turn.specs.State.{wholeNumbers}

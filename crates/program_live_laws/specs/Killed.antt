@@ -5,7 +5,8 @@ use mathlib.Core.List.{List, [], _∷_, _++_}
 use mathlib.Core.Path.{_≡_}
 use lib.ListN.{length, take, drop, replicate}
 use Rattle.feed.specs.Calls.{Bytes}
-use Rattle.list_feed.specs.Plain.{openFlow, pairsOf}
+use Rattle.list_flow.specs.Opening.{openFlow}
+use Rattle.list_feed.specs.Plain.{pairsOf}
 use Rattle.program_text.specs.Text.{lastLine}
 use Rattle.program_turn.specs.State.{stateSize, wholeNumbers, longAt, flowOffset, placeAt, linesAt, bytesKind, freshState}
 use Rattle.program_turn.specs.Turn.{Turn, mostUnit, noWords, noRecord, linesFrom, turnOf, openTurn}

@@ -473,7 +473,7 @@ pub fn begin(keeping: bool, list: &[u8], state: &mut [u8], text: &mut [u8]) -> S
 {
     let mut flow = [0u8; list_flow::FLOW_SIZE];
     let mut out = [0u32; PAIR_WORDS];
-    let opened = list_feed::open_flow(list, &mut flow, &mut out);
+    let opened = list_flow::open_flow(list, &mut flow, &mut out);
     if opened.refusal != rules::PASSED {
         return say_last(text, state, opened.refusal);
     }

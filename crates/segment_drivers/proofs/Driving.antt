@@ -23,7 +23,8 @@ use Rattle.feed.proofs.Calls.{along-more, after-more, told-more}
 use Rattle.feed.proofs.Feeds.{each-feed}
 use Rattle.feed.proofs.Opening.{opening-refusal}
 use Rattle.list_flow.specs.Flow.{offsetOf}
-use Rattle.list_feed.specs.Plain.{openRules, openPairs, opened, openFlow, plainFeed}
+use Rattle.list_flow.specs.Opening.{openRules, openPairs, opened, openFlow}
+use Rattle.list_feed.specs.Plain.{plainFeed}
 use Rattle.table.specs.Table.{Table, tableRefusal}
 use Rattle.laws.proofs.Demand1.{demand-1}
 use Rattle.laws.specs.Calls.{Call, Via, byList, Checked, wayOf}

@@ -11,7 +11,8 @@ use Rattle.feed.specs.Calls.{Way, Asked, recordAfter, allTold}
 use Rattle.feed.specs.Demands.{openTold}
 use Rattle.feed.specs.declared.Opened.{Opened}
 use Rattle.list_flow.specs.Flow.{flowLayout}
-use Rattle.list_feed.specs.Plain.{plain, openRules, openFlow}
+use Rattle.list_flow.specs.Opening.{openRules, openFlow}
+use Rattle.list_feed.specs.Plain.{plain}
 use Rattle.table.specs.Table.{Table, tableRefusal}
 use Rattle.laws.specs.Calls.{Via, byList, byTable}
 use Rattle.laws.specs.Demands.{Swapped}

@@ -245,7 +245,7 @@ fn drive_segments(
         (now (pairs .exit)) (now (flow .exit)) (now (held .exit)) ⌝ }
 {
     let checked = table::check_table(list, bound, classes, parts, rows, splits);
-    let opened = list_feed::open_flow(list, flow, pairs);
+    let opened = list_flow::open_flow(list, flow, pairs);
     let mut so = Standing {
         start: 0,
         length: 0,
@@ -365,7 +365,7 @@ fn drive_looks(
     ensures { λ r. ⌜ LooksDriven (now (list .entry)) first (now (numbers .entry)) (now (flow .entry)) (now (pairs .entry)) (now (held .entry))
         (r .opened) (r .stands) (now (pairs .exit)) (now (flow .exit)) (now (held .exit)) ⌝ }
 {
-    let opened = list_feed::open_flow(list, flow, pairs);
+    let opened = list_flow::open_flow(list, flow, pairs);
     let mut so = Standing {
         start: 0,
         length: 0,

@@ -5,7 +5,8 @@ use mathlib.Core.Path.{_≡_, refl}
 use Rattle.list.specs.Automaton.{start, accepted}
 use Rattle.feed.specs.Calls.{Bytes}
 use Rattle.list_flow.specs.Flow.{flowLayout}
-use Rattle.list_feed.specs.Plain.{plain, openFlow}
+use Rattle.list_flow.specs.Opening.{openFlow}
+use Rattle.list_feed.specs.Plain.{plain}
 use Rattle.machine.specs.Machine.{machine, first, firstAlerts}
 use Rattle.machine.specs.Record as x
 use Rattle.machine.specs.Extended.{extendedOpen}

@@ -4,8 +4,8 @@ use mathlib.Core.Bool.{cond}
 use mathlib.Core.List.{List, [], _∷_, _++_}
 use lib.ListN.{replicate, take}
 use Rattle.laws_examples.specs.Examples.{Row, L}
-use Rattle.list_feed.specs.Plain.{openFlow}
 use Rattle.list_flow.specs.Flow.{flowSize, flowBytes, offsetOf}
+use Rattle.list_flow.specs.Opening.{openFlow}
 use Rattle.feed.specs.Calls.{recordAfter, allTold, allBytes}
 use Rattle.laws.specs.Calls.{Call, byList}
 use Rattle.segment.specs.Resend.{heldSize, badSizes, Held, taking, due}

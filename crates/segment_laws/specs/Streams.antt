@@ -10,7 +10,8 @@ use Rattle.rules.specs.Words.{Row, InWords}
 use Rattle.list.specs.Automaton.{start, accepted}
 use Rattle.feed.specs.Calls.{Bytes, Way}
 use Rattle.list_flow.specs.Flow.{flowLayout, frontierOf, offsetOf}
-use Rattle.list_feed.specs.Plain.{plain, openFlow}
+use Rattle.list_flow.specs.Opening.{openFlow}
+use Rattle.list_feed.specs.Plain.{plain}
 use Rattle.table.specs.Table.{splitCount}
 use Rattle.index.specs.Right.{IsAt, Right}
 use Rattle.machine.specs.Machine.{machine, first, firstAlerts}

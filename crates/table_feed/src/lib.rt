@@ -1,7 +1,7 @@
 // The split feed: each byte is moved by the rows of the split that is the frontier, and the list gives the pairs.
 use feed::Fed;
-use list_flow::Ran;
 use feed::Told;
+use list_flow::Ran;
 use sets::StateSet;
 ghost use mathlib.Core.Path.{_≡_};
 ghost use mathlib.Core.Bool.{true};

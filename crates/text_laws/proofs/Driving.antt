@@ -12,7 +12,8 @@ use Rattle.feed.specs.Opening.{Opening, Opens}
 use Rattle.feed.specs.Demands.{openTold}
 use Rattle.feed.specs.declared.Fed.{Fed}
 use Rattle.feed.specs.declared.Opened.{Opened}
-use Rattle.list_feed.specs.Plain.{openFlow, plainFeed}
+use Rattle.list_flow.specs.Opening.{openFlow}
+use Rattle.list_feed.specs.Plain.{plainFeed}
 use Rattle.laws.specs.Calls.{byList, Call, bytesOf, wordsOf, InBytes, Each}
 use Rattle.laws.specs.Demands.{Swaps}
 use Rattle.text.specs.Grammar.{Text}

@@ -13,7 +13,8 @@ use Rattle.rules.proofs.Rules.{verdict-then}
 use Rattle.list.specs.List.{listRules, listRefusal}
 use Rattle.feed.specs.Calls.{Bytes}
 use Rattle.list_flow.specs.Flow.{offsetOf}
-use Rattle.list_feed.specs.Plain.{openPairs, openFlow, plainFeed, pairsOf, opened}
+use Rattle.list_flow.specs.Opening.{openPairs, openFlow, opened}
+use Rattle.list_feed.specs.Plain.{plainFeed, pairsOf}
 use Rattle.table.specs.Table.{Table}
 use Rattle.table_feed.specs.Split.{splitFeed}
 use Rattle.machine.specs.Machine.{badMachine, machineRules}

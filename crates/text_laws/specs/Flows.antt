@@ -8,7 +8,8 @@ use lib.ListN.{length, take}
 use Rattle.list.specs.List.{listRefusal}
 use Rattle.feed.specs.Calls.{Bytes}
 use Rattle.feed.specs.Pairs.{Pair, Before}
-use Rattle.list_feed.specs.Plain.{openFlow, plainFeed}
+use Rattle.list_flow.specs.Opening.{openFlow}
+use Rattle.list_feed.specs.Plain.{plainFeed}
 use Rattle.table.specs.Table.{Table, tableRefusal}
 use Rattle.table_feed.specs.Split.{splitFeed}
 use Rattle.matrix.specs.Matrix.{Fills, matrixFeed}

@@ -3,9 +3,9 @@ use borrow.Author.Needs.{needs}
 use borrow.Author.Tests.{not-true, not-false}
 use mathlib.Core.Path.{refl, sym, _∙_}
 use Rattle.sets.specs.Set.{setOf}
-use Rattle.list_feed.proofs.Opening.{open-refused, open-full, open-told}
-use Rattle.list_feed.proofs.open_flow.Statement.{statement}
-use Rattle.list_feed.proofs.open_flow.Tie as tie
+use Rattle.list_flow.proofs.Opening.{open-refused, open-full, open-told}
+use Rattle.list_flow.proofs.open_flow.Statement.{statement}
+use Rattle.list_flow.proofs.open_flow.Tie as tie
 
 open-refusal-requires : tie.Need-open-refusal-requires
 open-refusal-requires c κs = search needs

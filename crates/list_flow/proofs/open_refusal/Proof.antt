@@ -7,10 +7,10 @@ use borrow.Author.Tests.{eq-eqb, ne-eqb}
 use Rattle.rules.specs.Rules.{verdict}
 use Rattle.list.specs.List.{listRules}
 use Rattle.rules.proofs.Rules.{stop, last, verdict-then, verdict-refused}
 use Rattle.list_flow.specs.Flow.{wrongSize}
-use Rattle.list_feed.specs.Plain.{firstRules}
-use Rattle.list_feed.proofs.open_refusal.Statement.{statement}
-use Rattle.list_feed.proofs.open_refusal.Tie as tie
+use Rattle.list_flow.specs.Opening.{firstRules}
+use Rattle.list_flow.proofs.open_refusal.Statement.{statement}
+use Rattle.list_flow.proofs.open_refusal.Tie as tie
 
 check-list-requires : tie.Need-check-list-requires
 check-list-requires c κs = search needs
