@@ -16,6 +16,9 @@ pub const FLAG_PLACE: usize = COST_PLACE + 1;
 
 pub const ENTRY_SIZE: usize = COST_PLACE + sets::SIG_BYTES;
 
+// A place has a whole entry where one byte and so many more stand from it on.
+pub const REST: usize = ENTRY_SIZE - 1;
+
 // A word from here on tells.
 pub const TELLING: usize = 2147483648;
 

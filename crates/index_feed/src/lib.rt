@@ -18,18 +18,8 @@ ghost use Rattle.index.specs.Entry.{entrySize, entryPlace, telling, limit, badI
 ghost use Rattle.index.specs.Stand.{soughtOf, holdsAt, namedBy, standRules, standFeed, stoodAt};
 ghost use Rattle.index_turns.specs.inner.Goes.{Strides};
 
-// A place has a whole entry where one byte and so many more stand from it on.
-const REST: usize = index::ENTRY_SIZE - 1;
-
 // A piece of fewer bytes than these is first tried byte by byte.
 const SHORT: usize = 16;
-
-// The places of the offset, of the bytes behind it and of the rows read in a record.
-const OFFSET_AT: usize = sets::BYTES;
-
-const RESERVED_AT: usize = sets::BYTES + 4;
-
-const ROWS_AT: usize = sets::BYTES + 8;
 
 // What a call answers: as every feed, and the split where the flow then stands.
 pub struct Stood {
@@ -184,7 +174,7 @@ fn split_at(index: &[u8], n: usize, place: usize) -> usize
     requires { ⌜ entrySize ≤ length (now index) ⌝ }
     ensures { λ r. ⌜ r ≡ cond (ltb place (limit (now (index .entry)))) ((place - setSize) / entrySize) n ⌝ }
 {
-    if index.len() - REST <= place {
+    if index.len() - index::REST <= place {
         return n;
     }
     if place < sets::BYTES {
@@ -201,7 +191,7 @@ fn halted(index: &[u8], place: usize, bytes: usize, len: usize) -> u32
     if len <= bytes {
         return rules::PASSED;
     }
-    if place < index.len() - REST {
+    if place < index.len() - index::REST {
         return rules::PASSED;
     }
     rules::NO_SPLIT
@@ -234,10 +224,10 @@ fn advance(flow: &mut [u8], offset: u64, rows: u64)
     requires { ⌜ (length (now flow) ≡ flowSize) × (rowsOf (now flow) + rows < 2 ^ 64) ⌝ }
     ensures { λ r. ⌜ now (flow .exit) ≡ flowBytes (frontierOf (now (flow .entry))) offset (rowsOf (now (flow .entry)) + rows) ⌝ }
 {
-    let all = sets::number_at(flow, ROWS_AT, 8) + rows;
-    sets::put_number(flow, OFFSET_AT, 4, offset);
-    sets::put_number(flow, RESERVED_AT, 4, 0);
-    sets::put_number(flow, ROWS_AT, 8, all);
+    let all = sets::number_at(flow, list_flow::ROWS_AT, 8) + rows;
+    sets::put_number(flow, list_flow::OFFSET_AT, 4, offset);
+    sets::put_number(flow, list_flow::RESERVED_AT, 4, 0);
+    sets::put_number(flow, list_flow::ROWS_AT, 8, all);
 }
 
 // Saves a record at an offset, with more rows: at split i of n, where the feed has moved there.

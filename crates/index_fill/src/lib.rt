@@ -14,8 +14,8 @@ ghost use Rattle.index.specs.Entry.{entrySize, entryPlace};
 ghost use Rattle.index_fill.specs.inner.Lows.{Led, lowIn};
 ghost use Rattle.index_fill.specs.Filled.{wordOf, wordsOf, costOf, noteOf, entryOf, indexOf, indexRefusal, FillsIndex};
 
-// A word from here on tells.
-const TELLING: u64 = 2147483648;
+// What a word has more that tells.
+const TELLS: u64 = index::TELLING as u64;
 
 // Bytes for the sets that the bytes lead to from a set.
 pub const WORK: usize = sets::BYTES * table::BYTE_VALUES;
@@ -38,7 +38,7 @@ fn word_of(list: &[u8], accepts: StateSet, splits: &[u8], f: StateSet) -> u64
 {
     let at = (sets::BYTES + index::ENTRY_SIZE * table::find_sorted(splits, f)) as u64;
     if tells(list, accepts, f) {
-        return at + TELLING;
+        return at + TELLS;
     }
     at
 }

@@ -9,9 +9,6 @@ ghost use Rattle.feed.specs.inner.Told.{TellsAll};
 ghost use Rattle.index.specs.Entry.{entrySize, limit, telling, placeOf, toldOf};
 ghost use Rattle.index_turns.specs.inner.Goes.{Strides};
 
-// A place has a whole entry where one byte and so many more stand from it on.
-const REST: usize = index::ENTRY_SIZE - 1;
-
 // The bytes of a stretch: where it ends at the place where it began, blocks are tried.
 const STRETCH: usize = 64;
 
@@ -47,7 +44,7 @@ fn follow(index: &[u8], word: usize, pairs: &mut [u32], words: usize, offset: u3
         };
     }
     let at = word - index::TELLING;
-    if index.len() - REST <= at {
+    if index.len() - index::REST <= at {
         return Followed {
             fits: true,
             place: at,
@@ -81,7 +78,7 @@ fn stretch(
     requires { ⌜ (from ≤ stop) × (stop ≤ length (now piece)) × (place < limit (now index)) × (length (now index) < telling) × (offset + length (now piece) ≤ mostOffset) × (told ≤ length (now pairs)) ⌝ }
     ensures { λ r. ⌜ Strides (now (index .entry)) (now (piece .entry)) offset from place (now (pairs .entry)) told stop r (now (pairs .exit)) ⌝ }
 {
-    let end = index.len() - REST;
+    let end = index.len() - index::REST;
     let mut i = from;
     let mut at = place;
     let mut words = told;

@@ -44,8 +44,10 @@ pub const X_COUNTERS: usize = 16;
 // A counter that is off.
 pub const X_OFF: u32 = 65536;
 
-// Bytes in a flow record, and the places of its offset, bits and counters.
+// Bytes in a flow record, and the places of its reserved bytes, offset, bits and counters. The state stands first.
 pub const X_FLOW_SIZE: usize = 80;
+
+const X_RESERVED_AT: usize = 2;
 
 const X_OFFSET_AT: usize = 4;
 
@@ -422,7 +424,7 @@ fn bad_flow(states: usize, flow: &[u8]) -> bool
         return true;
     }
     let x = load(flow);
-    let reserved = sets::whole_number(flow, 2, 2);
+    let reserved = sets::whole_number(flow, X_RESERVED_AT, 2);
     !(x.state < states) | (reserved != 0) | !good_counters(x)
 }
 
@@ -463,7 +465,7 @@ fn save(flow: &mut [u8], x: Config, offset: u64)
     ensures { λ r. ⌜ now (flow .exit) ≡ flowBytes x offset ⌝ }
 {
     sets::put_number(flow, 0, 2, x.state as u64);
-    sets::put_number(flow, 2, 2, 0);
+    sets::put_number(flow, X_RESERVED_AT, 2, 0);
     sets::put_number(flow, X_OFFSET_AT, 4, offset);
     sets::put_number(flow, X_BITS_AT, 8, x.bits);
     let values = x.counters;
