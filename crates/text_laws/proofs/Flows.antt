@@ -11,17 +11,18 @@ use lib.Seq.{take-append-seam}
 use Rattle.rules.specs.Rules as rules
 use Rattle.rules.proofs.Rules.{verdict-then}
 use Rattle.list.specs.List.{listRules, listRefusal}
-use Rattle.feed.specs.Calls.{Bytes, fedBy, outcome, asked, allBytes, allTold, Pieces, Along}
+use Rattle.feed.specs.Calls.{Bytes, outcome, asked, allBytes, allTold, Pieces, Along}
 use Rattle.list_flow.specs.Flow.{offsetOf}
 use Rattle.list_feed.specs.Plain.{openPairs, openFlow, plainFeed, pairsOf, opened}
 use Rattle.table.specs.Table.{Table}
+use Rattle.table_feed.specs.Split.{splitFeed}
 use Rattle.machine.specs.Machine.{badMachine, machineRules}
 use Rattle.machine_certificate.specs.Certificate.{badCertificate}
 use Rattle.rules.specs.Words.{Row, None, First, InWords}
-use Rattle.laws.specs.Words.{listWords, openingRows, Foreign, flowWords, lengthWords, sizeWords, entryWords, Unordered, preparedWords, lentWords}
+use Rattle.laws.specs.Words.{listWords, openingRows, Foreign, flowWords, lengthWords, sizeWords, entryWords, Unordered, lentWords}
 use Rattle.feed.specs.Demands.{openTold}
 use Rattle.laws.proofs.Engines.{calls-bytes}
-use Rattle.laws.specs.Calls.{Via, byList, byTable, byMatrix, byIndex, wordsBy, Call, wayOf}
+use Rattle.laws.specs.Calls.{Via, byList, byTable, byMatrix, wordsBy, Call, wayOf}
 use Rattle.laws.specs.Demands.{Swaps}
 use Rattle.laws.proofs.Demand1.{demand-1}
 use Rattle.laws.proofs.Swapping.{swapped}
@@ -33,6 +34,7 @@ use Rattle.text_compile.specs.Words.{Reading}
 use Rattle.text_compile.proofs.Exactly.{compile-wrote}
 use Rattle.text_laws.specs.Language.{EndsIn, RecordsRise}
 use Rattle.text_laws.specs.Flows.{front, Past, PassesAll, Tells, Serves, CompiledServes}
+use Rattle.segment_feed.specs.Ways.{plainWay, splitWay}
 use Rattle.text_laws.proofs.Segments.{segment-past}
 use Rattle.text_laws.proofs.Pairs.{compiled-rises, compiled-passes, compiled-pairs}
 
@@ -76,11 +78,15 @@ module _ (L : List ℕ) (z : listRefusal L ≡ 0) where
         opens = λ R out. past (openingRows L R out) _ (omega arith, (omega arith, tt)) (demand-1 .opens-said L R out);
         feeds = fed;
         fills = λ X n left f. past (lengthWords L X) n (omega arith, tt) (demand-1 .fills-said L X n left f);
+        matrices = λ X R at piece out.
+            fed-past R (callBy (byMatrix X) at piece out) (flowWords (Foreign L R) R at piece ++ lengthWords L X) (omega arith, (omega arith, (omega arith, (omega arith, tt)))) (λ n f. f) _ refl;
         tables = λ b T. past (sizeWords b T ++ entryWords L b T) _ (omega arith, (omega arith, (omega arith, (omega arith, (omega arith, (omega arith, (omega arith, tt))))))) (demand-1 .tables-said L b T);
+        splits = split;
         indexes = λ b T X n left f. past _ n (omega arith, (omega arith, (omega arith, (omega arith, (omega arith, (omega arith, (omega arith, tt))))))) (demand-1 .indexes-said L b T X n left f);
         builds = λ T o f. past _ (o .refusal) (omega arith, (omega arith, tt)) (demand-1 .builds-said L T o f);
         certificates = λ M P Z. subst Past (sym (verdict-then (listRules L) (machineRules M P ++ ((22, badCertificate L M P Z) ∷ [])) refl z)) (certificate-past (badMachine M P) (badCertificate L M P Z));
-        segments = λ v. segment-past (wayOf (record { list = L; via = v })) (λ R d out. fed v R (offsetOf R) d out);
+        segments = segment-past (plainWay L) (λ R d out. fed R (offsetOf R) d out);
+        split-segments = λ b T. segment-past (splitWay L b T) (λ R d out. split b T R (offsetOf R) d out);
       }
     where
       callBy : Via → ℕ → List ℕ → List ℕ → Call
@@ -96,19 +102,13 @@ module _ (L : List ℕ) (z : listRefusal L ≡ 0) where
             inr (first-over ws (suc n) o (skip ws (suc n) (f (suc n) (demand-1 .feeds-said R c .gives (suc n) z .0 (demand-1 .feeds R c .ruled (suc n) z q .0 e)))))
       ]
 
-      -- rows that do not, since those of the list never hold
-      behind : (ws : List Row) (n : ℕ) → First ws n → First (listWords L ++ ws) n
-      behind ws n f = inr (none .0, inr (none .1 .0, inr (none .1 .1 .0, f)))
+      fed : (R : List ℕ) (at : ℕ) (piece out : List ℕ) → Past (plainFeed L R at piece out .refusal)
+      fed R at piece out = fed-past R (callBy byList at piece out) (flowWords (Foreign L R) R at piece) (omega arith, (omega arith, (omega arith, tt))) (λ n f. f) _ refl
 
-      fed : (v : Via) (R : List ℕ) (at : ℕ) (piece out : List ℕ) → Past (fedBy (wayOf (record { list = L; via = v })) R at piece out .refusal)
-      fed byList R at piece out = fed-past R (callBy byList at piece out) (flowWords (Foreign L R) R at piece) (omega arith, (omega arith, (omega arith, tt))) (λ n f. f) _ refl
-      fed (byTable b T) R at piece out =
+      split : (b : ℕ) (T : Table) (R : List ℕ) (at : ℕ) (piece out : List ℕ) → Past (splitFeed L b T R at piece out .refusal)
+      split b T R at piece out =
           fed-past R (callBy (byTable b T) at piece out) (flowWords (Foreign L R) R at piece ++ (sizeWords b T ++ ((9, Unordered (T .splits)) ∷ [])))
           (omega arith, (omega arith, (omega arith, (omega arith, (omega arith, (omega arith, tt)))))) (λ n f. f) _ refl
-      fed (byMatrix X) R at piece out =
-          fed-past R (callBy (byMatrix X) at piece out) (flowWords (Foreign L R) R at piece ++ lengthWords L X) (omega arith, (omega arith, (omega arith, (omega arith, tt)))) (λ n f. f) _ refl
-      fed (byIndex b m S X h) R at piece out =
-          fed-past R (callBy (byIndex b m S X h) at piece out) (preparedWords S X h R at piece) (omega arith, (omega arith, (omega arith, (omega arith, tt)))) (behind (preparedWords S X h R at piece)) _ refl
 
 -- ---- the list of a text
 
