@@ -98,7 +98,7 @@ module _ (early : List Rule) (ws Q R out : List ℕ) (m : ℕ) (even : length ws
       let e = opening-refusal all ws Q R out in
       record {
         refuses = rw e (refuses all apart);
-        unchanged = λ v. rw (unopened all ws Q R out (λ z. v (e ∙ z))) (record { pairs = refl; words = refl; saved = refl });
+        unchanged = λ v. rw (unopened all ws Q R out (λ z. v (e ∙ z))) refl;
         passes = λ z. let v = sym e ∙ z in (opening-tells all ws Q R out m even v, ap (λ (o : Opening). o .saved) (opens all ws Q R out v));
         words-stay = opening-rest all ws Q R out m even;
         words-many = opening-length all ws Q R out m even has-room;

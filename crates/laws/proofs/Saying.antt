@@ -39,7 +39,7 @@ use Rattle.index.specs.Entry.{entryPlace, flagAt, knownIn, wrongIndex, badIndex
 use Rattle.index.specs.Stand.{holdsAt, namedBy, standRules}
 use Rattle.index.proofs.Hints.{holds-said}
 use Rattle.index_fill.specs.Filled.{indexRules}
-use Rattle.laws.specs.Words.{listWords, openingRows, openWords, Foreign, flowWords, feedWords, Highest, lengthWords, fillWords, matrixWords, Miscounted, Misclassed, Mislisted, SlotsGood, Rises, sizeWords, entryWords, tableWords, orderWords, splitWords, Misindexed, indexWords, Misfit, Hinted, Outside, Unnamed, preparedWords}
+use Rattle.laws.specs.Words.{listWords, openingRows, openWords, Foreign, flowWords, feedWords, Highest, lengthWords, fillWords, matrixWords, Miscounted, Misclassed, Mislisted, SlotsGood, Rises, sizeWords, entryWords, tableWords, Unordered, splitWords, Misindexed, indexWords, Misfit, Hinted, Outside, Unnamed, preparedWords}
 
 -- ---- the rows
 
@@ -213,11 +213,11 @@ module _ (b : ℕ) (T : Table) where
       says-append (listRules L) (sizeRules b T ++ entryRules L) (listWords L) (sizeWords b T ++ entryWords L b T) (list-says L)
       (says-append (sizeRules b T) (entryRules L) (sizeWords b T) (entryWords L b T) size-says (entry-says L))
 
-  rising-says : Says (risingRules b T) (sizeWords b T ++ orderWords T)
-  rising-says = says-append (sizeRules b T) ((9, unordered (T .splits)) ∷ []) (sizeWords b T) (orderWords T) size-says (refl, order-words (T .splits), tt)
+  rising-says : Says (risingRules b T) (sizeWords b T ++ ((9, Unordered (T .splits)) ∷ []))
+  rising-says = says-append (sizeRules b T) ((9, unordered (T .splits)) ∷ []) (sizeWords b T) ((9, Unordered (T .splits)) ∷ []) size-says (refl, order-words (T .splits), tt)
 
   split-says : (L R : List ℕ) (at : ℕ) (piece : List ℕ) → Says (splitRules L b T R at piece) (splitWords L b T R at piece)
-  split-says L R at piece = says-append (feedRules L R at piece) (risingRules b T) (feedWords L R at piece) (sizeWords b T ++ orderWords T) (feed-says L R at piece) rising-says
+  split-says L R at piece = says-append (feedRules L R at piece) (risingRules b T) (feedWords L R at piece) (sizeWords b T ++ ((9, Unordered (T .splits)) ∷ [])) (feed-says L R at piece) rising-says
 
   index-says : (L X : List ℕ) → Says (indexRules L b T X) (indexWords L b T X)
   index-says L X =

@@ -9,7 +9,8 @@ ghost use lib.ListN.{length, getD, take};
 ghost use Rattle.sets.specs.Set.{placed};
 ghost use Rattle.table.specs.Table.{table};
 ghost use Rattle.feed.specs.Fed.{Answers};
-ghost use Rattle.laws.specs.Calls.{outcome};
+ghost use Rattle.feed.specs.Calls.{outcome};
+ghost use Rattle.laws.specs.Calls.{wayOf};
 ghost use Rattle.laws.specs.Drivers.{viaBy, callOf, nearest, planned, answer, Turn, Came, Driven, built, BuildKept};
 
 // The number at a place; past the end that is 0.
@@ -69,7 +70,7 @@ pub fn feed_by(
     piece: &[u8],
     pairs: &mut [u32],
 ) -> Fed
-    ensures { λ r. ⌜ Answers (outcome (now (flow .entry)) (callOf (now (list .entry))
+    ensures { λ r. ⌜ Answers (outcome wayOf (now (flow .entry)) (callOf (now (list .entry))
         (viaBy bound (table (now (classes .entry)) (now (parts .entry)) (now (rows .entry)) (now (splits .entry)))
         (now (matrix .entry)) (now (index .entry)) kind)
         start (now (piece .entry)) (now (pairs .entry)))) r (now (pairs .exit)) (now (flow .exit)) ⌝ }

@@ -23,9 +23,8 @@ use Rattle.segment_feed.specs.Calls.{sentOf, hears, doorOf, lookAs, looksFrom, 
 use Rattle.segment_feed.specs.Streamed.{allSeen}
 use Rattle.segment_feed.proofs.Looking.{by-look, fed-down, behind-words, more-on, more-off, looked-fitting, looked-off}
 use Rattle.segment_feed.proofs.Streams.{due-bytes, taking-bytes, looks-append, numbered-append, Lies}
-use Rattle.segment_laws.specs.Streams.{listCalls, OnList}
 use Rattle.list_renew.specs.Renewal.{renewal}
-use Rattle.laws.specs.Calls.{Call, wayOf}
+use Rattle.laws.specs.Calls.{Call, wayOf, OnList}
 use Rattle.list_renew_laws.specs.Renewed as renewed
 use Rattle.list_renew_laws.specs.Renewed.{raised, Act, feeding, acts, begun, Meant, Passes, Renewed}
 use Rattle.list_renew_laws.specs.Lines.{Lasting, flowOf, Deed, handing, renewing, deeds, seenBy, Handed, Renews, opening, ListLasts}
@@ -72,10 +71,10 @@ module _ (L R out : List ℕ) (z : openFlow L R out .refusal ≡ 0) (s : ℕ) (H
 
   module _ (b : ℕ) (c : Call) (number : c .at < circle) (sb : Bytes (c .piece)) where
     abbrev W : Way
-    W = wayOf (c .via) (c .list)
+    W = wayOf (c .by)
 
     abbrev g : Sent
-    g = sentOf listCalls ((s + b) % circle) c
+    g = sentOf ((s + b) % circle) c
 
     abbrev with : Kept → Lasting
     with S = record { before = b; kept = S }
@@ -103,14 +102,14 @@ module _ (L R out : List ℕ) (z : openFlow L R out .refusal ≡ 0) (s : ℕ) (H
       held-bytes : Bytes (takeOf W g S .bytes)
       held-bytes = taking-bytes (nextOf W g S) (S .held) (S .start) (S .length) (c .at) (c .piece) (k .held) sb
 
-      lies-on : (m : ℕ) (F more : List ℕ) → take m (dueOf W g S) ≡ more → Lies (looks s (stream.begun H) (ls ++ (lookAs listCalls c m ∷ []))) (keptOf W g S F) (bs ++ more)
+      lies-on : (m : ℕ) (F more : List ℕ) → take m (dueOf W g S) ≡ more → Lies (looks s (stream.begun H) (ls ++ (lookAs c m ∷ []))) (keptOf W g S F) (bs ++ more)
       unfolding looks looking
       lies-on m F more e =
-          rw (looks-append s (stream.begun H) ls (lookAs listCalls c m ∷ []))
+          rw (looks-append s (stream.begun H) ls (lookAs c m ∷ []))
           (lies-more S bs (came-offset (with S) bs ws ls k) (looks s (stream.begun H) ls) (k .lies) m F more e)
 
       -- nothing is due
-      came-placed : Came (with (keptOf W g S (S .flow))) bs ws (ls ++ (lookAs listCalls c 0 ∷ []))
+      came-placed : Came (with (keptOf W g S (S .flow))) bs ws (ls ++ (lookAs c 0 ∷ []))
       came-placed =
           record {
             feeds = k .feeds;
@@ -120,17 +119,17 @@ module _ (L R out : List ℕ) (z : openFlow L R out .refusal ≡ 0) (s : ℕ) (H
             told = k .told;
             left = k .left;
             held = held-bytes;
-            numbered = numbered-append ls (lookAs listCalls c 0 ∷ []) (k .numbered) (number, tt);
+            numbered = numbered-append ls (lookAs c 0 ∷ []) (k .numbered) (number, tt);
             lies = rw (← append-nil bs) (lies-on 0 (S .flow) [] refl);
           }
 
-      module _ (fit : OnList L c) (words : List ℕ) where
+      module _ (fit : OnList L (c .by)) (words : List ℕ) where
         abbrev call : Act
-        call = feeding (record { list = c .list; via = c .via; at = offsetOf (S .flow); piece = dueOf W g S; out = words })
+        call = feeding (record { by = c .by; at = offsetOf (S .flow); piece = dueOf W g S; out = words })
 
         -- what is due is fed
         came-fed : let f = fedOf W g S words in
-            Came (with (keptOf W g S (f .saved))) (bs ++ take (f .bytes) (dueOf W g S)) (ws ++ raised b (take (2 * f .pairs) (f .words))) (ls ++ (lookAs listCalls c (length (take (f .bytes) (dueOf W g S))) ∷ []))
+            Came (with (keptOf W g S (f .saved))) (bs ++ take (f .bytes) (dueOf W g S)) (ws ++ raised b (take (2 * f .pairs) (f .words))) (ls ++ (lookAs c (length (take (f .bytes) (dueOf W g S))) ∷ []))
         came-fed =
             let f = fedOf W g S words in
             record {
@@ -143,18 +142,18 @@ module _ (L R out : List ℕ) (z : openFlow L R out .refusal ≡ 0) (s : ℕ) (H
               told = told-more acts call (begun o) (k .feeds) ∙ rw (k .left, k .told);
               left = after-more acts call (begun o) (k .feeds) ∙ ap (acts call .left) (k .left);
               held = held-bytes;
-              numbered = numbered-append ls (lookAs listCalls c (length (take (f .bytes) (dueOf W g S))) ∷ []) (k .numbered) (number, tt);
+              numbered = numbered-append ls (lookAs c (length (take (f .bytes) (dueOf W g S))) ∷ []) (k .numbered) (number, tt);
               lies =
                   lies-on (length (take (f .bytes) (dueOf W g S))) (f .saved) (take (f .bytes) (dueOf W g S))
                   (ap (λ (n : ℕ). take n (dueOf W g S)) (fed-down W g S words));
             }
 
         came-look : let l = look W g S words .heard in
-            Came (with (l .kept)) (bs ++ l .down) (ws ++ raised b (take (2 * l .pairs) (l .words))) (ls ++ (lookAs listCalls c (length (l .down)) ∷ []))
+            Came (with (l .kept)) (bs ++ l .down) (ws ++ raised b (take (2 * l .pairs) (l .words))) (ls ++ (lookAs c (length (l .down)) ∷ []))
         unfolding raised
         came-look =
             by-look W g S words
-            (λ l. Came (with (l .heard .kept)) (bs ++ l .heard .down) (ws ++ raised b (take (2 * l .heard .pairs) (l .heard .words))) (ls ++ (lookAs listCalls c (length (l .heard .down)) ∷ [])))
+            (λ l. Came (with (l .heard .kept)) (bs ++ l .heard .down) (ws ++ raised b (take (2 * l .heard .pairs) (l .heard .words))) (ls ++ (lookAs c (length (l .heard .down)) ∷ [])))
             (λ e. came-as (sym (append-nil bs)) (sym (append-nil ws)) refl came-placed) (λ e. came-fed)
 
     module _ (S : Kept) (bs ws : List ℕ) (ls : List stream.Look) (k : Came (with S) bs ws ls) where
@@ -166,13 +165,13 @@ module _ (L R out : List ℕ) (z : openFlow L R out .refusal ≡ 0) (s : ℕ) (H
       unfolding raised
       came-door words = came-as (sym (append-nil bs)) (sym (append-nil ws)) (sym (append-nil ls)) k
 
-      came-more : OnList L c → (m : Look) (ms : List stream.Look) → 2 * m .heard .pairs ≤ length (m .heard .words) → Heard-so m ms
-          → Heard-so (more W g m) (ms ++ cond (m .on) (lookAs listCalls c (length (lookOn W g m .heard .down)) ∷ []) [])
+      came-more : OnList L (c .by) → (m : Look) (ms : List stream.Look) → 2 * m .heard .pairs ≤ length (m .heard .words) → Heard-so m ms
+          → Heard-so (more W g m) (ms ++ cond (m .on) (lookAs c (length (lookOn W g m .heard .down)) ∷ []) [])
       unfolding behind
       came-more fit m ms room k = go (m .on) refl
         where
           here : stream.Look
-          here = lookAs listCalls c (length (lookOn W g m .heard .down))
+          here = lookAs c (length (lookOn W g m .heard .down))
 
           front : List ℕ
           front = take (2 * m .heard .pairs) (m .heard .words)
@@ -180,7 +179,7 @@ module _ (L R out : List ℕ) (z : openFlow L R out .refusal ≡ 0) (s : ℕ) (H
           rest : List ℕ
           rest = take (2 * lookOn W g m .heard .pairs) (lookOn W g m .heard .words)
 
-          go : (t : Bool) → m .on ≡ t → Heard-so (more W g m) (ms ++ cond t (lookAs listCalls c (length (lookOn W g m .heard .down)) ∷ []) [])
+          go : (t : Bool) → m .on ≡ t → Heard-so (more W g m) (ms ++ cond t (lookAs c (length (lookOn W g m .heard .down)) ∷ []) [])
           go true e =
               rw (more-on W g m e)
               (came-as (append-assoc bs (m .heard .down) (lookOn W g m .heard .down))
@@ -191,26 +190,26 @@ module _ (L R out : List ℕ) (z : openFlow L R out .refusal ≡ 0) (s : ℕ) (H
               (came-look (m .heard .kept) (bs ++ m .heard .down) (ws ++ raised b front) (ls ++ ms) k fit (drop (2 * m .heard .pairs) (m .heard .words))))
           go false e = rw (more-off W g m e) (came-as refl refl (ap (λ (xs : List stream.Look). ls ++ xs) (sym (append-nil ms))) k)
 
-      came-looked : OnList L c → (n : ℕ) → Heard-so (looked n W g (atDoor W g S (c .out))) (looksFrom listCalls ((s + b) % circle) c n (atDoor W g S (c .out)))
+      came-looked : OnList L (c .by) → (n : ℕ) → Heard-so (looked n W g (atDoor W g S (c .out))) (looksFrom wayOf ((s + b) % circle) c n (atDoor W g S (c .out)))
       unfolding looked
       came-looked fit zero = came-door (c .out)
       came-looked fit (suc n) =
           let f = looked-fitting W g (length (c .out)) n (atDoor W g S (c .out)) (record { pairs = omega arith; words = refl; bytes = omega arith }) in
-          came-more fit (looked n W g (atDoor W g S (c .out))) (looksFrom listCalls ((s + b) % circle) c n (atDoor W g S (c .out))) (omega (arith, f .pairs, f .words)) (came-looked fit n)
+          came-more fit (looked n W g (atDoor W g S (c .out))) (looksFrom wayOf ((s + b) % circle) c n (atDoor W g S (c .out))) (omega (arith, f .pairs, f .words)) (came-looked fit n)
 
       -- of a segment that is refused at the door there is no look
-      looks-none : (l : Look) → l .on ≡ false → (n : ℕ) → looksFrom listCalls ((s + b) % circle) c n l ≡ []
+      looks-none : (l : Look) → l .on ≡ false → (n : ℕ) → looksFrom wayOf ((s + b) % circle) c n l ≡ []
       looks-none l e zero = refl
       looks-none l e (suc n) = rw (looks-none l e n, looked-off n W g l e, e)
 
-      came-segment : (doorOf listCalls ((s + b) % circle) S c ≡ 0 → OnList L c)
-          → let h = hears listCalls ((s + b) % circle) S c in Came (with (h .kept)) (bs ++ h .down) (ws ++ raised b (take (2 * h .pairs) (h .words))) (ls ++ looksAt listCalls ((s + b) % circle) S c)
+      came-segment : (doorOf wayOf ((s + b) % circle) S c ≡ 0 → OnList L (c .by))
+          → let h = hears wayOf ((s + b) % circle) S c in Came (with (h .kept)) (bs ++ h .down) (ws ++ raised b (take (2 * h .pairs) (h .words))) (ls ++ looksAt wayOf ((s + b) % circle) S c)
       unfolding feedSegment
-      came-segment fit = go (eqb (doorOf listCalls ((s + b) % circle) S c) 0) refl
+      came-segment fit = go (eqb (doorOf wayOf ((s + b) % circle) S c) 0) refl
         where
-          go : (t : Bool) → eqb (doorOf listCalls ((s + b) % circle) S c) 0 ≡ t
-              → Heard-so (looked mostLooks W g (atDoor W g S (c .out))) (looksFrom listCalls ((s + b) % circle) c mostLooks (atDoor W g S (c .out)))
-          go true e = came-looked (fit (eqb-true (doorOf listCalls ((s + b) % circle) S c) 0 e)) mostLooks
+          go : (t : Bool) → eqb (doorOf wayOf ((s + b) % circle) S c) 0 ≡ t
+              → Heard-so (looked mostLooks W g (atDoor W g S (c .out))) (looksFrom wayOf ((s + b) % circle) c mostLooks (atDoor W g S (c .out)))
+          go true e = came-looked (fit (eqb-true (doorOf wayOf ((s + b) % circle) S c) 0 e)) mostLooks
           go false e = rw (looked-off mostLooks W g (atDoor W g S (c .out)) e, looks-none (atDoor W g S (c .out)) e mostLooks) (came-door (c .out))
 
   -- ---- a renewal: it is not refused, and the held part stays

@@ -7,7 +7,8 @@ ghost use mathlib.Core.Logic.{_↔_};
 ghost use lib.ListN.{length, take};
 ghost use Rattle.table.specs.Table.{table};
 ghost use Rattle.feed.specs.Fed.{Answers};
-ghost use Rattle.laws.specs.Calls.{outcome};
+ghost use Rattle.feed.specs.Calls.{outcome};
+ghost use Rattle.laws.specs.Calls.{wayOf};
 ghost use Rattle.laws.specs.Drivers.{viaBy, callOf};
 ghost use Rattle.list_why_laws.specs.Drivers.{AllAnswered, WhyDriven};
 
@@ -66,7 +67,7 @@ fn feed_and_ask(
     run: &mut [u16],
     work: &mut [u8],
 ) -> AskedFed
-    ensures { λ r. ⌜ Answers (outcome (now (flow .entry)) (callOf (now (list .entry))
+    ensures { λ r. ⌜ Answers (outcome wayOf (now (flow .entry)) (callOf (now (list .entry))
         (viaBy bound (table (now (classes .entry)) (now (parts .entry)) (now (rows .entry)) (now (splits .entry)))
         (now (matrix .entry)) (now (index .entry)) kind)
         0 (now (piece .entry)) (now (pairs .entry)))) (r .fed) (now (pairs .exit)) (now (flow .exit))

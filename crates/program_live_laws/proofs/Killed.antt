@@ -131,7 +131,7 @@ module _ (L B : List ℕ) (bytes : Bytes B) (short : length B < wholeNumbers) (f
     o = plainFeed L (flowOf S) (offsetOf (flowOf S)) rest noWords
 
     abbrev call : Call
-    call = record { list = L; via = byList; at = offsetOf (flowOf S); piece = rest; out = noWords }
+    call = record { by = record { list = L; via = byList }; at = offsetOf (flowOf S); piece = rest; out = noWords }
 
     abbrev text : List ℕ
     text = turnText (longAt (placed S flowAt (o .saved)) beforeAt) (o .words) (o .pairs) (isTold true false) 0
