@@ -3,15 +3,15 @@ use borrow.Author.Needs.{needs}
 use Prim.Native.Nat.{_≤_, _-_, _+_}
 use lib.ListN.{length}
 use mathlib.Core.Path.{_≡_}
-use Rattle.program_files.proofs.take_lines.Statement.{statement}
-use Rattle.program_files.proofs.take_lines.Tie as tie
+use Rattle.program_compile.proofs.take_lines.Statement.{statement}
+use Rattle.program_compile.proofs.take_lines.Tie as tie
 
 abbrev Inv-loop : tie.InvT-loop
-Inv-loop file list₀ one₀ work₀ names₀ bad₀ used₀ texts₀ at₀ line₀ list one work names bad used texts at line =
+Inv-loop file list₀ one₀ work₀ names₀ bad₀ used₀ texts₀ at₀ number₀ list one work names bad used texts at number =
     (at ≤ length file + 1) × (length list ≡ length list₀) × (length one ≡ length one₀) × (length work ≡ length work₀) × (length names ≡ length names₀)
 
 abbrev μ-loop : tie.MeasureT-loop
-μ-loop file list₀ one₀ work₀ names₀ bad₀ used₀ texts₀ at₀ line₀ list one work names bad used texts at line =
+μ-loop file list₀ one₀ work₀ names₀ bad₀ used₀ texts₀ at₀ number₀ list one work names bad used texts at number =
     length file + 1 - at
 
 loop-holds : tie.Need-loop-holds Inv-loop μ-loop
