@@ -28,7 +28,7 @@ use Rattle.laws.specs.Calls.{Call, wayOf, OnList}
 use Rattle.list_renew_laws.specs.Renewed as renewed
 use Rattle.list_renew_laws.specs.Renewed.{raised, Act, feeding, acts, begun, Meant, Passes, Renewed}
 use Rattle.list_renew_laws.specs.Lines.{Lasting, flowOf, Deed, handing, renewing, deeds, seenBy, Handed, Renews, opening, ListLasts}
-use Rattle.list_renew_laws.proofs.Renewed.{list-renews}
+use Rattle.list_renew_laws.proofs.Renewed.{At, list-renews, list-at}
 
 -- whole pairs, and words behind them
 raised-append : (n p : ℕ) (ws vs : List ℕ) → length ws ≡ 2 * p → raised n (ws ++ vs) ≡ raised n ws ++ raised n vs
@@ -47,24 +47,27 @@ module _ (L R out : List ℕ) (z : openFlow L R out .refusal ≡ 0) (s : ℕ) (H
   o = openFlow L R out
 
   -- some feeds and renewals from the opening on consumed bs, told ws and left the flow of Z; and the looks ls lie so
-  record Came (Z : Lasting) (bs ws : List ℕ) (ls : List stream.Look) : Type 0 where
-    feeds : List Act
-    in-bytes : Pieces acts feeds
-    meant : Along acts (Meant L) (begun o) feeds
-    eaten : allBytes acts (begun o) feeds ≡ bs
-    told : allTold acts (begun o) feeds ≡ ws
-    left : recordAfter acts (begun o) feeds ≡ flowOf Z
-    held : Bytes (Z .kept .held)
-    numbered : Numbered ls
-    lies : Lies (looks s (stream.begun H) ls) (Z .kept) bs
+  pub record Came (Z : Lasting) (bs ws : List ℕ) (ls : List stream.Look) : Type 0 where
+    pub feeds : List Act
+    pub in-bytes : Pieces acts feeds
+    pub meant : Along acts (Meant L) (begun o) feeds
+    pub eaten : allBytes acts (begun o) feeds ≡ bs
+    pub told : allTold acts (begun o) feeds ≡ ws
+    pub left : recordAfter acts (begun o) feeds ≡ flowOf Z
+    pub held : Bytes (Z .kept .held)
+    pub numbered : Numbered ls
+    pub lies : Lies (looks s (stream.begun H) ls) (Z .kept) bs
 
-  came-as : {Z : Lasting} {bs bs' ws ws' : List ℕ} {ls ls' : List stream.Look} → bs ≡ bs' → ws ≡ ws' → ls ≡ ls' → Came Z bs ws ls → Came Z bs' ws' ls'
+  pub came-as : {Z : Lasting} {bs bs' ws ws' : List ℕ} {ls ls' : List stream.Look} → bs ≡ bs' → ws ≡ ws' → ls ≡ ls' → Came Z bs ws ls → Came Z bs' ws' ls'
   came-as p q r k = rw (← p, ← q, ← r) k
 
-  went : {Z : Lasting} {bs ws : List ℕ} {ls : List stream.Look} → (k : Came Z bs ws ls) → Renewed L o (k .feeds)
+  pub went : {Z : Lasting} {bs ws : List ℕ} {ls : List stream.Look} → (k : Came Z bs ws ls) → Renewed L o (k .feeds)
   went k = list-renews L R out z (k .feeds) (k .in-bytes) (k .meant)
 
-  came-offset : (Z : Lasting) (bs ws : List ℕ) (ls : List stream.Look) → Came Z bs ws ls → Z .before + offsetOf (Z .kept .flow) ≡ length bs
+  pub came-at : {Z : Lasting} {bs ws : List ℕ} {ls : List stream.Look} → Came Z bs ws ls → At L (flowOf Z)
+  came-at k = rw (k .left) at (list-at L R out z (k .feeds) (k .in-bytes) (k .meant))
+
+  pub came-offset : (Z : Lasting) (bs ws : List ℕ) (ls : List stream.Look) → Came Z bs ws ls → Z .before + offsetOf (Z .kept .flow) ≡ length bs
   came-offset Z bs ws ls k = rw (k .left, k .eaten) at (went k .offset)
 
   -- ---- a segment, b bytes after the opening's
@@ -221,7 +224,7 @@ module _ (L R out : List ℕ) (z : openFlow L R out .refusal ≡ 0) (s : ℕ) (H
     meant-renewed : Along acts (Meant L) (begun o) (k .feeds ++ (renewed.renewing ∷ []))
     meant-renewed = along-more acts renewed.renewing (Meant L) (begun o) (k .feeds) (k .meant) tt
 
-    renews : renewal (Z .kept .flow) .refusal ≡ 0
+    pub renews : renewal (Z .kept .flow) .refusal ≡ 0
     renews =
         rw (k .left) at (along-last acts renewed.renewing (Passes L) (begun o) (k .feeds) (list-renews L R out z (k .feeds ++ (renewed.renewing ∷ [])) pieces-renewed meant-renewed .passes))
 
@@ -239,7 +242,7 @@ module _ (L R out : List ℕ) (z : openFlow L R out .refusal ≡ 0) (s : ℕ) (H
           lies = rw (append-nil ls, append-nil bs) (record { down = k .lies .down; start = k .lies .start; length = k .lies .length; held = k .lies .held });
         }
 
-  came-none : Bytes H → Came (opening o H) [] [] []
+  pub came-none : Bytes H → Came (opening o H) [] [] []
   unfolding recordAfter allTold allBytes looks
   came-none hb =
       record {
@@ -256,7 +259,7 @@ module _ (L R out : List ℕ) (z : openFlow L R out .refusal ≡ 0) (s : ℕ) (H
 
   -- ---- any of them
 
-  came-deed : (Z : Lasting) (d : Deed) (bs ws : List ℕ) (ls : List stream.Look) → Handed L s Z d → Came Z bs ws ls
+  pub came-deed : (Z : Lasting) (d : Deed) (bs ws : List ℕ) (ls : List stream.Look) → Handed L s Z d → Came Z bs ws ls
       → Came (deeds s d .left Z) (bs ++ deeds s d .eaten Z) (ws ++ deeds s d .spoken Z) (ls ++ seenBy s Z d)
   came-deed Z (handing c) bs ws ls f k = came-segment (Z .before) c (f .number) (f .bytes) (Z .kept) bs ws ls k (f .fit)
   came-deed Z renewing bs ws ls f k = came-renewed Z bs ws ls k

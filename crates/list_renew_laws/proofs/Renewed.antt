@@ -136,10 +136,11 @@ module _ (L : List ℕ) where
     frontier : frontierOf (recordAfter acts S cs .saved) ≡ run (plain L) (frontierOf (S .saved)) (allBytes acts S cs)
     moved : recordAfter acts S cs .before + offsetOf (recordAfter acts S cs .saved) ≡ S .before + offsetOf (S .saved) + length (allBytes acts S cs)
     passes : Along acts (Passes L) S cs
+    at : At (recordAfter acts S cs)
 
   whole : (S : Flow) (cs : List Act) → Pieces acts cs → Along acts (Meant L) S cs → At S → All S cs
   unfolding recordAfter allTold allBytes run told
-  whole S [] h f g = record { tells = refl; frontier = refl; moved = omega arith; passes = tt }
+  whole S [] h f g = record { tells = refl; frontier = refl; moved = omega arith; passes = tt; at = g }
   whole S (a ∷ cs) h f g =
       let d = act-done S a (h .0) (f .0) g in
       let front = acts a .eaten S in
@@ -151,6 +152,7 @@ module _ (L : List ℕ) where
         frontier = rw (run-append (plain L) (frontierOf (S .saved)) front bs, ← d .frontier) (ih .frontier);
         moved = rw (ih .moved, d .moved, length-append) (omega arith);
         passes = (d .passes, ih .passes);
+        at = ih .at;
       }
 
   pub at-start : At (record { before = 0; saved = opened L })
@@ -171,3 +173,10 @@ list-renews L R out z cs h f =
       offset = rw (q .1) (w .moved ∙ rw k (omega arith));
       passes = rw (q .1) (w .passes);
     }
+
+-- and what holds of it there
+pub list-at : (L R out : List ℕ) → openFlow L R out .refusal ≡ 0 → (cs : List Act) → Pieces acts cs → Along acts (Meant L) (begun (openFlow L R out)) cs
+    → At L (recordAfter acts (begun (openFlow L R out)) cs)
+list-at L R out z cs h f =
+    let q = begins L R out z in
+    rw (q .1) (whole L (record { before = 0; saved = opened L }) cs h (rw (q .1) at f) (at-start L) .at)

@@ -35,7 +35,8 @@ use Rattle.program_text.specs.Text.{lastLine}
 use Rattle.program_turn.specs.State.{stateSize, wholeNumbers, longAt, wordAt, shortAt, flowOf, flowOffset, kindAt, firstAt, beforeAt, placeAt, linesAt, flowAt, near, bytesKind, plusNumber, numbered, renewOn, renewedState, freshState}
 use Rattle.program_turn.specs.Turn.{Turn, mostUnit, Given, noWords, noRecord, linesFrom, againText, turnText, isTold, isEnd, plainGiven, givenOf, lastTurn, linesTurn, feedTurn, turnOf, openTurn}
 use Rattle.program_live_laws.specs.Killed.{Disk, Event, turned, cut, place, kept, turnAt, after, afterAll, begun, linesTo, Whole, Killed}
-use Rattle.program_live_laws.proofs.Parts.{part-other, Parts, turned-parts, renewed-parts, fresh-size, fresh-kind, fresh-zero}
+use Rattle.program_live_laws.proofs.Parts.{part-other, Parts, turned-parts, renewed-parts, fresh-size, fresh-kind, fresh-number}
+use Rattle.program_live_laws.proofs.Opening.{firstWords, firstPairs, begunState, opened-long, opening-is, opening-text}
 use Rattle.program_live_laws.proofs.Lines.{lines-front, lines-told, toldNext, frontier-more, lines-more}
 
 module _ (L B : List ℕ) (bytes : Bytes B) (short : length B < wholeNumbers) (few : length (linesTo L B (length B)) < wholeNumbers) where
@@ -265,7 +266,7 @@ module _ (L B : List ℕ) (bytes : Bytes B) (short : length B < wholeNumbers) (f
         let m : 0 < G .done = e .moves q (omega (arith, some)) (omega arith) in
         rw t (refl, omega (arith, f .ready .place-is, m))
 
-  good-event : (D : Disk) → Good D → (e : Event) → Good (after L B D e)
+  good-event : (D : Disk) → Good D → (e : Event ℕ) → Good (after (turnAt L B) D e)
   unfolding after
   good-event D g (turned n) = rw (turn-by D g n) (good-turn D g n (isEnd (D .state) true (length (take n (drop (place D) B)))) (eqb (G D g n .refusal) 0) refl)
   good-event D g (cut x) =
@@ -273,39 +274,29 @@ module _ (L B : List ℕ) (bytes : Bytes B) (short : length B < wholeNumbers) (f
       rw (g .lines-are, g .ready .lines-are) (take-append-seam (linesTo L B (place D)) x) in
       record { inside = g .inside; lines-are = w; ready = g .ready }
 
-  good-all : (D : Disk) → Good D → (es : List Event) → Good (afterAll L B D es)
+  good-all : (D : Disk) → Good D → (es : List (Event ℕ)) → Good (afterAll (turnAt L B) D es)
   unfolding afterAll
   good-all D g [] = g
-  good-all D g (e ∷ es) = good-all (after L B D e) (good-event D g e) es
+  good-all D g (e ∷ es) = good-all (after (turnAt L B) D e) (good-event D g e) es
 
   -- ---- the opening
 
-  good-begun : openFlow L noRecord noWords .refusal ≡ 0 → Good (begun L)
-  unfolding openTurn isTold againText told run
+  good-begun : openFlow L noRecord noWords .refusal ≡ 0 → Good (begun L bytesKind)
+  unfolding run
   good-begun z =
-      let rules = openRules L noRecord noWords in
-      let v : verdict rules ≡ 0 = sym (opening-refusal rules (openPairs L) (opened L) noRecord noWords) ∙ z in
-      let ws = openPairs L ++ drop (length (openPairs L)) noWords in
-      let p = length (openPairs L) / 2 in
-      let e : openFlow L noRecord noWords ≡ record { refusal = 0; pairs = p; words = ws; saved = opened L } = opens rules (openPairs L) (opened L) noRecord noWords v in
       let F = freshState L bytesKind (replicate stateSize 0) in
-      let long : length (opened L) ≡ flowSize = length-flow (start L) 0 0 in
-      let b : longAt (placed F flowAt (opened L)) beforeAt ≡ 0 =
-      ap (num 8) (part-other F flowAt (opened L) (omega (arith, fresh-size L, long)) beforeAt 8 (inl (omega arith))) ∙ fresh-zero L beforeAt (omega arith) in
-      let text = turnText (longAt (placed F flowAt (opened L)) beforeAt) ws p (isTold true false) 0 in
-      let t : text ≡ linesTo L B 0 =
-      append-nil (linesFrom (longAt (placed F flowAt (opened L)) beforeAt) ws p)
-      ∙ ap (λ (j : ℕ). linesFrom j ws p) b
-      ∙ lines-front 0 (openPairs L) (drop (length (openPairs L)) noWords) p (omega arith)
-      ∙ ap (λ (xs : List ℕ). linesFrom 0 xs (length xs / 2)) (sym (append-nil (openPairs L))) in
+      let text = linesTurn true (firstPairs L B bytesKind z) 0 0 false (firstWords L B bytesKind z) (begunState L B bytesKind z) 0 .text in
+      let t : text ≡ linesTo L B 0 = opening-text L B bytesKind z in
+      let zero-at : longAt F beforeAt ≡ 0 = fresh-number L bytesKind beforeAt 8 refl in
+      let zero-place : longAt F placeAt ≡ 0 = fresh-number L bytesKind placeAt 8 refl in
+      let zero-lines : longAt F linesAt ≡ 0 = fresh-number L bytesKind linesAt 8 refl in
       let few₀ : length text < wholeNumbers = omega (arith, ap length t, lines-few 0 (omega arith)) in
-      let parts = turned-parts F (opened L) (fresh-size L) long 0 (length text) (omega (arith, fresh-zero L placeAt (omega arith))) (omega (arith, fresh-zero L linesAt (omega arith), few₀)) in
-      let a : At L (record { before = longAt F beforeAt; saved = opened L }) = rw (fresh-zero L beforeAt (omega arith)) (at-start L) in
-      rw e
+      let parts = turned-parts F (opened L) (fresh-size L bytesKind) (opened-long L B bytesKind z) 0 (length text) (omega (arith, zero-place)) (omega (arith, zero-lines, few₀)) in
+      let a : At L (record { before = longAt F beforeAt; saved = opened L }) = rw zero-at (at-start L) in
+      rw (opening-is L B bytesKind z)
       (good-by _ text 0 (omega arith) t
       (ready-by F _ (opened L) (longAt F beforeAt) (longAt F placeAt + 0) (longAt F linesAt + length text) 0 (length (linesTo L B 0))
-      parts (fresh-kind L) a (opened-frontier L) (omega (arith, fresh-zero L beforeAt (omega arith), opened-offset L))
-      (omega (arith, fresh-zero L placeAt (omega arith))) (omega (arith, fresh-zero L linesAt (omega arith), ap length t))))
+      parts (fresh-kind L bytesKind (omega arith)) a (opened-frontier L) (omega (arith, zero-at, opened-offset L)) (omega (arith, zero-place)) (omega (arith, zero-lines, ap length t))))
 
   -- at the end of the line
   last-text : (D : Disk) → Good D → flowOffset (D .state) ≡ place D → place D ≡ length B → (n : ℕ) → turnAt L B D n .text ≡ lastLine 0 (length B)
@@ -334,4 +325,4 @@ killed L B z h s f es =
     let rules = openRules L noRecord noWords in
     let v : verdict rules ≡ 0 = sym (opening-refusal rules (openPairs L) (opened L) noRecord noWords) ∙ z in
     let u : verdict (listRules L) ≡ 0 = passes-front (listRules L) _ (passes-front (firstRules L noRecord) _ v) in
-    whole L B h s f u (afterAll L B (begun L) es) (good-all L B h s f (begun L) (good-begun L B h s f z) es)
+    whole L B h s f u (afterAll (turnAt L B) (begun L bytesKind) es) (good-all L B h s f (begun L bytesKind) (good-begun L B h s f z) es)

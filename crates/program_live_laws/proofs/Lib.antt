@@ -1,4 +1,9 @@
-pub mod Following
 pub mod Parts
 pub mod Lines
+pub mod Opening
 pub mod Killed
+pub mod Following
+pub mod Marks
+pub mod Sender
+pub mod Segments
+pub mod Lists

@@ -1,0 +1,432 @@
+-- A live line of segments that is killed at any time: what is kept after each event is the lines of the front of the sender's flow. Assumes nothing.
+use Prim.Native.Nat.{ℕ, zero, suc, _+_, _*_, _-_, _/_, _%_, _≤_, _<_}
+use mathlib.Core.Path.{_≡_, refl, sym, ap, _∙_, subst}
+use mathlib.Core.Bool.{Bool, true, false, cond}
+use mathlib.Core.List.{List, [], _∷_, _++_, append-nil, append-assoc}
+use native.Mathlib.Omega.{arith}
+use lib.ListN.{length, take, drop, replicate, length-take, length-append, length-replicate}
+use lib.Seq.{take-append-seam, take-length}
+use lib.Dec.{lit<, eqb, leb}
+use borrow.Author.Tests.{eqb-true, eqb-false, eq-eqb, ne-eqb, leb-true}
+use Rattle.sets.specs.Set.{digits, placed}
+use Rattle.feed.specs.Calls.{Bytes}
+use Rattle.feed.specs.Demands.{openTold}
+use Rattle.feed.proofs.Runs.{bytes-take, bytes-drop}
+use Rattle.list_flow.specs.Flow.{flowSize, offsetOf}
+use Rattle.list_flow.proofs.Records.{good-flow}
+use Rattle.list_feed.specs.Plain.{openPairs, opened, openFlow, pairsOf}
+use Rattle.list_renew.specs.Renewal.{renewal}
+use Rattle.list_renew.proofs.Renewing.{renewed-offset}
+use Rattle.segment.specs.Resend.{circle, heldSize, mostSegment}
+use Rattle.segment.specs.Stream as stream
+use Rattle.segment.specs.Stream.{Line, looks}
+use Rattle.segment_feed.specs.Segment.{Kept, Heard, mostLooks, atDoor}
+use Rattle.segment_feed.specs.Ways.{plainWay}
+use Rattle.segment_feed.specs.Calls.{sentOf, hears, looksAt, Fits}
+use Rattle.segment_feed.proofs.Looking.{segment-fits}
+use Rattle.segment_feed.proofs.Streams.{looks-append}
+use Rattle.segment_laws.specs.Streams.{listCalls, OnList}
+use Rattle.laws.specs.Calls.{Call, byList}
+use Rattle.laws.proofs.Due.{begins}
+use Rattle.list_renew_laws.specs.Renewed.{raised}
+use Rattle.list_renew_laws.specs.Lines.{Lasting, Deed, handing, renewing, deeds, firstOf}
+use Rattle.list_renew_laws.proofs.Lines.{Came, came-as, went, came-at, came-offset, renews, came-none, came-deed}
+use Rattle.program_text.specs.Text.{lastLine}
+use Rattle.program_turn.specs.State.{stateSize, wholeNumbers, longAt, wordAt, shortAt, flowOf, heldOf, flowOffset, kindAt, firstAt, beforeAt, placeAt, linesAt, flowAt, near, segmentsKind, numberedKind, plusNumber, keptState, numbered, renewOn, renewedState, freshState}
+use Rattle.program_turn.specs.Turn.{Turn, Given, noWords, noRecord, linesFrom, againText, turnText, isTold, isEnd, passedOf, overOf, headSize, givenOf, lastTurn, linesTurn, feedTurn, turnOf, openTurn}
+use Rattle.program_live_laws.specs.Killed.{Disk, Event, turned, cut, kept, after, afterAll, begun, linesTo}
+use Rattle.program_live_laws.specs.Segments as specs
+use Rattle.program_live_laws.specs.Segments.{Segment, turnOn, Sends, Sent, reach, SegmentsKilled}
+use Rattle.program_live_laws.proofs.Lines.{lines-append, pairs-even, lines-told, toldNext, lines-more}
+use Rattle.program_live_laws.proofs.Opening.{firstWords, firstPairs, begunState, opened-long, opening-is, opening-text}
+use Rattle.program_live_laws.proofs.Marks.{Marks, Sized, keptIn, marks-kept, marks-of, marks-numbered, marks-renewed, marks-turned, marks-opened, marks-fresh, kept-before}
+use Rattle.program_live_laws.proofs.Sender.{Front, front-begun, front-down, front-looks}
+
+-- the number of the next byte
+next-number : (s b o k f : ℕ) → f ≡ (s + b) % circle → b + o ≡ k → (f + o) % circle ≡ (s + k) % circle
+next-number s b o k f e h = omega (arith, e, h)
+
+zeros-bytes : (n : ℕ) → Bytes (replicate n 0)
+zeros-bytes zero i = lit< tt
+zeros-bytes (suc n) zero = lit< tt
+zeros-bytes (suc n) (suc i) = zeros-bytes n i
+
+module _ (L B : List ℕ) (z : openFlow L noRecord noWords .refusal ≡ 0) (bytes : Bytes B) (short : length B < wholeNumbers) (few : length (linesTo L B (length B)) < wholeNumbers) (s : ℕ)
+    (low : s < circle) where
+  abbrev H : List ℕ
+  H = replicate heldSize 0
+
+  -- what a state keeps of the line
+  abbrev lasting : List ℕ → Lasting
+  lasting S = record { before = longAt S beforeAt; kept = keptIn S }
+
+  -- k bytes of the flow were passed down, and Z is kept
+  record Held (Z : Lasting) (k : ℕ) : Type 0 where
+    words : List ℕ
+    seen : List stream.Look
+    came : Came L noRecord noWords z s H Z (take k B) words seen
+    front : Front B s (looks s (stream.begun H) seen)
+    inside : k ≤ length B
+
+  -- a state that keeps it
+  record Ready (S : List ℕ) (k : ℕ) : Type 0 where
+    size : length S ≡ stateSize
+    holds : Held (lasting S) k
+    lines-are : longAt S linesAt ≡ length (linesTo L B k)
+    not-bytes : wordAt S kindAt ≡ 0 → ⊥
+    untouched : wordAt S kindAt ≡ 1 → k ≡ 0
+    numbers : (wordAt S kindAt ≡ 1 → ⊥) → shortAt S firstAt ≡ (s + longAt S beforeAt) % circle
+
+  -- by its parts
+  ready-by : {T : List ℕ} {kind first b n : ℕ} {K : Kept} (k : ℕ) → Marks T kind first b n K → Held (record { before = b; kept = K }) k → n ≡ length (linesTo L B k)
+      → (kind ≡ 0 → ⊥) → (kind ≡ 1 → k ≡ 0) → ((kind ≡ 1 → ⊥) → first ≡ (s + b) % circle) → Ready T k
+  ready-by {T = T} {b = b} {K = K} k m h e a u f =
+      record {
+        size = m .size;
+        holds =
+            subst (λ (Z : Lasting). Held Z k)
+            (sym (ap (λ (x : ℕ). record { before = x; kept = keptIn T }) (m .before) ∙ ap (λ (J : Kept). record { before = b; kept = J }) (marks-kept m))) h;
+        lines-are = m .lines ∙ e;
+        not-bytes = λ y. a (sym (m .kinds) ∙ y);
+        untouched = λ y. u (sym (m .kinds) ∙ y);
+        numbers = λ y. m .firsts ∙ f (λ w. y (m .kinds ∙ w)) ∙ ap (λ (x : ℕ). (s + x) % circle) (sym (m .before));
+      }
+
+  -- the offset is k
+  held-offset : (Z : Lasting) (k : ℕ) → Held Z k → Z .before + offsetOf (Z .kept .flow) ≡ k
+  held-offset Z k h =
+      came-offset L noRecord noWords z s H Z (take k B) (h .words) (h .seen) (h .came) ∙ length-take k B ∙ omega (arith, h .inside)
+
+  -- ---- the first number
+
+  ready-numbered : (S : List ℕ) (k v : ℕ) → Ready S k → v < circle → (wordAt S kindAt ≡ 1 → v ≡ s % circle) → Ready (numbered v S) k × (wordAt (numbered v S) kindAt ≡ 1 → ⊥)
+  unfolding numbered
+  ready-numbered S k v r l f = go (eqb (wordAt S kindAt) 1) refl
+    where
+      go : (t : Bool) → eqb (wordAt S kindAt) 1 ≡ t
+          → let T = cond t (placed (placed S firstAt (digits 8 4 v)) kindAt (digits 8 4 numberedKind)) S in Ready T k × (wordAt T kindAt ≡ 1 → ⊥)
+      go true e =
+          let one = eqb-true (wordAt S kindAt) 1 e in
+          let m = marks-numbered v l (marks-of S (r .size)) in
+          let b : longAt S beforeAt ≡ 0 = omega (arith, held-offset (lasting S) k (r .holds), r .untouched one) in (
+            ready-by k m (r .holds) (r .lines-are) (λ y. omega (arith, y)) (λ y. omega (arith, y)) (λ y. f one ∙ rw b (omega arith)),
+            λ y. omega (arith, y, m .kinds),
+          )
+      go false e = (r, eqb-false (wordAt S kindAt) 1 e)
+
+  -- ---- a renewal
+
+  module _ (S : List ℕ) (k : ℕ) (r : Ready S k) (came-one : wordAt S kindAt ≡ 1 → ⊥) where
+    abbrev since : ℕ
+    since = offsetOf (flowOf S)
+
+    abbrev anew : List ℕ
+    anew = renewal (flowOf S) .saved
+
+    -- it is not refused
+    passes : renewal (flowOf S) .refusal ≡ 0
+    passes = renews L noRecord noWords z s H (lasting S) (take k B) (r .holds .words) (r .holds .seen) (r .holds .came)
+
+    abbrev later : Lasting
+    later = record { before = longAt S beforeAt + since; kept = record { flow = anew; held = heldOf S; start = keptIn S .start; length = keptIn S .length } }
+
+    renewed-held : Held later k
+    renewed-held =
+        let c = came-deed L noRecord noWords z s H (lasting S) renewing (take k B) (r .holds .words) (r .holds .seen) tt (r .holds .came) in
+        record {
+          words = r .holds .words;
+          seen = r .holds .seen;
+          came =
+              came-as L noRecord noWords z s H (append-nil (take k B)) (append-nil (r .holds .words)) (append-nil (r .holds .seen))
+              (rw (eq-eqb (renewal (flowOf S) .refusal) 0 passes) at c);
+          front = r .holds .front;
+          inside = r .holds .inside;
+        }
+
+    anew-long : length anew ≡ flowSize
+    anew-long = good-flow anew (came-at L noRecord noWords z s H (renewed-held .came) .fit .0) .0
+
+    whole : longAt S beforeAt + since ≡ k
+    whole = held-offset (lasting S) k (r .holds)
+
+    renewed-ready : Ready (renewedState S) k × (wordAt (renewedState S) kindAt ≡ 1 → ⊥)
+    renewed-ready =
+        let v = (shortAt S firstAt + since) % circle in
+        let m = marks-renewed anew since v anew-long (omega (arith, whole, r .holds .inside, short)) (omega arith) (marks-of S (r .size)) in (
+          ready-by k m renewed-held (r .lines-are) (r .not-bytes) (r .untouched) (λ y. omega (arith, r .numbers came-one)),
+          λ y. came-one (sym (m .kinds) ∙ y),
+        )
+
+    -- where it is made; and then there is room for a segment and a held part before the largest offset
+    renew-ready : Ready (renewOn S) k × (wordAt (renewOn S) kindAt ≡ 1 → ⊥) × (offsetOf (flowOf (renewOn S)) ≤ near)
+    unfolding renewOn
+    renew-ready = go (leb since near) (eqb (renewal (flowOf S) .refusal) 0) refl refl
+      where
+        Goal : List ℕ → Type 0
+        Goal T = Ready T k × (wordAt T kindAt ≡ 1 → ⊥) × (offsetOf (flowOf T) ≤ near)
+
+        go : (a b : Bool) → leb since near ≡ a → eqb (renewal (flowOf S) .refusal) 0 ≡ b → Goal (cond a S (cond b (renewedState S) S))
+        go true b e f = (r, came-one, leb-true since near e)
+        go false false e f = absurd (eqb-false (renewal (flowOf S) .refusal) 0 f passes)
+        go false true e f =
+            let h = held-offset (lasting (renewedState S)) k (renewed-ready .0 .holds) in
+            (renewed-ready .0, renewed-ready .1, omega (arith, h, whole, renewed-none))
+          where
+            renewed-none : longAt (renewedState S) beforeAt ≡ longAt S beforeAt + since
+            renewed-none = marks-renewed anew since ((shortAt S firstAt + since) % circle) anew-long (omega (arith, whole, r .holds .inside, short)) (omega arith) (marks-of S (r .size)) .before
+
+  -- ---- a segment, to a state that is renewed where it has to be
+
+  -- the words told so far are the pairs of the bytes passed down
+  told-so : (Z : Lasting) (k : ℕ) (ws : List ℕ) (ms : List stream.Look) → Came L noRecord noWords z s H Z (take k B) ws ms → openPairs L ++ ws ≡ pairsOf L (take k B)
+  unfolding openPairs
+  told-so Z k ws ms c =
+      let d = went L noRecord noWords z s H c .due .tells in
+      let e = begins L noRecord noWords z .0 in
+      ap (λ (xs : List ℕ). xs ++ ws) (sym e) ∙ (rw (c .eaten, c .told) at d)
+
+  -- no more lines than those of the whole flow
+  lines-few : (k : ℕ) → k ≤ length B → length (linesTo L B k) < wholeNumbers
+  lines-few k l =
+      let e : k + (length B - k) ≡ length B = omega (arith, l) in
+      let W = toldNext L B k (length B - k) l in
+      omega (arith, few, ap length (rw e at (lines-more L B k (length B - k) l)), length-append (linesTo L B k) (linesFrom 0 W (length W / 2)))
+
+  module _ (S : List ℕ) (k : ℕ) (r : Ready S k) (came-one : wordAt S kindAt ≡ 1 → ⊥) (g : Segment) (p : ℕ) (number : g .start ≡ (s + p) % circle)
+      (part : g .bytes ≡ take (length (g .bytes)) (drop p B)) (fits : length (g .bytes) ≤ mostSegment) (behind : k ≤ p + reach) (ahead : p ≤ k + reach) where
+    abbrev call : Call
+    call = record { list = L; via = byList; at = g .start; piece = g .bytes; out = noWords }
+
+    abbrev h : Heard
+    h = hears listCalls (firstOf s (lasting S)) (keptIn S) call
+
+    abbrev J : Kept
+    J = h .kept
+
+    abbrev to : ℕ
+    to = k + length (h .down)
+
+    abbrev rise : List ℕ
+    rise = raised (longAt S beforeAt) (take (2 * h .pairs) (h .words))
+
+    handed : Fits listCalls (OnList L) (firstOf s (lasting S)) (keptIn S) call
+    handed =
+        record {
+          number = omega (arith, number);
+          bytes = rw part (bytes-take (length (g .bytes)) (drop p B) (bytes-drop p B bytes));
+          fit = λ y. (refl, tt);
+        }
+
+    abbrev looks-then : List stream.Look
+    looks-then = looksAt listCalls (firstOf s (lasting S)) (keptIn S) call
+
+    came-then : Came L noRecord noWords z s H (record { before = longAt S beforeAt; kept = J }) (take k B ++ h .down) (r .holds .words ++ rise) (r .holds .seen ++ looks-then)
+    came-then = came-deed L noRecord noWords z s H (lasting S) (handing call) (take k B) (r .holds .words) (r .holds .seen) handed (r .holds .came)
+
+    abbrev line : Line
+    line = looks s (stream.begun H) (r .holds .seen)
+
+    line-long : length (line .down) ≡ k
+    line-long = ap length (r .holds .came .lies .down) ∙ length-take k B ∙ omega (arith, r .holds .inside)
+
+    front-then : Front B s (looks s (stream.begun H) (r .holds .seen ++ looks-then))
+    front-then =
+        rw (looks-append s (stream.begun H) (r .holds .seen) looks-then)
+        (front-looks B s listCalls call p number part fits (firstOf s (lasting S)) mostLooks (atDoor (plainWay L) (sentOf listCalls (firstOf s (lasting S)) call) (keptIn S) noWords) line (r .holds .front)
+        (omega arith) (omega (arith, line-long, behind)) (omega (arith, line-long, ahead)) .0)
+
+    long-then : length (take k B ++ h .down) ≡ to
+    long-then = length-append (take k B) (h .down) ∙ ap (λ (n : ℕ). n + length (h .down)) (length-take k B ∙ omega (arith, r .holds .inside))
+
+    inside-then : to ≤ length B
+    inside-then = omega (arith, front-down B s _ front-then .0, ap length (came-then .lies .down), long-then)
+
+    front-is : take k B ++ h .down ≡ take to B
+    front-is =
+        let d = came-then .lies .down in
+        sym d ∙ front-down B s _ front-then .1 ∙ ap (λ (n : ℕ). take n B) (ap length d ∙ long-then)
+
+    held-then : Held (record { before = longAt S beforeAt; kept = J }) to
+    held-then =
+        record {
+          words = r .holds .words ++ rise;
+          seen = r .holds .seen ++ looks-then;
+          came = came-as L noRecord noWords z s H front-is refl refl came-then;
+          front = front-then;
+          inside = inside-then;
+        }
+
+    sized : Sized J
+    sized =
+        let l = came-then .lies in
+        record {
+          flow = good-flow (J .flow) (came-at L noRecord noWords z s H came-then .fit .0) .0;
+          held = ap length (sym (l .held)) ∙ front-then .held;
+          start = rw (← l .start) (front-then .start);
+          long = omega (arith, l .length, front-then .stands .few);
+        }
+
+    abbrev text : List ℕ
+    text = turnText (longAt (keptState S (J .flow) (J .held) (J .start) (J .length)) beforeAt) (h .words) (h .pairs) false (g .start)
+
+    told-then : linesTo L B to ≡ linesTo L B k ++ text
+    unfolding againText held-then
+    told-then =
+        let P = pairsOf L (take k B) in
+        let pairs : pairsOf L (take to B) ≡ P ++ rise =
+        sym (told-so _ to _ _ (held-then .came)) ∙ sym (append-assoc (openPairs L) (r .holds .words) rise) ∙ ap (λ (xs : List ℕ). xs ++ rise) (told-so _ k _ _ (r .holds .came)) in
+        let fit = segment-fits (plainWay L) (sentOf listCalls (firstOf s (lasting S)) call) (keptIn S) noWords in
+        let e : text ≡ linesFrom 0 rise (length rise / 2) =
+        append-nil (linesFrom (longAt (keptState S (J .flow) (J .held) (J .start) (J .length)) beforeAt) (h .words) (h .pairs))
+        ∙ ap (λ (j : ℕ). linesFrom j (h .words) (h .pairs)) (kept-before J sized (marks-of S (r .size)))
+        ∙ lines-told (longAt S beforeAt) (h .words) (h .pairs) rise (omega (arith, fit .0, fit .1)) refl in
+        let even = pairs-even L B k (length (h .down)) (r .holds .inside) in
+        let n : length (P ++ rise) / 2 ≡ length P / 2 + length rise / 2 = omega (arith, length-append P rise, even) in
+        ap (λ (ws : List ℕ). linesFrom 0 ws (length ws / 2)) pairs ∙ rw n (lines-append 0 P rise (length P / 2) (length rise / 2) even) ∙ ap (λ (xs : List ℕ). linesTo L B k ++ xs) (sym e)
+
+    -- the state after the turn, whose place in the line moves by c
+    ready-then : (c : ℕ) → Ready (plusNumber (plusNumber (keptState S (J .flow) (J .held) (J .start) (J .length)) placeAt c) linesAt (length text)) to
+    ready-then c =
+        let count : length (linesTo L B to) ≡ length (linesTo L B k) + length text = ap length told-then ∙ length-append (linesTo L B k) text in
+        let m = marks-turned J c (length text) sized (omega (arith, r .lines-are, count, lines-few to inside-then)) (marks-of S (r .size)) in
+        ready-by to m held-then (omega (arith, r .lines-are, count)) (r .not-bytes) (λ y. absurd (came-one y)) (r .numbers)
+
+    -- what the segment gives is what it hears
+    abbrev given : Given
+    given =
+        record {
+          refusal = passedOf (h .refusal);
+          pairs = h .pairs;
+          done = overOf (h .all) (h .refusal) (length (g .bytes));
+          moved = overOf (h .all) (h .refusal) (length (g .bytes) + headSize);
+          again = eqb (h .refusal) 18;
+          words = h .words;
+          saved = keptState S (J .flow) (J .held) (J .start) (J .length);
+        }
+
+    given-is : givenOf L S (g .start) (g .bytes) noWords ≡ given
+    unfolding givenOf
+    given-is = rw (ne-eqb (wordAt S kindAt) 0 (r .not-bytes), r .numbers came-one)
+
+  -- ---- a disk
+
+  record Good (D : Disk) : Type 0 where
+    at : ℕ
+    ready : Ready (D .state) at
+    lines-are : kept D ≡ linesTo L B at
+
+  -- lines and a state that counts them
+  good-by : (S ts : List ℕ) (k : ℕ) → ts ≡ linesTo L B k → Ready S k → Good (record { lines = ts; state = S })
+  good-by S ts k e r = record { at = k; ready = r; lines-are = rw (r .lines-are, e) (take-length (linesTo L B k)) }
+
+  offset-is : (D : Disk) (q : Good D) → specs.passed D ≡ q .at
+  offset-is D q =
+      let k : longAt (D .state) beforeAt + offsetOf (flowOf (D .state)) ≡ q .at = held-offset (lasting (D .state)) (q .at) (q .ready .holds) in
+      ap (λ (n : ℕ). n % wholeNumbers) k ∙ omega (arith, q .ready .holds .inside, short)
+
+  -- ---- a turn
+
+  module _ (D : Disk) (q : Good D) (g : Segment) (w : Sends B s D g) where
+    abbrev S₁ : List ℕ
+    S₁ = numbered (g .start) (D .state)
+
+    abbrev S₂ : List ℕ
+    S₂ = renewOn S₁
+
+    first-ready : Ready S₁ (q .at) × (wordAt S₁ kindAt ≡ 1 → ⊥)
+    first-ready =
+        ready-numbered (D .state) (q .at) (g .start) (q .ready) (omega (arith, w .number))
+        (λ y. w .number ∙ ap (λ (n : ℕ). (s + n) % circle) (w .begins y) ∙ omega arith)
+
+    then-ready : Ready S₂ (q .at) × (wordAt S₂ kindAt ≡ 1 → ⊥) × (offsetOf (flowOf S₂) ≤ near)
+    then-ready = renew-ready S₁ (q .at) (first-ready .0) (first-ready .1)
+
+    near-by : (q .at ≤ w .from + reach) × (w .from ≤ q .at + reach)
+    near-by = (omega (arith, w .behind, offset-is D q), omega (arith, w .before, offset-is D q))
+
+    abbrev G : Given
+    G = given S₂ (q .at) (then-ready .0) (then-ready .1) g (w .from) (w .number) (w .bytes) (w .short) (near-by .0) (near-by .1)
+
+    abbrev turnBy : Bool → Turn
+    turnBy t = cond t (linesTurn true (G .pairs) (G .done) (G .moved) (G .again) (G .words) (G .saved) (g .start)) (lastTurn (G .refusal) (G .saved))
+
+    not-end : isEnd (D .state) true (length (g .bytes)) ≡ false
+    unfolding isEnd
+    not-end = rw (ne-eqb (wordAt (D .state) kindAt) 0 (q .ready .not-bytes)) (go (eqb (length (g .bytes)) 0))
+      where
+        go : (b : Bool) → cond b false false ≡ false
+        go true = refl
+        go false = refl
+
+    turn-by : turnOn L D g ≡ turnBy (eqb (G .refusal) 0)
+    unfolding turnOf feedTurn
+    turn-by =
+        rw (not-end, given-is S₂ (q .at) (then-ready .0) (then-ready .1) g (w .from) (w .number) (w .bytes) (w .short) (near-by .0) (near-by .1))
+
+    abbrev afterBy : Turn → Disk
+    afterBy t = cond (t .last) D (record { lines = kept D ++ t .text; state = t .saved })
+
+    good-turn : (t : Bool) → Good (afterBy (turnBy t))
+    unfolding isTold
+    good-turn false = q
+    good-turn true =
+        let i = told-then S₂ (q .at) (then-ready .0) (then-ready .1) g (w .from) (w .number) (w .bytes) (w .short) (near-by .0) (near-by .1) in
+        good-by _ _ (to S₂ (q .at) (then-ready .0) (then-ready .1) g (w .from) (w .number) (w .bytes) (w .short) (near-by .0) (near-by .1))
+        (ap (λ (xs : List ℕ). xs ++ text S₂ (q .at) (then-ready .0) (then-ready .1) g (w .from) (w .number) (w .bytes) (w .short) (near-by .0) (near-by .1)) (q .lines-are) ∙ sym i)
+        (ready-then S₂ (q .at) (then-ready .0) (then-ready .1) g (w .from) (w .number) (w .bytes) (w .short) (near-by .0) (near-by .1) (G .moved))
+
+    good-after : Good (after (turnOn L) D (turned g))
+    unfolding after
+    good-after = rw turn-by (good-turn (eqb (G .refusal) 0))
+
+  good-cut : (D : Disk) → Good D → (x : List ℕ) → Good (after (turnOn L) D (cut x))
+  unfolding after
+  good-cut D q x =
+      let w : take (longAt (D .state) linesAt) (kept D ++ x) ≡ linesTo L B (q .at) = rw (q .lines-are, q .ready .lines-are) (take-append-seam (linesTo L B (q .at)) x) in
+      record { at = q .at; ready = q .ready; lines-are = w }
+
+  good-all : (D : Disk) → Good D → (es : List (Event Segment)) → Sent L B s D es → Good (afterAll (turnOn L) D es)
+  unfolding afterAll
+  good-all D q [] h = q
+  good-all D q (turned g ∷ es) h = good-all (after (turnOn L) D (turned g)) (good-after D q g (h .0)) es (h .1)
+  good-all D q (cut x ∷ es) h = good-all (after (turnOn L) D (cut x)) (good-cut D q x) es h
+
+  -- ---- the opening
+
+  good-begun : Good (begun L segmentsKind)
+  unfolding looks
+  good-begun =
+      let text = linesTurn true (firstPairs L B segmentsKind z) 0 0 false (firstWords L B segmentsKind z) (begunState L B segmentsKind z) 0 .text in
+      let t : text ≡ linesTo L B 0 = opening-text L B segmentsKind z in
+      let m =
+      marks-opened (opened L) 0 (length text) (opened-long L B segmentsKind z) (omega (arith, ap length t, lines-few 0 (omega arith))) (marks-fresh L segmentsKind (omega arith)) in
+      let c = came-none L noRecord noWords z s H (zeros-bytes heldSize) in
+      rw (opening-is L B segmentsKind z)
+      (good-by _ text 0 t
+      (ready-by 0 m
+      (record {
+        words = [];
+        seen = [];
+        came = rw (begins L noRecord noWords z .1) at c;
+        front = front-begun B s H (length-replicate {A = ℕ} heldSize 0);
+        inside = omega arith;
+      })
+      (omega (arith, ap length t)) (λ y. omega (arith, y)) (λ y. refl) (λ y. absurd (y refl))))
+
+  -- ---- what a reader is told
+
+  heard : (D : Disk) → Good D → specs.Heard L B s D
+  unfolding turnOf isEnd
+  heard D q =
+      let o = offset-is D q in
+      let k : longAt (D .state) beforeAt + offsetOf (flowOf (D .state)) ≡ q .at = held-offset (lasting (D .state)) (q .at) (q .ready .holds) in
+      record {
+        within = rw o (q .ready .holds .inside);
+        lines = rw o (q .lines-are);
+        next = λ y. next-number s (longAt (D .state) beforeAt) (offsetOf (flowOf (D .state))) (specs.passed D) (shortAt (D .state) firstAt) (q .ready .numbers y) (k ∙ sym o);
+        none = λ y. o ∙ q .ready .untouched y;
+        ended = λ start rest. rw o (ap (λ (xs : List ℕ). xs ++ lastLine 0 (q .at)) (q .lines-are));
+      }
+
+pub segments-killed : SegmentsKilled
+segments-killed L B z h n f s l es w = heard L B z h n f s l (afterAll (turnOn L) (begun L segmentsKind) es) (good-all L B z h n f s l (begun L segmentsKind) (good-begun L B z h n f s l) es w)
