@@ -14,7 +14,7 @@ ghost use Rattle.feed.specs.Engine.{mostOffset};
 ghost use Rattle.feed.specs.Fed.{Answers};
 ghost use Rattle.list_flow.specs.Flow.{flowSize, frontierOf, rowsOf, flowBytes, flowRules};
 ghost use Rattle.table.specs.Table.{mostSplits, splitCount, splitSet};
-ghost use Rattle.index.specs.Entry.{entrySize, entryPlace, telling, limit, badIndex};
+ghost use Rattle.index.specs.Entry.{entrySize, entryPlace, telling, limit, flagAt, knownIn, badIndex};
 ghost use Rattle.index.specs.Stand.{soughtOf, holdsAt, namedBy, standRules, standFeed, stoodAt};
 ghost use Rattle.index_turns.specs.inner.Goes.{Strides};
 
@@ -39,18 +39,48 @@ fn same_set(splits: &[u8], at: usize, flow: &[u8]) -> bool
     all
 }
 
+// Says whether split `hint` is there and the lists are good: by one division, since where the split is there the splits are not none.
+fn there(splits: &[u8], index: &[u8], hint: usize) -> bool
+    ensures { λ r. ⌜ r ≡ (ltb hint (splitCount (now (splits .entry))) && not (badIndex (now (splits .entry)) (now (index .entry)))) ⌝ }
+{
+    let n = table::split_count(splits);
+    if n <= hint {
+        return false;
+    }
+    if table::MOST_SPLITS < n {
+        return false;
+    }
+    if table::SPLIT_SIZE * n != splits.len() {
+        return false;
+    }
+    index.len() == sets::BYTES + index::ENTRY_SIZE * n
+}
+
 // Says whether the lists are good and split `hint` is there and has the set that a record begins with.
 fn holds_at(splits: &[u8], index: &[u8], hint: usize, flow: &[u8]) -> bool
     requires { ⌜ setSize ≤ length (now flow) ⌝ }
     ensures { λ r. ⌜ r ≡ holdsAt (now (splits .entry)) (now (index .entry)) hint (frontierOf (now (flow .entry))) ⌝ }
 {
-    if index::bad_index(splits, index) {
-        return false;
+    let found = there(splits, index, hint);
+    if found {
+        return same_set(splits, table::SPLIT_SIZE * hint, flow);
     }
-    if table::split_count(splits) <= hint {
-        return false;
-    }
-    same_set(splits, table::SPLIT_SIZE * hint, flow)
+    false
+}
+
+// Says whether the entry of split `hint` has its flag, where it is there.
+fn flag_at(index: &[u8], hint: usize) -> bool
+    requires { ⌜ (entryPlace hint + entrySize ≤ length (now index)) × (length (now index) < telling) ⌝ }
+    ensures { λ r. ⌜ r ≡ not (eqb (flagAt (now (index .entry)) (entryPlace hint)) 0) ⌝ }
+{
+    index[sets::BYTES + index::ENTRY_SIZE * hint + index::FLAG_PLACE] != 0
+}
+
+// Says whether the set that the index begins with has the states of a record.
+fn known_in(index: &[u8], flow: &[u8]) -> bool
+    ensures { λ r. ⌜ r ≡ knownIn (now (index .entry)) (frontierOf (now (flow .entry))) ⌝ }
+{
+    index::known(index, StateSet::load(flow, 0))
 }
 
 // Says whether the states of a record count as named, where it is known whether the hint holds.
@@ -59,9 +89,9 @@ fn named_by(splits: &[u8], index: &[u8], hint: usize, flow: &[u8], held: bool) -
     ensures { λ r. ⌜ r ≡ namedBy (now (splits .entry)) (now (index .entry)) hint (frontierOf (now (flow .entry))) ⌝ }
 {
     if held {
-        return index[sets::BYTES + index::ENTRY_SIZE * hint + index::FLAG_PLACE] != 0;
+        return flag_at(index, hint);
     }
-    index::known(index, StateSet::load(flow, 0))
+    known_in(index, flow)
 }
 
 // Where a call begins, where it is known whether the hint holds.
@@ -115,8 +145,12 @@ pub fn refusal(
         return rules::FLOW_RECORD;
     }
     let held = holds_at(splits, index, hint, flow);
-    let named = named_by(splits, index, hint, flow, held);
-    feed_refusal(splits, index, held, named, flow, start, piece)
+    if held {
+        let flag = flag_at(index, hint);
+        return feed_refusal(splits, index, true, flag, flow, start, piece);
+    }
+    let known = known_in(index, flow);
+    feed_refusal(splits, index, false, known, flow, start, piece)
 }
 
 // Runs from a place with a whole entry: byte by byte where the piece is short and no byte of it tells, else by turns.

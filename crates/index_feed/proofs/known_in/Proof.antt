@@ -1,0 +1,18 @@
+-- `known_in` reads the record's set and asks the index. Assumes nothing.
+use borrow.Author.Needs.{needs}
+use mathlib.Core.Path.{ap, _∙_}
+use Rattle.index.specs.Entry.{knownIn}
+use Rattle.index_feed.proofs.known_in.Statement.{statement}
+use Rattle.index_feed.proofs.known_in.Tie as tie
+
+load-requires : tie.Need-load-requires
+load-requires c κs = search needs
+
+known-requires : tie.Need-known-requires
+known-requires c κs = search needs
+
+returns : tie.Need-returns
+returns c = c .known .ensures ∙ ap (knownIn (c .before .before .before .before .args .index .now)) (c .before .load .ensures)
+
+pub known-in-spec : {M : Type 1} → statement M
+known-in-spec = tie.close (tie.spec load-requires known-requires returns)
