@@ -76,7 +76,7 @@ fn follow(index: &[u8], word: usize, pairs: &mut [u32], words: usize, offset: u3
         };
     }
     let t = tell_set(
-        SigSet::whole(index, at + index::SIGS_PLACE),
+        SigSet::from_bytes(index, at + index::SIGS_PLACE),
         pairs,
         words,
         offset,

@@ -75,8 +75,8 @@ fn arrows(rows: &[u8], shape: Shape, bound: bool, t: usize) -> Incoming
     if t == 0 {
         return any_arrows(bound);
     }
-    let from = StateSet::whole(rows, text_walk::ROW * t);
-    let letter = SigSet::whole(rows, text_walk::ROW * t + sets::BYTES);
+    let from = StateSet::from_bytes(rows, text_walk::ROW * t);
+    let letter = SigSet::from_bytes(rows, text_walk::ROW * t + sets::BYTES);
     let first = shape.first;
     if first.has(t) {
         return Incoming {

@@ -79,7 +79,7 @@ fn enter(rows: &mut [u8], t: usize, from: StateSet)
     requires { ⌜ (t < states) × (length (now rows) ≡ rowsSize) ⌝ }
     ensures { λ r. ⌜ Entered (setOf from) t (now (rows .entry)) (now (rows .exit)) ⌝ }
 {
-    let old = StateSet::whole(rows, ROW * t);
+    let old = StateSet::from_bytes(rows, ROW * t);
     let more = old.union(from);
     more.store(rows, ROW * t);
 }
@@ -101,8 +101,8 @@ fn copy_row(rows: &mut [u8], t: usize, d: usize)
     requires { ⌜ (t + d < states) × (length (now rows) ≡ rowsSize) ⌝ }
     ensures { λ r. ⌜ Copied t 1 d (now (rows .entry)) (now (rows .exit)) ⌝ }
 {
-    let old = StateSet::whole(rows, ROW * t);
-    let letter = SigSet::whole(rows, ROW * t + sets::BYTES);
+    let old = StateSet::from_bytes(rows, ROW * t);
+    let letter = SigSet::from_bytes(rows, ROW * t + sets::BYTES);
     let more = shifted(old, d);
     more.store(rows, ROW * (t + d));
     letter.store(rows, ROW * (t + d) + sets::BYTES);

@@ -17,7 +17,7 @@ there : (c : tie.Then1) → let a = c .before .before .before .before .args in L
 there c =
     let s = c .before .before .before .before in
     let a = s .args in
-    let e = holds-said (a .splits .now) (a .index .now) (a .hint) (frontierOf (a .flow .now)) (sym (s .pre) ∙ c .if1 .taken) in
+    let e = holds-said (a .splits .now) (a .index .now) (a .hint) (frontierOf (a .flow .now)) (sym (s .pre .0) ∙ c .if1 .taken) in
     (lists-said (a .splits .now) (a .index .now) (e .0), e .1)
 
 mul-result : tie.Need-mul-result
@@ -34,10 +34,10 @@ shared-slice-read-result c = omega (arith, there (c .before) .1, there (c .befor
 
 returns : tie.Need-returns
 unfolding namedBy
-returns c = sym (rw (sym (c .before .before .before .before .before .pre) ∙ c .before .if1 .taken))
+returns c = sym (rw (sym (c .before .before .before .before .before .pre .0) ∙ c .before .if1 .taken))
 
-load-requires : tie.Need-load-requires
-load-requires c κs = search needs
+from-bytes-requires : tie.Need-from-bytes-requires
+from-bytes-requires c κs = c .before .before .before .before .pre .1
 
 known-requires : tie.Need-known-requires
 known-requires c κs = search needs
@@ -47,7 +47,7 @@ unfolding namedBy
 returns-2 c =
     let left = c .before .before in
     let s = left .before .before .before .before in
-    c .known .ensures ∙ ap (knownIn (s .args .index .now)) (c .before .load .ensures) ∙ sym (rw (sym (s .pre) ∙ left .if1 .left))
+    c .known .ensures ∙ ap (knownIn (s .args .index .now)) (c .before .from-bytes .ensures) ∙ sym (rw (sym (s .pre .0) ∙ left .if1 .left))
 
 pub named-by-spec : {M : Type 1} → statement M
-named-by-spec = tie.close (tie.spec mul-result add-result add-result-2 shared-slice-read-result returns load-requires known-requires returns-2)
+named-by-spec = tie.close (tie.spec mul-result add-result add-result-2 shared-slice-read-result returns from-bytes-requires known-requires returns-2)

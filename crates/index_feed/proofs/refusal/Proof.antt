@@ -20,7 +20,7 @@ holds-at-requires : tie.Need-holds-at-requires
 holds-at-requires c κs = omega (arith, c .if1 .left)
 
 named-by-requires : tie.Need-named-by-requires
-named-by-requires c κs = c .holds-at .ensures
+named-by-requires c κs = (c .holds-at .ensures, omega (arith, c .before .if1 .left))
 
 feed-refusal-requires : tie.Need-feed-refusal-requires
 feed-refusal-requires c κs =
