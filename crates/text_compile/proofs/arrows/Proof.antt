@@ -3,7 +3,7 @@ use borrow.Author.Needs.{needs}
 use Prim.Native.Nat.{suc}
 use mathlib.Core.Path.{sym, ap, subst, _∙_}
 use mathlib.Core.Bool.{not}
-use Rattle.sets.specs.Set.{setOf, sigsOf, holds}
+use Rattle.sets.specs.Set.{setOf, byteSetOf, holds}
 use Rattle.text.specs.Exp.{size}
 use Rattle.text_records.specs.inner.Front.{Below}
 use Rattle.text_compile.specs.inner.Code.{expOf, freeOf, Arrive}
@@ -19,8 +19,8 @@ returns c =
     let a = c .before .before .before .args in
     let r = c .any-arrows in
     λ x w few l. (
-      subst (λ z. Arrive (freeOf x) (expOf x) z (setOf (r .result .from)) (holds (sigsOf (r .result .letter)))) (sym (c .before .if1 .taken))
-          (arrive-none (freeOf x) (a .bound) (expOf x) (setOf (r .result .from)) (holds (sigsOf (r .result .letter))) (ap not (sym (w .1))) (r .ensures .0) (r .ensures .1)),
+      subst (λ z. Arrive (freeOf x) (expOf x) z (setOf (r .result .from)) (holds (byteSetOf (r .result .letter)))) (sym (c .before .if1 .taken))
+          (arrive-none (freeOf x) (a .bound) (expOf x) (setOf (r .result .from)) (holds (byteSetOf (r .result .letter))) (ap not (sym (w .1))) (r .ensures .0) (r .ensures .1)),
       below-none (a .bound) (setOf (r .result .from)) (size (expOf x)) (r .ensures .0),
     )
 
@@ -49,7 +49,7 @@ returns-2 : tie.Need-returns-2
 returns-2 c =
     let a = c .before .before .before .before .before .before .before .before .args in
     λ x w few l. (
-      arrows-first (freeOf x) (a .rows .now) (expOf x) (a .shape) (w .0) few (a .t) (setOf (c .with .result)) (setOf (c .before .before .before .before .before .from-bytes .result)) (sigsOf (c .before .before .before .before .from-bytes2 .result)) (c .before .before .before .before .before .before .if1 .left) l (c .before .before .before .before .before .from-bytes .ensures) (c .before .before .before .before .from-bytes2 .ensures) (sym (c .before .before .has .ensures) ∙ c .before .if2 .taken) (c .with .ensures),
+      arrows-first (freeOf x) (a .rows .now) (expOf x) (a .shape) (w .0) few (a .t) (setOf (c .with .result)) (setOf (c .before .before .before .before .before .from-bytes .result)) (byteSetOf (c .before .before .before .before .from-bytes2 .result)) (c .before .before .before .before .before .before .if1 .left) l (c .before .before .before .before .before .from-bytes .ensures) (c .before .before .before .before .from-bytes2 .ensures) (sym (c .before .before .has .ensures) ∙ c .before .if2 .taken) (c .with .ensures),
       below-with (setOf (c .before .before .before .before .before .from-bytes .result)) (setOf (c .with .result)) (size (expOf x)) (c .with .ensures) (subst (λ z. Below z (suc (size (expOf x)))) (sym (c .before .before .before .before .before .from-bytes .ensures)) (arrows-below (freeOf x) (a .rows .now) (expOf x) (a .shape) (w .0) few (a .t) (c .before .before .before .before .before .before .if1 .left) l)),
     )
 
@@ -57,7 +57,7 @@ returns-3 : tie.Need-returns-3
 returns-3 c =
     let a = c .before .before .before .before .before .before .before .args in
     λ x w few l. (
-      arrows-later (freeOf x) (a .rows .now) (expOf x) (a .shape) (w .0) few (a .t) (setOf (c .before .before .before .before .from-bytes .result)) (sigsOf (c .before .before .before .from-bytes2 .result)) (c .before .before .before .before .before .if1 .left) l (c .before .before .before .before .from-bytes .ensures) (c .before .before .before .from-bytes2 .ensures) (sym (c .before .has .ensures) ∙ c .if2 .left),
+      arrows-later (freeOf x) (a .rows .now) (expOf x) (a .shape) (w .0) few (a .t) (setOf (c .before .before .before .before .from-bytes .result)) (byteSetOf (c .before .before .before .from-bytes2 .result)) (c .before .before .before .before .before .if1 .left) l (c .before .before .before .before .from-bytes .ensures) (c .before .before .before .from-bytes2 .ensures) (sym (c .before .has .ensures) ∙ c .if2 .left),
       subst (λ z. Below z (suc (size (expOf x)))) (sym (c .before .before .before .before .from-bytes .ensures)) (arrows-below (freeOf x) (a .rows .now) (expOf x) (a .shape) (w .0) few (a .t) (c .before .before .before .before .before .if1 .left) l),
     )
 

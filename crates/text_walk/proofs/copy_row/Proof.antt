@@ -4,10 +4,10 @@ use native.Mathlib.Omega.{arith}
 use Prim.Native.Nat.{_<_, _+_, _*_, _^_}
 use mathlib.Core.Path.{_≡_, sym, ap, subst, _∙_}
 use lib.ListN.{length}
-use Rattle.sets.specs.Set.{signatures, setSize, setOf, sigsOf}
+use Rattle.sets.specs.Set.{byteCount, setSize, setOf, byteSetOf}
 use Rattle.text_walk.specs.inner.Rows.{rowSize}
 use Rattle.sets_words.specs.inner.Further.{further}
-use Rattle.text_walk.proofs.Buffer.{sigs-at-lt}
+use Rattle.text_walk.proofs.Buffer.{byte-set-at-lt}
 use Rattle.text_walk.proofs.Loops.{copied-one}
 use Rattle.text_walk.proofs.copy_row.Statement.{statement}
 use Rattle.text_walk.proofs.copy_row.Tie as tie
@@ -62,8 +62,8 @@ returns c =
     let s = c .before .before .before .before .before .before .before .before .before .before .before .before .before .before in
     let a = s .args in
     let q = c .before .before .before .before .before .before .before .before .before .from-bytes2 .ensures in
-    copied-one (a .rows .now) (c .before .before .before .before .before .before .store .last .1 .0) (c .before .before .store2 .last .1 .0) (a .t) (a .d) (setOf (c .before .before .before .before .before .before .before .before .shifted .result)) (sigsOf (c .before .before .before .before .before .before .before .before .before .from-bytes2 .result)) (s .pre .1) (s .pre .0)
-    (c .before .before .before .before .before .before .before .before .shifted .ensures ∙ ap (further (a .d)) (c .before .before .before .before .before .before .before .before .before .before .before .from-bytes .ensures)) q (subst (λ z. z < 2 ^ signatures) (sym q) (sigs-at-lt (a .rows .now) (rowSize * a .t + setSize) (λ i. c .before .before .before .before .before .before .before .before .before .before .before .before .before .slice-known .given i .fits)))
+    copied-one (a .rows .now) (c .before .before .before .before .before .before .store .last .1 .0) (c .before .before .store2 .last .1 .0) (a .t) (a .d) (setOf (c .before .before .before .before .before .before .before .before .shifted .result)) (byteSetOf (c .before .before .before .before .before .before .before .before .before .from-bytes2 .result)) (s .pre .1) (s .pre .0)
+    (c .before .before .before .before .before .before .before .before .shifted .ensures ∙ ap (further (a .d)) (c .before .before .before .before .before .before .before .before .before .before .before .from-bytes .ensures)) q (subst (λ z. z < 2 ^ byteCount) (sym q) (byte-set-at-lt (a .rows .now) (rowSize * a .t + setSize) (λ i. c .before .before .before .before .before .before .before .before .before .before .before .before .before .slice-known .given i .fits)))
     (c .before .before .before .before .before .before .store .ensures) (c .before .before .store2 .ensures)
 
 pub copy-row-spec : {M : Type 1} → statement M
