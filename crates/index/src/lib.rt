@@ -47,7 +47,7 @@ pub fn known(index: &[u8], f: StateSet) -> bool
     if index.len() < sets::BYTES {
         return true;
     }
-    let named = StateSet::whole(index, 0);
+    let named = StateSet::from_bytes(index, 0);
     f.union(named).same(named)
 }
 

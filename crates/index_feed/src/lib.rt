@@ -78,14 +78,15 @@ fn flag_at(index: &[u8], hint: usize) -> bool
 
 // Says whether the set that the index begins with has the states of a record.
 fn known_in(index: &[u8], flow: &[u8]) -> bool
+    requires { ⌜ setSize ≤ length (now flow) ⌝ }
     ensures { λ r. ⌜ r ≡ knownIn (now (index .entry)) (frontierOf (now (flow .entry))) ⌝ }
 {
-    index::known(index, StateSet::load(flow, 0))
+    index::known(index, StateSet::from_bytes(flow, 0))
 }
 
 // Says whether the states of a record count as named, where it is known whether the hint holds.
 fn named_by(splits: &[u8], index: &[u8], hint: usize, flow: &[u8], held: bool) -> bool
-    requires { ⌜ held ≡ holdsAt (now splits) (now index) hint (frontierOf (now flow)) ⌝ }
+    requires { ⌜ (held ≡ holdsAt (now splits) (now index) hint (frontierOf (now flow))) × (setSize ≤ length (now flow)) ⌝ }
     ensures { λ r. ⌜ r ≡ namedBy (now (splits .entry)) (now (index .entry)) hint (frontierOf (now (flow .entry))) ⌝ }
 {
     if held {
@@ -96,12 +97,13 @@ fn named_by(splits: &[u8], index: &[u8], hint: usize, flow: &[u8], held: bool) -
 
 // Where a call begins, where it is known whether the hint holds.
 fn begin(splits: &[u8], hint: usize, flow: &[u8], held: bool) -> usize
+    requires { ⌜ setSize ≤ length (now flow) ⌝ }
     ensures { λ r. ⌜ r ≡ cond held hint (soughtOf (now (splits .entry)) (frontierOf (now (flow .entry)))) ⌝ }
 {
     if held {
         return hint;
     }
-    index::find(splits, StateSet::load(flow, 0))
+    index::find(splits, StateSet::from_bytes(flow, 0))
 }
 
 // The check of a call on a record of the right size: the number of the first of the rules 4 to 6 and 8 that refuses it, 0 where none does. Where the hint holds, 8 does not.

@@ -70,7 +70,7 @@ fn fill_word(
         list,
         accepts,
         splits,
-        StateSet::whole(work, sets::BYTES * c),
+        StateSet::from_bytes(work, sets::BYTES * c),
     );
     sets::put_number(index, at + 4 * c, 4, w);
 }

@@ -56,7 +56,7 @@ fn add_set(
         parts,
         n,
         table::MOST_SPLITS,
-        StateSet::whole(work, sets::BYTES * c),
+        StateSet::from_bytes(work, sets::BYTES * c),
     )
 }
 
@@ -75,7 +75,7 @@ fn steps_of(
     ensures { λ r. ⌜ (length (now (work .exit)) ≡ length (now (work .entry)))
         × Grown mostSplits (step (now (list .entry))) (now (list .entry)) (now (queue .entry)) (now (parts .entry)) (now (queue .exit)) (now (parts .exit)) n (r .n) i byteValues (r .full) ⌝ }
 {
-    table_classes::fill_steps(list, StateSet::whole(queue, sets::BYTES * i), work);
+    table_classes::fill_steps(list, StateSet::from_bytes(queue, sets::BYTES * i), work);
     let mut m = n;
     for c in 0..table::BYTE_VALUES {
         let g = add_set(lows, work, queue, parts, m, c);
@@ -126,7 +126,7 @@ fn fill_splits(parts: &[u8], n: usize, splits: &mut [u8])
     ensures { λ r. ⌜ (length (now (splits .exit)) ≡ length (now (splits .entry))) × Laid (λ i. bareSplit (part (now (parts .entry)) i)) splitSize n (now (splits .exit)) ⌝ }
 {
     for i in 0..n {
-        put_split(splits, i, StateSet::whole(parts, sets::BYTES * i));
+        put_split(splits, i, StateSet::from_bytes(parts, sets::BYTES * i));
     }
 }
 

@@ -54,7 +54,7 @@ fn follow(index: &[u8], word: usize, pairs: &mut [u32], words: usize, offset: u3
     let t = feed::tell_all(
         pairs,
         words,
-        SigSet::whole(index, at + index::SIGS_PLACE),
+        SigSet::from_bytes(index, at + index::SIGS_PLACE),
         offset,
     );
     Followed {

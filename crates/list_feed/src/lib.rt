@@ -62,6 +62,6 @@ pub fn feed(list: &[u8], flow: &mut [u8], start: u64, piece: &[u8], pairs: &mut 
     if refusal != rules::PASSED {
         return feed::refused(refusal);
     }
-    let ran = feed_bytes(list, StateSet::load(flow, 0), start, piece, pairs);
+    let ran = feed_bytes(list, StateSet::from_bytes(flow, 0), start, piece, pairs);
     list_flow::finish(flow, ran, piece.len())
 }

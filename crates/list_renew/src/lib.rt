@@ -20,7 +20,7 @@ pub fn renew(flow: &mut [u8]) -> u32
 {
     let refusal = renew_refusal(flow);
     if refusal == rules::PASSED {
-        list_flow::save(flow, StateSet::load(flow, 0), 0, 0);
+        list_flow::save(flow, StateSet::from_bytes(flow, 0), 0, 0);
     }
     refusal
 }

@@ -247,12 +247,12 @@ fn feed_bytes(
         };
         if meet(&next, &watch) {
             wide = sets::WORDS;
-            told = list_flow::tell_accepted(list, StateSet::whole(&next, 0), pairs, words, at);
+            told = list_flow::tell_accepted(list, StateSet::from_bytes(&next, 0), pairs, words, at);
         }
         if !told.fits {
             return Ran {
                 refusal: rules::PASSED,
-                frontier: StateSet::whole(&f, 0),
+                frontier: StateSet::from_bytes(&f, 0),
                 bytes: i,
                 words: words,
                 rows: rows,
@@ -264,7 +264,7 @@ fn feed_bytes(
     }
     Ran {
         refusal: rules::PASSED,
-        frontier: StateSet::whole(&f, 0),
+        frontier: StateSet::from_bytes(&f, 0),
         bytes: piece.len(),
         words: words,
         rows: rows,
@@ -291,7 +291,7 @@ pub fn feed(
         list,
         matrix,
         n,
-        StateSet::load(flow, 0),
+        StateSet::from_bytes(flow, 0),
         start,
         piece,
         pairs,

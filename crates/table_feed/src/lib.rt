@@ -202,7 +202,7 @@ pub fn feed(
     if refusal != rules::PASSED {
         return feed::refused(refusal);
     }
-    let first = StateSet::load(flow, 0);
+    let first = StateSet::from_bytes(flow, 0);
     let ran = feed_bytes(
         list,
         bound,

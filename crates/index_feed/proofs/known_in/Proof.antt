@@ -5,14 +5,14 @@ use Rattle.index.specs.Entry.{knownIn}
 use Rattle.index_feed.proofs.known_in.Statement.{statement}
 use Rattle.index_feed.proofs.known_in.Tie as tie
 
-load-requires : tie.Need-load-requires
-load-requires c κs = search needs
+from-bytes-requires : tie.Need-from-bytes-requires
+from-bytes-requires c κs = search needs
 
 known-requires : tie.Need-known-requires
 known-requires c κs = search needs
 
 returns : tie.Need-returns
-returns c = c .known .ensures ∙ ap (knownIn (c .before .before .before .before .args .index .now)) (c .before .load .ensures)
+returns c = c .known .ensures ∙ ap (knownIn (c .before .before .before .before .args .index .now)) (c .before .from-bytes .ensures)
 
 pub known-in-spec : {M : Type 1} → statement M
-known-in-spec = tie.close (tie.spec load-requires known-requires returns)
+known-in-spec = tie.close (tie.spec from-bytes-requires known-requires returns)

@@ -53,7 +53,7 @@ returns-2 c =
     c .feed-refusal .ensures ∙ ruled (t .before) _ (f .flag-at .ensures ∙ sym (rw (sym (t .before .holds-at .ensures) ∙ t .if2 .taken)))
 
 known-in-requires : tie.Need-known-in-requires
-known-in-requires c κs = search needs
+known-in-requires c κs = omega (arith, c .before .before .if1 .left)
 
 feed-refusal-requires-2 : tie.Need-feed-refusal-requires-2
 feed-refusal-requires-2 c κs = λ e. absurd (true≢false (sym e))

@@ -26,11 +26,11 @@ returns-2 c =
     let h = le-ltb (a .word - telling) (limit (a .index .now)) (c .if2 .taken) in
     (sym (rw l), none-told (a .index .now) (a .word) (rw (l, h)) _ _ _)
 
-add-whole : tie.Need-add-whole
-add-whole c = search needs
+add-from-bytes : tie.Need-add-from-bytes
+add-from-bytes c = search needs
 
-whole-requires : tie.Need-whole-requires
-whole-requires c κs = search needs
+from-bytes-requires : tie.Need-from-bytes-requires
+from-bytes-requires c κs = search needs
 
 tell-all-requires : tie.Need-tell-all-requires
 tell-all-requires c κs = search needs
@@ -46,7 +46,7 @@ returns-3 c =
     let a = read .before .before .before .before .before .args in
     let l = le-ltb (a .word) telling (read .before .before .if1 .left) in
     let h = lt-ltb (a .word - telling) (limit (a .index .now)) (read .before .if2 .left) in
-    (sym (rw l), rw (l, h) (rw (read .whole .ensures) at (told .tell-all .ensures)))
+    (sym (rw l), rw (l, h) (rw (read .from-bytes .ensures) at (told .tell-all .ensures)))
 
 pub follow-spec : {M : Type 1} → statement M
 follow-spec =
@@ -55,8 +55,8 @@ follow-spec =
     returns
     sub-if2
     returns-2
-    add-whole
-    whole-requires
+    add-from-bytes
+    from-bytes-requires
     tell-all-requires
     same-length
     returns-3)

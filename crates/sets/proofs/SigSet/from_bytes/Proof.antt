@@ -1,8 +1,8 @@
--- `whole` meets its promise: it reads the words. Assumes nothing.
+-- `from_bytes` meets its promise: it reads the words. Assumes nothing.
 use borrow.Author.Needs.{needs}
 use Rattle.sets.specs.Set.{sigsAt}
-use Rattle.sets.proofs.SigSet.whole.Statement.{statement}
-use Rattle.sets.proofs.SigSet.whole.Tie as tie
+use Rattle.sets.proofs.SigSet.from_bytes.Statement.{statement}
+use Rattle.sets.proofs.SigSet.from_bytes.Tie as tie
 
 slice-aggregate-read-words : tie.Need-slice-aggregate-read-words
 slice-aggregate-read-words c = search needs
@@ -14,5 +14,5 @@ returns : tie.Need-returns
 unfolding sigsAt
 returns c = c .before .read-words .ensures
 
-pub whole-spec : {M : Type 1} → statement M
-whole-spec = tie.close (tie.spec slice-aggregate-read-words read-words-requires returns)
+pub from-bytes-spec : {M : Type 1} → statement M
+from-bytes-spec = tie.close (tie.spec slice-aggregate-read-words read-words-requires returns)
