@@ -42,10 +42,11 @@ returns-3 : tie.Need-returns-3
 unfolding toldOf
 returns-3 c =
     let told = c .before .before in
-    let read = told .before .before in
-    let a = read .before .before .before .before .before .args in
-    let l = le-ltb (a .word) telling (read .before .before .if1 .left) in
-    let h = lt-ltb (a .word - telling) (limit (a .index .now)) (read .before .if2 .left) in
+    let read = told .before in
+    let passed = read .before .before in
+    let a = passed .before .before .before .before .args in
+    let l = le-ltb (a .word) telling (passed .before .if1 .left) in
+    let h = lt-ltb (a .word - telling) (limit (a .index .now)) (passed .if2 .left) in
     (sym (rw l), rw (l, h) (rw (read .from-bytes .ensures) at (told .tell-all .ensures)))
 
 pub follow-spec : {M : Type 1} → statement M
