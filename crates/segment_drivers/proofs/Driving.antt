@@ -27,7 +27,7 @@ use Rattle.list_flow.specs.Opening.{openRules, openPairs, opened, openFlow}
 use Rattle.list_feed.specs.Plain.{plainFeed}
 use Rattle.table.specs.Table.{Table, tableRefusal}
 use Rattle.laws.proofs.Demand1.{demand-1}
-use Rattle.laws.specs.Calls.{Call, Via, byList, Checked, wayOf, OnList}
+use Rattle.laws.specs.Calls.{Call, ListBy, Via, byList, Checked, wayOf, OnList}
 use Rattle.segment.specs.Resend.{circle, taking, due}
 use Rattle.segment.specs.Post.{Takes}
 use Rattle.segment.specs.declared.Held.{Held}
@@ -205,7 +205,7 @@ module _ (L : List ℕ) (s start : ℕ) (piece : List ℕ) (so : Standing) (v : 
   abbrev out : List ℕ
   out = midOf (so .words) (v - so .words) ws
 
-  abbrev glanceBy : Glance Call
+  abbrev glanceBy : Glance ListBy
   glanceBy = record { call = segmentBy L byList s start piece so v ws R H low high; far = farBy far }
 
   takes-here : Takes (takeOf W g S) h J
