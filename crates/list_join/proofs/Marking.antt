@@ -2,15 +2,14 @@
 use Prim.Native.Nat.{ℕ, zero, suc, _+_, _-_, _*_, _/_, _%_, _≤_, _<_}
 use mathlib.Core.Path.{_≡_, refl, sym, ap, _∙_}
 use mathlib.Core.Bool.{Bool, true, false, _&&_, _||_, cond, not, true≢false, and-true}
-use mathlib.Core.List.{List}
-use mathlib.Core.Logic.{_⊎_, inl, inr}
+use mathlib.Core.List.{List, [], _∷_}
 use native.Mathlib.Omega.{arith}
 use native.Mathlib.Nat.{lt-of-not-le}
 use native.Mathlib.Decide.{decLt}
 use native.Mathlib.Numerals.{add-one}
 use lib.ListN.{length, getD, set, take, drop, length-set, replicate, length-replicate}
-use lib.Seq.{drop-cons, getD-set-same, getD-set-other}
-use lib.Dec.{eqb, ltb, leb}
+use lib.Seq.{drop-cons, getD-take, getD-drop, getD-set-same, getD-set-other}
+use lib.Dec.{eqb, ltb}
 use lib.Bits.{bitOr}
 use borrow.Author.Tests.{eqb-true, eqb-false, eq-eqb, ne-eqb, lt-ltb, ltb-true}
 use Rattle.sets.specs.Set.{states, num, holds, join, insert}
@@ -20,7 +19,7 @@ use Rattle.sets.proofs.Sets.{or-false, holds-join, holds-insert, holds-empty}
 use Rattle.rules.specs.Scan.{some, every, first, gather}
 use Rattle.rules.proofs.Scanning.{both, choose, below-suc, or-true, and-false, some-intro, some-elim, every-at, gather-exactly}
 use Rattle.list.specs.List.{records, byteOf, isEdge, isStart, isAccept, low, high, from, target, goodRecord, noStart, listRefusal}
-use Rattle.list.specs.Automaton.{start, reached, namesFrom, namesTarget, namedBy, named, highest}
+use Rattle.list.specs.Automaton.{start, reached, namedBy, named, highest}
 use Rattle.list.proofs.Listed.{same-truth, good-start, start-good, kind-start, from-bytes}
 use Rattle.list.proofs.Named.{by-none, by-put, with-edge, with-start, with-accept}
 use Rattle.list.proofs.Highest.{highest-exactly, highest-state}
@@ -323,6 +322,29 @@ module _ (w : List ℕ) (m s : ℕ) where
 
   pub zero-more : zero < s → ((q : ℕ) → s ≤ q → q < m → getD w q 0 ≡ 0) → getD w (s - 1) 0 ≡ 0 → (q : ℕ) → s - 1 ≤ q → q < m → getD w q 0 ≡ 0
   zero-more z h e q a b = elim (decLt q s) [ yes l ↦ let r : s - 1 ≡ q = omega (arith, l, a) in rw (← r) e | no n ↦ h q (omega (arith, lt-of-not-le (λ (l : suc q ≤ s). n l))) b ]
+
+-- eight marks that are all 0
+all-zeros : (ws : List ℕ) (j : ℕ) → num 8 ws ≡ 0 → getD ws j 0 ≡ 0
+unfolding num
+all-zeros [] j e = refl
+all-zeros (w ∷ ws) zero e = omega (arith, e)
+all-zeros (w ∷ ws) (suc j) e = all-zeros ws j (omega (arith, e))
+
+module _ (w : List ℕ) (m s : ℕ) (h : (q : ℕ) → s ≤ q → q < m → getD w q 0 ≡ 0) where
+  pub eight-more : 8 ≤ s → num 8 (take 8 (drop (s - 8) w)) ≡ 0 → (q : ℕ) → s - 8 ≤ q → q < m → getD w q 0 ≡ 0
+  eight-more l e q a b =
+      elim (decLt q s) [
+        | yes c ↦ let x : (s - 8) + (q - (s - 8)) ≡ q = omega (arith, l, a) in rw x at (sym (getD-drop (s - 8) w (q - (s - 8)) 0) ∙ sym (getD-take 8 (drop (s - 8) w) (q - (s - 8)) 0 (omega (arith, l, a, c))) ∙ all-zeros (take 8 (drop (s - 8) w)) (q - (s - 8)) e)
+        | no n ↦ h q (omega (arith, lt-of-not-le (λ (l : suc q ≤ s). n l))) b
+      ]
+
+  pub ends-more : s ≤ m → (r : ℕ) → Ends w s r → Ends w m r
+  ends-more l r x =
+      record {
+        most = omega (arith, l, x .most);
+        none = λ q a b. elim (decLt q s) [ yes c ↦ x .none q a c | no n ↦ h q (omega (arith, lt-of-not-le (λ (l : suc q ≤ s). n l))) b ];
+        last = x .last;
+      }
 
 -- ---- several bytes of a record as one number
 

@@ -190,8 +190,8 @@ fn note(list: &[u8], i: usize, marks: &mut [u8], staying: &mut [u8], spares: &mu
     note_accept(list, i, marks)
 }
 
-// One past the highest place below m whose mark is not 0; 0 where there is none.
-fn end_below(marks: &[u8], m: usize) -> usize
+// One past the highest place below m whose mark is not 0; 0 where there is none. It goes down one by one.
+fn end_near(marks: &[u8], m: usize) -> usize
     requires { ⌜ m ≤ length (now marks) ⌝ }
     ensures { λ r. ⌜ Ends (now (marks .entry)) m r ⌝ }
 {
@@ -203,6 +203,21 @@ fn end_below(marks: &[u8], m: usize) -> usize
         s = s - 1;
     }
     s
+}
+
+// The same, eight marks at a time as long as they are all 0.
+fn end_below(marks: &[u8], m: usize) -> usize
+    requires { ⌜ m ≤ length (now marks) ⌝ }
+    ensures { λ r. ⌜ Ends (now (marks .entry)) m r ⌝ }
+{
+    let mut s = m;
+    while 8 <= s {
+        if sets::whole_number(marks, s - 8, 8) != 0 {
+            return end_near(marks, s);
+        }
+        s = s - 8;
+    }
+    end_near(marks, s)
 }
 
 // Says whether some mark has the bit of a start.

@@ -1,9 +1,7 @@
 -- `all_fit` asks whether the highest state that is not shared gets the number of a state. Assumes nothing.
-use mathlib.Core.Path.{_≡_}
 use borrow.Author.Tests.{not-true, not-false}
 use Rattle.list_join.proofs.Numbering.{fitted-alone, fitted-above, fitted-last}
 use native.Mathlib.Omega.{arith}
-use borrow.Author.Needs.{needs}
 use Rattle.list_join.proofs.all_fit.Statement.{statement}
 use Rattle.list_join.proofs.all_fit.Tie as tie
 

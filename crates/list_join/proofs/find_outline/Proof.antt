@@ -1,7 +1,7 @@
 -- `find_outline` goes through the records; the invariant is what those passed say. Assumes nothing.
 use mathlib.Core.Path.{refl, sym, ap, _∙_, _≡_}
-use mathlib.Core.Bool.{true, false, not}
-use Prim.Native.Nat.{ℕ, suc, _≤_, _-_}
+use mathlib.Core.Bool.{true, not}
+use Prim.Native.Nat.{suc, _≤_, _-_}
 use native.Mathlib.Numerals.{add-one}
 use Rattle.rules.specs.Scan.{every}
 use Rattle.list.specs.List.{records, goodRecord, noStart, listRefusal}

@@ -1,6 +1,5 @@
 -- `full` reads bytes 1 and 2 at once. Assumes nothing.
 use Rattle.list_join.proofs.Marking.{every-byte}
-use native.Mathlib.Omega.{arith}
 use borrow.Author.Needs.{needs}
 use Rattle.list_join.proofs.full.Statement.{statement}
 use Rattle.list_join.proofs.full.Tie as tie

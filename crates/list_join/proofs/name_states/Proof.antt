@@ -1,7 +1,6 @@
 -- `name_states` asks for the lowest states of each kind in both lists. Assumes nothing.
 use native.Mathlib.Numerals.{add-one}
 use mathlib.Core.Path.{_∙_}
-use native.Mathlib.Omega.{arith}
 use borrow.Author.Needs.{needs}
 use Rattle.list_join.proofs.name_states.Statement.{statement}
 use Rattle.list_join.proofs.name_states.Tie as tie

@@ -1,8 +1,7 @@
 -- `note` goes by the record's kind. Assumes nothing.
-use mathlib.Core.Path.{_≡_, sym, _∙_}
+use mathlib.Core.Path.{sym, _∙_}
 use Rattle.list.proofs.Listed.{good-other, accept-good}
 use Rattle.list_join.proofs.Marking.{count-low, seen-start, seen-accept}
-use native.Mathlib.Omega.{arith}
 use borrow.Author.Needs.{needs}
 use Rattle.list_join.proofs.note.Statement.{statement}
 use Rattle.list_join.proofs.note.Tie as tie

@@ -1,6 +1,6 @@
 -- `note_accept` tests the record, and marks its state. Assumes nothing.
 use Prim.Native.Nat.{_<_}
-use mathlib.Core.Path.{_≡_, sym, _∙_}
+use mathlib.Core.Path.{sym, _∙_}
 use mathlib.Core.Bool.{true≢false}
 use borrow.Author.Tests.{not-true, not-false}
 use Rattle.sets.specs.Set.{states}

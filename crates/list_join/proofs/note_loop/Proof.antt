@@ -1,5 +1,4 @@
 -- `note_loop` counts the record, marks its state, and where every byte takes it puts the state among those that stay. Assumes nothing.
-use mathlib.Core.Path.{_≡_}
 use Rattle.list.specs.List.{target}
 use Rattle.list_join.proofs.Marking.{count-low, seen-loop}
 use native.Mathlib.Omega.{arith}

@@ -1,7 +1,6 @@
 -- `put_spare` counts one more. Assumes nothing.
 use native.Mathlib.Numerals.{add-one}
 use lib.ListN.{getD}
-use native.Mathlib.Omega.{arith}
 use borrow.Author.Needs.{needs}
 use Rattle.list_join.proofs.put_spare.Statement.{statement}
 use Rattle.list_join.proofs.put_spare.Tie as tie

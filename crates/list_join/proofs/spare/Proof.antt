@@ -1,7 +1,6 @@
 -- `spare` is its definition, by the record's kind. Assumes nothing.
-use mathlib.Core.Path.{_≡_, sym, _∙_}
+use mathlib.Core.Path.{sym, _∙_}
 use Rattle.list_join.proofs.Places.{spare-edge, spare-other}
-use native.Mathlib.Omega.{arith}
 use borrow.Author.Needs.{needs}
 use Rattle.list_join.proofs.spare.Statement.{statement}
 use Rattle.list_join.proofs.spare.Tie as tie
