@@ -43,7 +43,7 @@ add-record-requires c κs =
     let s = c .before .before .before .before .before .before .before .before in
     let a = s .args in
     let h : l .i < records (a .b .now) = omega (arith, c .before .before .before .before .before .records .ensures) in
-    (rw (← s .pre .1) (c .before .before .before .before .new-numbers .ensures), h, good-at (a .b .now) (s .pre .0) (l .i) h, omega (arith, l .inv .1, l .inv .3, s .pre .3, added-room (a .n) (a .b .now) (l .i) (records (a .b .now)) h))
+    (rw (← s .pre .1) (c .before .before .before .before .new-numbers .ensures), h, good-at (a .b .now) (s .pre .0) (l .i) h, omega (arith, l .inv .1, l .inv .3, s .pre .3, added-room (a .n) (a .b .now) (l .i) (records (a .b .now)) h), omega (arith, s .pre .2 .own, s .pre .2 .below))
 
 add-i : tie.Need-add-i Inv-loop μ-loop
 add-i c = search needs
