@@ -1,6 +1,7 @@
 pub mod Parts
 pub mod Lines
 pub mod Opening
+pub mod Feeding
 pub mod Killed
 pub mod Following
 pub mod Marks

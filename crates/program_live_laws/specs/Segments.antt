@@ -61,6 +61,9 @@ pub record Heard (L B : List ℕ) (s : ℕ) (D : Disk) : Type 0 where
   -- the next number is that of the next byte of the flow
   pub next : (Untouched D → ⊥) → nextNumber D ≡ (s + passed D) % circle
   pub none : Untouched D → passed D ≡ 0
+  -- no turn on a segment of the flow is the last, and one that brings the next byte moves
+  pub stays : (g : Segment) → Sends B s D g → turnOn L D g .last ≡ false
+  pub moves : (g : Segment) (w : Sends B s D g) → w .from ≤ passed D → passed D < w .from + length (g .bytes) → passed D < passed (after (turnOn L) D (turned g))
   -- and where nothing more comes the turn adds the last line
   pub ended : (start : ℕ) (rest : List ℕ) → kept D ++ turnOf true false L (D .state) false start rest .text ≡ linesTo L B (passed D) ++ lastLine 0 (passed D)
 
