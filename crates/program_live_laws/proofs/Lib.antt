@@ -8,3 +8,4 @@ pub mod Marks
 pub mod Sender
 pub mod Segments
 pub mod Lists
+pub mod Again

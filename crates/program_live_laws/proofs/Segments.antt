@@ -46,7 +46,7 @@ use Rattle.program_turn.specs.State.{stateSize, wholeNumbers, longAt, wordAt, s
 use Rattle.program_turn.specs.Turn.{Turn, Given, noWords, noRecord, linesFrom, againText, turnText, isTold, isEnd, passedOf, overOf, headSize, givenOf, lastTurn, linesTurn, feedTurn, turnOf, openTurn}
 use Rattle.program_live_laws.specs.Killed.{Disk, Event, turned, cut, kept, after, afterAll, begun, linesTo}
 use Rattle.program_live_laws.specs.Segments as specs
-use Rattle.program_live_laws.specs.Segments.{Segment, turnOn, Sends, Sent, reach, SegmentsKilled}
+use Rattle.program_live_laws.specs.Segments.{Segment, turnOn, Sends, AllSent, reach, SegmentsKilled}
 use Rattle.program_live_laws.proofs.Lines.{lines-append, pairs-even, lines-told, toldNext, lines-more}
 use Rattle.program_live_laws.proofs.Feeding.{rules-pass, feed-taken}
 use Rattle.program_live_laws.proofs.Opening.{firstWords, firstPairs, begunState, opened-long, opening-is, opening-text}
@@ -593,7 +593,7 @@ module _ (L B : List ℕ) (z : openFlow L noRecord noWords .refusal ≡ 0) (byte
       let w : take (longAt (D .state) linesAt) (kept D ++ x) ≡ linesTo L B (q .at) = rw (q .lines-are, q .ready .lines-are) (take-append-seam (linesTo L B (q .at)) x) in
       record { at = q .at; ready = q .ready; lines-are = w }
 
-  good-all : (D : Disk) → Good D → (es : List (Event Segment)) → Sent L B s D es → Good (afterAll (turnOn L) D es)
+  good-all : (D : Disk) → Good D → (es : List (Event Segment)) → AllSent L B s D es → Good (afterAll (turnOn L) D es)
   unfolding afterAll
   good-all D q [] h = q
   good-all D q (turned g ∷ es) h = good-all (after (turnOn L) D (turned g)) (good-after D q g (h .0)) es (h .1)

@@ -56,7 +56,7 @@ none-left x y = omega arith
 one-place : (s a b c d n : ℕ) → (s + a) % circle ≡ (s + b) % circle → a < c + half → c ≤ a + n → b < d + half → d ≤ b + n → c ≤ d → d ≤ c + mostSegment → n ≤ heldSize → a ≡ b
 one-place s a b c d n e p q r t u v w = omega (arith, e)
 
-early-ahead : (next q n : ℕ) → early next q n ≡ true → ahead next q ≡ true
+pub early-ahead : (next q n : ℕ) → early next q n ≡ true → ahead next q ≡ true
 unfolding early
 early-ahead next q n e = both (ltb 0 n) (ahead next q) e .1
 
@@ -75,6 +75,23 @@ good-sizes h n k e l m = rw (le-ltb mostSegment k m, eq-eqb h heldSize e, le-ltb
 none-next : (next p : ℕ) → hasNext next p 0 ≡ false
 unfolding hasNext
 none-next next p = le-ltb (distance p next) 0 (omega arith)
+
+-- and no more is held than fits it
+pub taking-long : (next : ℕ) (held : List ℕ) (p n q : ℕ) (seg : List ℕ) → length held ≡ heldSize → n ≤ heldSize
+    → (length (taking next held p n q seg .bytes) ≡ heldSize) × (taking next held p n q seg .length ≤ heldSize)
+taking-long next held p n q seg z l = go (refuses next held p n q seg) refl (early next q (length seg)) refl
+  where
+    free : (b : Bool) → cond b 0 n ≤ heldSize
+    free true = omega arith
+    free false = l
+
+    go : (r : Bool) → refuses next held p n q seg ≡ r → (b : Bool) → early next q (length seg) ≡ b
+        → (length (taking next held p n q seg .bytes) ≡ heldSize) × (taking next held p n q seg .length ≤ heldSize)
+    go true e b f = rw (take-refused next held p n q seg e) (z, l)
+    go false e true f =
+        let k = kept-fits next held p n q seg e f .0 in
+        rw (take-kept next held p n q seg e f) (length-append seg (drop (length seg) held) ∙ omega (arith, length-drop (length seg) held, z, k), k)
+    go false e false f = rw (take-other next held p n q seg e f) (z, free (allBefore next p n))
 
 module _ (B : List ℕ) (s : ℕ) where
   -- the byte at a place of the flow
