@@ -193,7 +193,7 @@ module _ (L R out : List ℕ) (z : openFlow L R out .refusal ≡ 0) (s : ℕ) (H
               (came-look (m .heard .kept) (bs ++ m .heard .down) (ws ++ raised b front) (ls ++ ms) k fit (drop (2 * m .heard .pairs) (m .heard .words))))
           go false e = rw (more-off W g m e) (came-as refl refl (ap (λ (xs : List stream.Look). ls ++ xs) (sym (append-nil ms))) k)
 
-      came-looked : OnList L (c .by) → (n : ℕ) → Heard-so (looked n W g (atDoor W g S (c .out))) (looksFrom wayOf ((s + b) % circle) c n (atDoor W g S (c .out)))
+      pub came-looked : OnList L (c .by) → (n : ℕ) → Heard-so (looked n W g (atDoor W g S (c .out))) (looksFrom wayOf ((s + b) % circle) c n (atDoor W g S (c .out)))
       unfolding looked
       came-looked fit zero = came-door (c .out)
       came-looked fit (suc n) =

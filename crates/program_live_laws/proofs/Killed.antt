@@ -36,6 +36,7 @@ use Rattle.program_turn.specs.State.{stateSize, wholeNumbers, longAt, wordAt, s
 use Rattle.program_turn.specs.Turn.{Turn, mostUnit, Given, noWords, noRecord, linesFrom, againText, turnText, isTold, isEnd, plainGiven, givenOf, lastTurn, linesTurn, feedTurn, turnOf, openTurn}
 use Rattle.program_live_laws.specs.Killed.{Disk, Event, turned, cut, place, kept, turnAt, after, afterAll, begun, linesTo, Whole, Killed}
 use Rattle.program_live_laws.proofs.Parts.{part-other, Parts, turned-parts, renewed-parts, fresh-size, fresh-kind, fresh-number}
+use Rattle.program_live_laws.proofs.Feeding.{feed-taken}
 use Rattle.program_live_laws.proofs.Opening.{firstWords, firstPairs, begunState, opened-long, opening-is, opening-text}
 use Rattle.program_live_laws.proofs.Lines.{lines-front, lines-told, toldNext, frontier-more, lines-more}
 
@@ -187,19 +188,6 @@ module _ (L B : List ℕ) (bytes : Bytes B) (short : length B < wholeNumbers) (f
               (omega (arith, d .moved, r .offset, long)) (ap (λ (x : ℕ). x + o .bytes) (r .place-is)) (omega (arith, r .lines-are, count));
         }
 
-  -- ---- no feed is refused
-
-  feed-taken : verdict (listRules L) ≡ 0 → (S : List ℕ) (k n : ℕ) → Ready S k n → offsetOf (flowOf S) ≤ near → (rest : List ℕ) → length rest ≤ mostUnit
-      → plainFeed L (flowOf S) (offsetOf (flowOf S)) rest noWords .refusal ≡ 0
-  feed-taken z S k n r l rest h =
-      let R = flowOf S in
-      let v : verdict (feedRules L R (offsetOf R) rest) ≡ 0 =
-      verdict-then (listRules L) (flowRules (within (frontierOf R) (named L)) R (offsetOf R) rest) refl z
-      ∙ skip 4 _ (rw (r .at .fit .0, r .at .fit .1))
-      ∙ skip 5 _ (rw (eq-eqb (offsetOf R) (offsetOf R) refl))
-      ∙ last 6 (le-ltb mostOffset (offsetOf R + length rest) (omega (arith, l, h))) in
-      each-feed (plainWay L) R (offsetOf R) rest noWords .passes .1 (v, λ y. refl)
-
   -- ---- a disk
 
   record Good (D : Disk) : Type 0 where
@@ -257,9 +245,9 @@ module _ (L B : List ℕ) (bytes : Bytes B) (short : length B < wholeNumbers) (f
     turn-goes z l p h =
         let rest = take n (drop k B) in
         let some : length rest ≡ 0 → ⊥ = λ y. omega (arith, y, length-take n (drop k B), length-drop k B, l, p) in
+        let near-by : offsetOf (flowOf S₂) ≤ near = rw stays (renew-room (D .state) k (length (linesTo L B k)) (omega (arith, g .inside, short)) (g .ready)) in
         let q : G .refusal ≡ 0 =
-        feed-taken z S₂ k (length (linesTo L B k)) ready₂ (rw stays (renew-room (D .state) k (length (linesTo L B k)) (omega (arith, g .inside, short)) (g .ready))) rest
-        (omega (arith, h, length-take n (drop k B))) in
+        feed-taken L z (flowOf S₂) (ready₂ .at .fit) rest (omega (arith, near-by, h, length-take n (drop k B))) noWords in
         let t : turnAt L B D n ≡ turnBy false true = turn-by ∙ rw (ne-eqb (length rest) 0 some, eq-eqb (G .refusal) 0 q) in
         let f = fed S₂ k (g .inside) ready₂ n q in
         let e = each-feed (plainWay L) (flowOf S₂) (offsetOf (flowOf S₂)) rest noWords in

@@ -6,7 +6,7 @@ use mathlib.Core.List.{List, [], _∷_, _++_}
 use mathlib.Core.Logic.{inl}
 use native.Mathlib.Omega.{arith}
 use native.Mathlib.Decide.{decLt}
-use native.Mathlib.Nat.{div-add-mod}
+use native.Mathlib.Nat.{div-add-mod, add-mul-mod-self-right}
 use lib.ListN.{length, take, drop, replicate, length-replicate}
 use lib.Dec.{eqb, leb}
 use borrow.Author.Tests.{eqb-true, eq-eqb, leb-true}
@@ -14,9 +14,9 @@ use Rattle.sets.specs.Set.{num, digits, placed}
 use Rattle.sets.proofs.Laws.{num-digits, length-digits}
 use Rattle.feed.specs.Opening.{Opening}
 use Rattle.list_flow.specs.Flow.{offsetOf}
-use Rattle.list_feed.specs.Plain.{openFlow}
+use Rattle.list_flow.specs.Opening.{openFlow}
 use Rattle.list_renew.specs.Renewal.{renewal}
-use Rattle.program_turn.specs.State.{stateSize, wholeNumbers, longAt, wordAt, flowOf, lengthAt, sumAt, kindAt, firstAt, heldStartAt, heldLengthAt, beforeAt, placeAt, linesAt, flowAt, heldAt, bytesKind, segmentsKind, numberedKind, near, numbered, renewOn, renewedState, sumFrom, sumOf, isStateOf, freshState}
+use Rattle.program_turn.specs.State.{stateSize, wholeNumbers, longAt, wordAt, flowOf, lengthAt, sumAt, kindAt, firstAt, heldStartAt, heldLengthAt, beforeAt, placeAt, linesAt, flowAt, heldAt, bytesKind, segmentsKind, near, numbered, renewOn, renewedState, sumFrom, sumOf, isStateOf, freshState}
 use Rattle.program_turn.proofs.Laws.{sum-append}
 use Rattle.program_turn.specs.Turn.{Turn, Given, noWords, noRecord, isEnd, plainGiven, segmentGiven, givenOf, feedTurn, turnOf, openTurn, lastTurn, linesTurn}
 use Rattle.program_live_laws.specs.Lists.{ListsKept}
@@ -43,13 +43,14 @@ same-list : (M S T : List ℕ) → Same S T → isStateOf M T ≡ isStateOf M S
 unfolding isStateOf
 same-list M S T p = rw (p lengthAt 8 (omega arith), p sumAt 8 (omega arith))
 
+-- two such parts, or none
+twice-behind : (S : List ℕ) (at : ℕ) (xs : List ℕ) (to : ℕ) (ys : List ℕ) → 16 ≤ at → 16 ≤ to → (t : Bool) → Same S (cond t (placed (placed S at xs) to ys) S)
+twice-behind S at xs to ys l m true = then-same (put-behind S at xs l) (put-behind (placed S at xs) to ys m)
+twice-behind S at xs to ys l m false = λ a n h. refl
+
 numbered-same : (v : ℕ) (S : List ℕ) → Same S (numbered v S)
 unfolding numbered
-numbered-same v S = go (eqb (wordAt S kindAt) segmentsKind)
-  where
-    go : (t : Bool) → Same S (cond t (placed (placed S firstAt (digits 8 4 v)) kindAt (digits 8 4 numberedKind)) S)
-    go true = then-same (put-behind S firstAt (digits 8 4 v) (omega arith)) (put-behind (placed S firstAt (digits 8 4 v)) kindAt (digits 8 4 numberedKind) (omega arith))
-    go false = λ a n h. refl
+numbered-same v S = twice-behind S firstAt (digits 8 4 v) kindAt _ (omega arith) (omega arith) (eqb (wordAt S kindAt) segmentsKind)
 
 renewed-same : (S : List ℕ) → Same S (renewOn S)
 unfolding renewOn
@@ -218,6 +219,47 @@ one-byte xs ys S b c l m d p = go (isStateOf (xs ++ (c ∷ ys)) S) refl
     go true e = absurd (d (sums-differ xs ys b c l m (alike (xs ++ (b ∷ ys)) (xs ++ (c ∷ ys)) S p e .1)))
     go false e = e
 
+-- two steps in one
+in-one : (s b c : ℕ) → ((s * 257 + b) % 4294967291 * 257 + c) % 4294967291 ≡ (s * 66049 + (b * 257 + c)) % 4294967291
+in-one s b c =
+    let q = div-add-mod (s * 257 + b) 4294967291 in
+    let r = (s * 257 + b) % 4294967291 in
+    let n = (s * 257 + b) / 4294967291 in
+    let e : s * 66049 + (b * 257 + c) ≡ r * 257 + c + n * 257 * 4294967291 = omega (arith, q) in
+    sym (rw e (add-mul-mod-self-right (r * 257 + c) (n * 257) 4294967291))
+
+near-one : (a x y : ℕ) → x < 4294967291 → y < 4294967291 → (a + x) % 4294967291 ≡ (a + y) % 4294967291 → x ≡ y
+near-one a x y l m e = omega (arith, e)
+
+pair-below : (b c : ℕ) → b < 256 → c < 256 → b * 257 + c < 4294967291
+pair-below b c l m = omega arith
+
+apart-so : (b c d e : ℕ) → c < 256 → e < 256 → b * 257 + c ≡ d * 257 + e → (b ≡ d) × (c ≡ e)
+apart-so b c d e l m w = let h : b ≡ d = omega (arith, w) in (h, omega (arith, w, h))
+
+-- two steps keep two bytes apart
+pair-one : (s b c d e : ℕ) → b < 256 → c < 256 → d < 256 → e < 256
+    → ((s * 257 + b) % 4294967291 * 257 + c) % 4294967291 ≡ ((s * 257 + d) % 4294967291 * 257 + e) % 4294967291 → (b ≡ d) × (c ≡ e)
+pair-one s b c d e lb lc ld le q =
+    let u : ((s * 257 + b) % 4294967291 * 257 + c) % 4294967291 ≡ (s * 66049 + (b * 257 + c)) % 4294967291 = in-one s b c in
+    let v : ((s * 257 + d) % 4294967291 * 257 + e) % 4294967291 ≡ (s * 66049 + (d * 257 + e)) % 4294967291 = in-one s d e in
+    let w : b * 257 + c ≡ d * 257 + e = near-one (s * 66049) (b * 257 + c) (d * 257 + e) (pair-below b c lb lc) (pair-below d e ld le) (sym u ∙ q ∙ v) in
+    apart-so b c d e lc le w
+
+two-bytes : (xs ys S : List ℕ) (b c d e : ℕ) → b < 256 → c < 256 → d < 256 → e < 256 → ((b ≡ d) × (c ≡ e) → ⊥)
+    → isStateOf (xs ++ (b ∷ c ∷ ys)) S ≡ true → isStateOf (xs ++ (d ∷ e ∷ ys)) S ≡ false
+unfolding sumFrom
+two-bytes xs ys S b c d e lb lc ld le n p = go (isStateOf (xs ++ (d ∷ e ∷ ys)) S) refl
+  where
+    go : (t : Bool) → isStateOf (xs ++ (d ∷ e ∷ ys)) S ≡ t → isStateOf (xs ++ (d ∷ e ∷ ys)) S ≡ false
+    go true q =
+        absurd
+        (n
+        (pair-one (sumFrom 0 xs) b c d e lb lc ld le
+        (sum-one _ _ ys (omega arith) (omega arith)
+        (sym (sum-append 0 xs (b ∷ c ∷ ys)) ∙ alike (xs ++ (b ∷ c ∷ ys)) (xs ++ (d ∷ e ∷ ys)) S p q .1 ∙ sum-append 0 xs (d ∷ e ∷ ys)))))
+    go false q = q
+
 pub lists-kept : ListsKept
 lists-kept =
     record {
@@ -226,4 +268,5 @@ lists-kept =
       turned = λ keeping saving L M S more start rest. same-list M S (turnOf keeping saving L S more start rest .saved) (turned-same keeping saving L S more start rest);
       alike = alike;
       one-byte = one-byte;
+      two-bytes = two-bytes;
     }

@@ -12,7 +12,7 @@ use Rattle.feed.specs.Engine.{told}
 use Rattle.feed.proofs.Opening.{opens, opening-refusal}
 use Rattle.list_flow.specs.Flow.{flowSize}
 use Rattle.list_flow.proofs.Records.{length-flow}
-use Rattle.list_feed.specs.Plain.{openPairs, openRules, opened, openFlow}
+use Rattle.list_flow.specs.Opening.{openPairs, openRules, opened, openFlow}
 use Rattle.program_turn.specs.State.{stateSize, longAt, beforeAt, flowAt, freshState}
 use Rattle.program_turn.specs.Turn.{noWords, noRecord, linesFrom, againText, isTold, linesTurn, openTurn}
 use Rattle.program_live_laws.specs.Killed.{opening, linesTo}

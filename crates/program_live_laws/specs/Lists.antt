@@ -17,3 +17,6 @@ pub record ListsKept : Type 0 where
   pub alike : (L M S : List ℕ) → isStateOf L S ≡ true → isStateOf M S ≡ true → (length L ≡ length M) × (sumOf L ≡ sumOf M)
   -- each byte counts: a list that differs in one byte from a list of the state is none of it
   pub one-byte : (xs ys S : List ℕ) (b c : ℕ) → b < 256 → c < 256 → (b ≡ c → ⊥) → isStateOf (xs ++ (b ∷ ys)) S ≡ true → isStateOf (xs ++ (c ∷ ys)) S ≡ false
+  -- and their order does: so is one that differs in two bytes in a row, exchanged or otherwise
+  pub two-bytes : (xs ys S : List ℕ) (b c d e : ℕ) → b < 256 → c < 256 → d < 256 → e < 256 → ((b ≡ d) × (c ≡ e) → ⊥)
+      → isStateOf (xs ++ (b ∷ c ∷ ys)) S ≡ true → isStateOf (xs ++ (d ∷ e ∷ ys)) S ≡ false

@@ -6,8 +6,10 @@ use mathlib.Core.Path.{_≡_}
 use lib.ListN.{length, take, drop}
 use Rattle.feed.specs.Calls.{Bytes}
 use Rattle.list_flow.specs.Flow.{offsetOf}
-use Rattle.list_feed.specs.Plain.{openFlow}
-use Rattle.segment.specs.Resend.{circle, mostSegment}
+use Rattle.list_flow.specs.Opening.{openFlow}
+use Rattle.segment.specs.Resend.{circle, heldSize, mostSegment, ahead}
+use Rattle.segment_feed.specs.Segment.{Sent, Kept, nextOf}
+use Rattle.segment_feed.specs.Ways.{plainWay, plainSegment}
 use Rattle.program_text.specs.Text.{lastLine}
 use Rattle.program_turn.specs.State.{wholeNumbers, wordAt, shortAt, flowOf, flowOffset, kindAt, firstAt, segmentsKind}
 use Rattle.program_turn.specs.Turn.{Turn, noWords, noRecord, turnOf}
@@ -49,10 +51,10 @@ pub record Sends (B : List ℕ) (s : ℕ) (D : Disk) (g : Segment) : Type 0 wher
   pub before : from ≤ passed D + reach
 
 -- each segment is one of the flow, at what it meets
-abbrev pub Sent : List ℕ → List ℕ → ℕ → Disk → List (Event Segment) → Type 0
-Sent L B s D [] = Unit {0}
-Sent L B s D (turned g ∷ es) = Sends B s D g × Sent L B s (after (turnOn L) D (turned g)) es
-Sent L B s D (cut x ∷ es) = Sent L B s (after (turnOn L) D (cut x)) es
+abbrev pub AllSent : List ℕ → List ℕ → ℕ → Disk → List (Event Segment) → Type 0
+AllSent L B s D [] = Unit {0}
+AllSent L B s D (turned g ∷ es) = Sends B s D g × AllSent L B s (after (turnOn L) D (turned g)) es
+AllSent L B s D (cut x ∷ es) = AllSent L B s (after (turnOn L) D (cut x)) es
 
 -- what is kept is the lines of all pairs due in the bytes passed down, which are the front of the flow, with offsets from its opening on: none is lost, none is there twice
 pub record Heard (L B : List ℕ) (s : ℕ) (D : Disk) : Type 0 where
@@ -61,6 +63,9 @@ pub record Heard (L B : List ℕ) (s : ℕ) (D : Disk) : Type 0 where
   -- the next number is that of the next byte of the flow
   pub next : (Untouched D → ⊥) → nextNumber D ≡ (s + passed D) % circle
   pub none : Untouched D → passed D ≡ 0
+  -- no turn on a segment of the flow is the last, and one that brings the next byte moves
+  pub stays : (g : Segment) → Sends B s D g → turnOn L D g .last ≡ false
+  pub moves : (g : Segment) (w : Sends B s D g) → w .from ≤ passed D → passed D < w .from + length (g .bytes) → passed D < passed (after (turnOn L) D (turned g))
   -- and where nothing more comes the turn adds the last line
   pub ended : (start : ℕ) (rest : List ℕ) → kept D ++ turnOf true false L (D .state) false start rest .text ≡ linesTo L B (passed D) ++ lastLine 0 (passed D)
 
@@ -68,5 +73,11 @@ pub record Heard (L B : List ℕ) (s : ℕ) (D : Disk) : Type 0 where
 abbrev pub SegmentsKilled : Type 0
 SegmentsKilled =
     (L B : List ℕ) → openFlow L noRecord noWords .refusal ≡ 0 → Bytes B → length B < wholeNumbers → length (linesTo L B (length B)) < wholeNumbers
-    → (s : ℕ) → s < circle → (es : List (Event Segment)) → Sent L B s (begun L segmentsKind) es
+    → (s : ℕ) → s < circle → (es : List (Event Segment)) → AllSent L B s (begun L segmentsKind) es
     → Heard L B s (afterAll (turnOn L) (begun L segmentsKind) es)
+
+-- `again`: a segment that has to be sent again begins ahead of the next byte still, so that nothing of it was passed down
+abbrev pub AgainAhead : Type 0
+AgainAhead =
+    (L : List ℕ) (g : Sent) (K : Kept) (out : List ℕ) → length (K .held) ≡ heldSize → K .length ≤ heldSize → length (g .bytes) ≤ mostSegment
+    → plainSegment L g K out .refusal ≡ 18 → ahead (nextOf (plainWay L) g (plainSegment L g K out .kept)) (g .start) ≡ true
