@@ -428,30 +428,12 @@ fn prepare(list: &[u8], lent: &mut [u8], index: &mut [u8]) -> Made {
 
 mod proved {
     use super::{Made, Stood};
+    use crate::call::call;
     use crate::flow::Fed;
-    use crate::raw::{watch_fill_index, watch_prepare, watch_prepared_feed};
     use crate::table::Table;
 
-    // SAFETY of each call below: every pointer and length are those of one slice, and the borrow rules keep the lent buffers apart.
-
     pub fn fill(list: &[u8], bound: u64, table: &Table, index: &mut [u8]) -> u32 {
-        unsafe {
-            watch_fill_index(
-                list.as_ptr(),
-                list.len(),
-                bound,
-                table.classes.as_ptr(),
-                table.classes.len(),
-                table.parts.as_ptr(),
-                table.parts.len(),
-                table.rows.as_ptr(),
-                table.rows.len(),
-                table.splits.as_ptr(),
-                table.splits.len(),
-                index.as_mut_ptr(),
-                index.len(),
-            )
-        }
+        call!(watch_fill_index(&list, bound, &table.classes, &table.parts, &table.rows, &table.splits, &mut index))
     }
 
     pub fn feed(
@@ -463,31 +445,14 @@ mod proved {
         piece: &[u8],
         pairs: &mut [u32],
     ) -> Stood {
-        let stood = unsafe {
-            watch_prepared_feed(
-                splits.as_ptr(),
-                splits.len(),
-                index.as_ptr(),
-                index.len(),
-                split,
-                flow.as_mut_ptr(),
-                flow.len(),
-                start,
-                piece.as_ptr(),
-                piece.len(),
-                pairs.as_mut_ptr(),
-                pairs.len(),
-            )
-        };
+        let stood = call!(watch_prepared_feed(&splits, &index, split, &mut flow, start, &piece, &mut pairs));
         let fed =
             Fed { refusal: stood.refusal, bytes: stood.bytes as usize, pairs: stood.pairs as usize, all: stood.all };
         Stood { fed, split: stood.split }
     }
 
     pub fn prepare(list: &[u8], splits: &mut [u8], index: &mut [u8]) -> Made {
-        let made = unsafe {
-            watch_prepare(list.as_ptr(), list.len(), splits.as_mut_ptr(), splits.len(), index.as_mut_ptr(), index.len())
-        };
+        let made = call!(watch_prepare(&list, &mut splits, &mut index));
         Made { refusal: made.refusal, splits: made.splits as usize, index: made.index as usize }
     }
 }

@@ -252,37 +252,20 @@ pub fn feed(list: &[u8], record: &mut [u8], start: u64, piece: &[u8], pairs: &mu
 // ---- the proved functions
 
 mod proved {
+    use crate::call::call;
     use crate::flow::Fed;
-    use crate::raw::{watch_check_list, watch_feed, watch_open};
-
-    // SAFETY of each call below: every pointer and length are those of one slice, and the borrow rules keep the lent buffers apart.
 
     pub fn check(list: &[u8]) -> u32 {
-        unsafe { watch_check_list(list.as_ptr(), list.len()) }
+        call!(watch_check_list(&list))
     }
 
     pub fn open(list: &[u8], flow: &mut [u8], pairs: &mut [u32]) -> Fed {
-        let opened = unsafe {
-            watch_open(list.as_ptr(), list.len(), flow.as_mut_ptr(), flow.len(), pairs.as_mut_ptr(), pairs.len())
-        };
+        let opened = call!(watch_open(&list, &mut flow, &mut pairs));
         Fed { refusal: opened.refusal, bytes: 0, pairs: opened.pairs as usize, all: false }
     }
 
     pub fn feed(list: &[u8], flow: &mut [u8], start: u64, piece: &[u8], pairs: &mut [u32]) -> Fed {
-        let fed = unsafe {
-            watch_feed(
-                list.as_ptr(),
-                list.len(),
-                flow.as_mut_ptr(),
-                flow.len(),
-                start,
-                piece.as_ptr(),
-                piece.len(),
-                pairs.as_mut_ptr(),
-                pairs.len(),
-            )
-        };
-        fed.into()
+        call!(watch_feed(&list, &mut flow, start, &piece, &mut pairs)).into()
     }
 }
 

@@ -1,6 +1,6 @@
 //! The automaton with bits and counters: the proved functions, ordinary Rust of the same algorithm, and the rows that compare them.
+use crate::call::call;
 use crate::flow::{refused, Fed};
-use crate::raw::{watch_x_check, watch_x_feed, watch_x_open};
 use crate::row::{Both, Buffers, Call, Row, Side};
 use crate::sizes::{X_FLOW_SIZE, X_MOVES_SIZE, X_OFF, X_PROGRAM_SIZE};
 
@@ -247,35 +247,16 @@ fn by_rust(work: &Work, record: &mut [u8], pairs: &mut [u32]) -> Fed {
 
 /// The row by the proved code.
 fn proved(work: &Work, record: &mut [u8], pairs: &mut [u32]) -> Fed {
-    let (moves, programs) = (&work.moves[..], &work.programs[..]);
-    let (m, ml, p, pl) = (moves.as_ptr(), moves.len(), programs.as_ptr(), programs.len());
+    let (moves, programs) = (&work.moves, &work.programs);
     match &work.ask {
-        // SAFETY, here and below: pointers and lengths are those of borrowed slices, and what is written is borrowed as mutable.
-        Ask::Check => answered(unsafe { watch_x_check(m, ml, p, pl) }, 0),
+        Ask::Check => answered(call!(watch_x_check(&moves, &programs)), 0),
         Ask::Open => {
-            let opened = unsafe {
-                watch_x_open(m, ml, p, pl, record.as_mut_ptr(), record.len(), pairs.as_mut_ptr(), pairs.len())
-            };
+            let opened = call!(watch_x_open(&moves, &programs, &mut record, &mut pairs));
             answered(opened.refusal, opened.pairs as usize)
         }
         Ask::Feed { flow, piece } => {
             record.copy_from_slice(flow);
-            let fed = unsafe {
-                watch_x_feed(
-                    m,
-                    ml,
-                    p,
-                    pl,
-                    record.as_mut_ptr(),
-                    record.len(),
-                    0,
-                    piece.as_ptr(),
-                    piece.len(),
-                    pairs.as_mut_ptr(),
-                    pairs.len(),
-                )
-            };
-            fed.into()
+            call!(watch_x_feed(&moves, &programs, &mut record, 0, &piece, &mut pairs)).into()
         }
     }
 }

@@ -10,7 +10,9 @@
 //! third side, hash, is there for the split feed: Rust that looks the splits up in a hash map.
 //!
 //! Each family of the library has a file, with its rows, ordinary Rust of its functions, and the calls of the proved ones: list, table, matrix,
-//! index, machine, certificate, segment, text, why. The functions and sizes of the face are those of the Rust crate.
+//! index, machine, certificate, segment, text, why. The functions and sizes of the face, and the one way to call it, are the Rust crate's.
+#[path = "../../bindings/rust/src/call.rs"]
+mod call;
 mod certificate;
 mod clock;
 mod flow;

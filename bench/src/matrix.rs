@@ -92,32 +92,15 @@ pub fn feed(list: &[u8], matrix: &[u8], record: &mut [u8], start: u64, piece: &[
 // ---- the proved functions
 
 mod proved {
+    use crate::call::call;
     use crate::flow::Fed;
-    use crate::raw::{watch_fill_matrix, watch_matrix_feed};
-
-    // SAFETY of each call below: every pointer and length are those of one slice, and the borrow rules keep the lent buffers apart.
 
     pub fn fill(list: &[u8], matrix: &mut [u8]) -> u32 {
-        unsafe { watch_fill_matrix(list.as_ptr(), list.len(), matrix.as_mut_ptr(), matrix.len()) }
+        call!(watch_fill_matrix(&list, &mut matrix))
     }
 
     pub fn feed(list: &[u8], matrix: &[u8], record: &mut [u8], start: u64, piece: &[u8], pairs: &mut [u32]) -> Fed {
-        let fed = unsafe {
-            watch_matrix_feed(
-                list.as_ptr(),
-                list.len(),
-                matrix.as_ptr(),
-                matrix.len(),
-                record.as_mut_ptr(),
-                record.len(),
-                start,
-                piece.as_ptr(),
-                piece.len(),
-                pairs.as_mut_ptr(),
-                pairs.len(),
-            )
-        };
-        fed.into()
+        call!(watch_matrix_feed(&list, &matrix, &mut record, start, &piece, &mut pairs)).into()
     }
 }
 

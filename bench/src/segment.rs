@@ -1,7 +1,8 @@
 //! Segments by sequence number: the proved functions, ordinary Rust of the same algorithm, and the rows that compare them. A call takes a segment and asks
 //! for the part that is then due.
+use crate::call::call;
 use crate::flow::Fed;
-use crate::raw::{watch_due, watch_take, WatchHeld as Held, WatchPart as Part};
+use crate::raw::{WatchHeld as Held, WatchPart as Part};
 use crate::row::{Both, Buffers, Call, Row, Side};
 use crate::sizes::{HELD_SIZE, MOST_SEGMENT};
 
@@ -89,12 +90,8 @@ fn by_rust(work: &Work, held: &mut [u8]) -> Fed {
 /// The row by the proved code.
 fn proved(work: &Work, held: &mut [u8]) -> Fed {
     let Work { next, first, .. } = *work;
-    let (bytes, length) = (work.segment.as_ptr(), work.segment.len());
-    // SAFETY: pointers and lengths are those of borrowed slices, and what is written is borrowed as mutable.
-    let place =
-        unsafe { watch_take(next, held.as_mut_ptr(), held.len(), work.start, work.length, first, bytes, length) };
-    // SAFETY: as above; nothing is written.
-    let part = unsafe { watch_due(next, held.as_ptr(), held.len(), place.start, place.length, first, bytes, length) };
+    let place = call!(watch_take(next, &mut held, work.start, work.length, first, &work.segment));
+    let part = call!(watch_due(next, &held, place.start, place.length, first, &work.segment));
     answered(place, part)
 }
 

@@ -1,8 +1,8 @@
 //! Why a pair is due: the proved question, ordinary Rust of the same algorithm, and the rows that compare them. A call asks why of the last pair of its piece.
+use crate::call::call;
 use crate::flow::Fed;
 use crate::inputs;
 use crate::list::{self, accepted, from, records, start_set, step, target, Record, ACCEPT};
-use crate::raw::watch_why;
 use crate::row::{Both, Buffers, Call, Row, Side};
 use crate::sets::States;
 use crate::sizes::{FLOW_SIZE, SET_SIZE, STATES};
@@ -85,24 +85,16 @@ fn by_rust(work: &Work, place: &mut Vec<u8>) -> Fed {
 fn proved(work: &Work, place: &mut Vec<u8>) -> Fed {
     let mut run = vec![0; work.piece.len() + 1];
     place.resize(SET_SIZE * run.len(), 0);
-    // SAFETY: each pointer and length is that of a slice that is borrowed over the call, and the two that are written overlap nothing.
-    let refusal = unsafe {
-        watch_why(
-            work.list.as_ptr(),
-            work.list.len(),
-            work.flow.as_ptr(),
-            work.flow.len(),
-            0,
-            work.piece.as_ptr(),
-            work.piece.len(),
-            work.signature,
-            work.piece.len() as u64,
-            run.as_mut_ptr(),
-            run.len(),
-            place.as_mut_ptr(),
-            place.len(),
-        )
-    };
+    let refusal = call!(watch_why(
+        &work.list,
+        &work.flow,
+        0,
+        &work.piece,
+        work.signature,
+        work.piece.len() as u64,
+        &mut run,
+        &mut place
+    ));
     answered(refusal, &run)
 }
 
