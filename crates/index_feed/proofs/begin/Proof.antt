@@ -1,6 +1,7 @@
 -- `begin` is the hint where it holds, else it seeks. Assumes nothing.
 use borrow.Author.Needs.{needs}
 use mathlib.Core.Path.{sym, ap, _∙_}
+use native.Mathlib.Omega.{arith}
 use Rattle.index.specs.Stand.{soughtOf}
 use Rattle.index_feed.proofs.begin.Statement.{statement}
 use Rattle.index_feed.proofs.begin.Tie as tie
@@ -9,7 +10,7 @@ returns : tie.Need-returns
 returns c = sym (rw (c .if1 .taken))
 
 from-bytes-requires : tie.Need-from-bytes-requires
-from-bytes-requires c κs = c .before .before .before .pre
+from-bytes-requires c κs = omega (arith, c .before .before .before .pre)
 
 find-requires : tie.Need-find-requires
 find-requires c κs = search needs
