@@ -644,9 +644,20 @@ fn rows() -> Vec<Row> {
             );
         }
     }
+    // One byte of the order that is told leaves a split and tells nothing: the one that tells is fed where the order has begun.
+    type Kind = (&'static str, fn() -> Bytes, fn(usize) -> Vec<u8>);
+    const ONE: [Kind; 3] = [
+        (QUIET, inputs::busy_start, inputs::quiet_bytes),
+        ("a byte that leaves", inputs::busy_start, inputs::busy_telling),
+        ("a byte that tells two pairs", inputs::busy_begun, inputs::busy_end),
+    ];
+    const MORE: [Kind; 2] = [
+        (QUIET, inputs::busy_start, inputs::quiet_bytes),
+        (TELLING, inputs::busy_start, inputs::busy_telling),
+    ];
     for splits in [16, 256, MOST_SPLITS] {
-        for (bytes, turn) in [(1, 64), (64, 32), (4096, 8)] {
-            for (kind, make) in busy {
+        for (bytes, turn, kinds) in [(1, 64, &ONE[..]), (64, 32, &MORE), (4096, 8, &MORE)] {
+            for &(kind, first, make) in kinds {
                 let pieces = match bytes {
                     1 => "1 byte".into(),
                     _ => format!("{} bytes", number(bytes)),
@@ -660,8 +671,7 @@ fn rows() -> Vec<Row> {
                     Box::new(move || {
                         let (list, bound) = (inputs::busy_list(), SLOTS as u64);
                         let table = inputs::busy_table(splits, bound);
-                        let first = inputs::busy_start();
-                        let call = prepared_fed(&list, bound, table, first, make(bytes));
+                        let call = prepared_fed(&list, bound, table, first(), make(bytes));
                         (list, call)
                     }),
                 );
