@@ -2,7 +2,7 @@
 //! the rows that compare them. The loops are those of the proved library: turns of four bytes, the bytes that tell between them, and blocks of 32 bytes passed
 //! where a feed stays at a place.
 use crate::flow::{read_flow, refused, tell, Fed};
-use crate::inputs::{self, BUSY};
+use crate::inputs;
 use crate::join;
 use crate::later::{chunks, chunks_mut};
 use crate::list::{
@@ -606,18 +606,32 @@ impl Call for Line {
     }
 }
 
+/// What a row of the busy table feeds: its name, where the flow begins, and the bytes.
+type Kind = (&'static str, fn() -> inputs::Bytes, fn(usize) -> Vec<u8>);
+
+/// One byte of the order that is told leaves a split and tells nothing: the one that tells is fed where the order has begun.
+const ONE: [Kind; 3] = [
+    (inputs::QUIET, inputs::busy_start, inputs::quiet_bytes),
+    ("a byte that leaves", inputs::busy_start, inputs::busy_telling),
+    ("a byte that tells two pairs", inputs::busy_begun, inputs::busy_end),
+];
+const MORE: [Kind; 2] = [
+    (inputs::QUIET, inputs::busy_start, inputs::quiet_bytes),
+    (inputs::TELLING, inputs::busy_start, inputs::busy_telling),
+];
+
 /// The rows of the prepared feed on tables.
 fn table_feeds() -> Vec<Row> {
     let mut rows = Vec::new();
     for splits in [16, 256, MOST_SPLITS] {
-        for (bytes, turn) in [(1, 64), (64, 32), (4096, 8)] {
-            for (kind, make) in BUSY {
+        for (bytes, turn, kinds) in [(1, 64, &ONE[..]), (64, 32, &MORE), (4096, 8, &MORE)] {
+            for &(kind, first, make) in kinds {
                 let pieces = inputs::pieces(bytes);
                 let name = format!("prepared feed, {} splits, pieces of {pieces}, {kind}", number(splits));
                 rows.push(Row::new(name, turn, move || {
                     let (list, bound) = (inputs::busy_list(), SLOTS as u64);
                     let table = inputs::busy_table(splits, bound);
-                    Indexed::new(&list, bound, table, inputs::busy_start(), make(bytes))
+                    Indexed::new(&list, bound, table, first(), make(bytes))
                 }));
             }
         }

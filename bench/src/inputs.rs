@@ -317,6 +317,15 @@ pub fn busy_start() -> Bytes {
     set_of(STAY)
 }
 
+/// The same where the first order has begun, and the byte that ends it and tells its two pairs.
+pub fn busy_begun() -> Bytes {
+    join([busy_start(), set_of([2])])
+}
+
+pub fn busy_end(_: usize) -> Vec<u8> {
+    vec![digit(0)]
+}
+
 /// As `telling_bytes`, of the orders of the busy list.
 pub fn busy_telling(n: usize) -> Vec<u8> {
     telling(BUSY_ORDERS, n)
