@@ -247,6 +247,14 @@ pub reached-bit : (x : ℕ) → holds x 2 ≡ eqb (x / 4 % 2) 1
 unfolding holds
 reached-bit x = refl
 
+-- the marks laid over one another have the bit exactly when some has it
+pub none-bit : holds 0 1 ≡ false
+none-bit = holds-empty 1
+
+pub some-bit : (w : List ℕ) (all s : ℕ) → holds all 1 ≡ some s (λ q. holds (getD w q 0) 1) → holds (bitOr all (getD w s 0)) 1 ≡ some (s + 1) (λ q. holds (getD w q 0) 1)
+unfolding some join
+some-bit w all s e = holds-join all (getD w s 0) 1 ∙ rw (add-one s, e)
+
 pub none-more : (p : ℕ → Bool) (s : ℕ) → some s p ≡ false → p s ≡ false → some (s + 1) p ≡ false
 unfolding some
 none-more p s h e = rw (add-one s, h, e)

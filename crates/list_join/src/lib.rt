@@ -220,17 +220,16 @@ fn end_below(marks: &[u8], m: usize) -> usize
     end_near(marks, s)
 }
 
-// Says whether some mark has the bit of a start.
+// Says whether some mark has the bit of a start. All of them are laid over one another, which the compiler does many at a time.
 fn some_start(marks: &[u8]) -> bool
     requires { ⌜ length (now marks) ≡ states ⌝ }
     ensures { λ r. ⌜ r ≡ some states (λ s. holds (getD (now (marks .entry)) s 0) 1) ⌝ }
 {
+    let mut all = 0u8;
     for s in 0..sets::STATES {
-        if marks[s] / 2 % 2 == 1 {
-            return true;
-        }
+        all = all | marks[s];
     }
-    false
+    all / 2 % 2 == 1
 }
 
 // The outline of a list that is refused.
