@@ -12,6 +12,7 @@ use Rattle.list.specs.Automaton.{start, accepted}
 use Rattle.feed.specs.Pairs.{Pair}
 use Rattle.feed.specs.Engine.{Engine, Outcome, run, costs, room, feed}
 use Rattle.list_flow.specs.Flow.{flowLayout, frontierOf, offsetOf, rowsOf, badFlow, feedRules}
+use Rattle.list_flow.specs.Opening.{opened, openPairs, firstRules, openRules, openFlow}
 use Rattle.feed.specs.Calls.{Bytes, costing, outcome, ruled, asked, allBytes, allTold, recordAfter, Pieces, Along}
 use Rattle.feed.specs.Demands.{Unchanged, Answered, OneOpening, OneFeed, Tells, Counts, Flowed, Onward, Cuts}
 use Rattle.feed.specs.Opening.{Opening}
