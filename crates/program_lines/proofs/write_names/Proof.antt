@@ -1,8 +1,8 @@
 -- `write_names` is safe. Assumes nothing.
 use borrow.Author.Needs.{needs}
 use Prim.Native.Nat.{_≤_, _-_}
-use Rattle.program_compile.proofs.write_names.Statement.{statement}
-use Rattle.program_compile.proofs.write_names.Tie as tie
+use Rattle.program_lines.proofs.write_names.Statement.{statement}
+use Rattle.program_lines.proofs.write_names.Tie as tie
 
 abbrev Inv-loop : tie.InvT-loop
 Inv-loop fd file names g₀ g = g ≤ 256

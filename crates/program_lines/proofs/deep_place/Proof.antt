@@ -2,8 +2,8 @@
 use borrow.Author.Needs.{needs}
 use Prim.Native.Nat.{_≤_, _-_}
 use lib.ListN.{length}
-use Rattle.program_compile.proofs.deep_place.Statement.{statement}
-use Rattle.program_compile.proofs.deep_place.Tie as tie
+use Rattle.program_lines.proofs.deep_place.Statement.{statement}
+use Rattle.program_lines.proofs.deep_place.Tie as tie
 
 abbrev Inv-loop : tie.InvT-loop
 Inv-loop text depth₀ class₀ i₀ i-end depth class i = i ≤ length text

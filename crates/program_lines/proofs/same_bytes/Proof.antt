@@ -1,8 +1,8 @@
 -- `same_bytes` is safe. Assumes nothing.
 use borrow.Author.Needs.{needs}
 use Prim.Native.Nat.{_≤_, _-_}
-use Rattle.program_compile.proofs.same_bytes.Statement.{statement}
-use Rattle.program_compile.proofs.same_bytes.Tie as tie
+use Rattle.program_lines.proofs.same_bytes.Statement.{statement}
+use Rattle.program_lines.proofs.same_bytes.Tie as tie
 
 abbrev Inv-loop : tie.InvT-loop
 Inv-loop file a b n i₀ i = i ≤ n

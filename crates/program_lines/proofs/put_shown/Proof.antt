@@ -5,8 +5,8 @@ use Rattle.io.proofs.Counting.{counts}
 use Prim.Native.Nat.{_≤_, _-_}
 use lib.ListN.{length}
 use mathlib.Core.Path.{_≡_}
-use Rattle.program_compile.proofs.put_shown.Statement.{statement}
-use Rattle.program_compile.proofs.put_shown.Tie as tie
+use Rattle.program_lines.proofs.put_shown.Statement.{statement}
+use Rattle.program_lines.proofs.put_shown.Tie as tie
 
 abbrev Inv-loop : tie.InvT-loop
 Inv-loop line from text₀ i₀ i-end text i = (i-end ≡ length text₀) × (length text ≡ length text₀) × (i ≤ i-end)
