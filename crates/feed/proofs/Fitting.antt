@@ -6,7 +6,8 @@ use mathlib.Core.List.{List}
 use native.Mathlib.Omega.{arith}
 use lib.ListN.{length, getD}
 use borrow.Author.Tests.{le-leb, lt-leb, leb-true, leb-false}
-use Rattle.sets.specs.Set.{signatures, size, members, placed}
+use Rattle.numbers.specs.Number.{placed}
+use Rattle.sets.specs.Set.{signatures, size, members}
 use Rattle.feed.specs.Engine.{Engine, room, consumed, pairsAt}
 use Rattle.feed.specs.inner.Going.{Going}
 use Rattle.feed.proofs.Looping.{more-by, stop-by}

@@ -10,9 +10,10 @@ use native.Mathlib.Nat.{zero-add}
 use lib.ListN.{length, getD, take, drop}
 use lib.Seq.{take-at}
 use borrow.Author.Tests.{eq-eqb, ne-eqb, le-ltb, ltb-false}
-use Rattle.sets.specs.Set.{signatures, members, holds, placed}
+use Rattle.numbers.specs.Number.{placed}
+use Rattle.sets.specs.Set.{signatures, members, holds}
 use Rattle.sets.proofs.Members.{members-at, members-all, members-rise}
-use Rattle.sets.proofs.Placing.{placed-fits}
+use Rattle.numbers.proofs.Placing.{placed-fits}
 use Rattle.rules.specs.Rules.{Rule, verdict}
 use Rattle.rules.proofs.Scanning.{choose}
 use Rattle.rules.proofs.Rules as rules

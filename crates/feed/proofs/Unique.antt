@@ -3,7 +3,8 @@ use mathlib.Core.Path.{_≡_, sym, ap, _∙_}
 use mathlib.Core.List.{List}
 use mathlib.Core.Bool.{Bool, cond}
 use Prim.Native.Nat.{ℕ, _+_, _*_}
-use Rattle.sets.specs.Set.{signatures, size, members, placed}
+use Rattle.numbers.specs.Number.{placed}
+use Rattle.sets.specs.Set.{signatures, size, members}
 use Rattle.rules.specs.Rules.{verdict}
 use Rattle.feed.specs.declared.Fed.{Fed}
 use Rattle.feed.specs.Engine.{Outcome, pairsAt}

@@ -61,10 +61,10 @@ pub fn find(splits: &[u8], f: StateSet) -> usize
     while lo < hi {
         let mid = (lo + hi) / 2;
         let met = f.compare_whole(splits, table::SPLIT_SIZE * mid);
-        if met == sets::SAME {
+        if met == numbers::SAME {
             return mid;
         }
-        if met == sets::BEFORE {
+        if met == numbers::BEFORE {
             lo = mid + 1;
         } else {
             hi = mid;

@@ -8,7 +8,8 @@ ghost use mathlib.Core.List.{[], _∷_, _++_};
 ghost use Prim.Native.Nat.{_+_, _*_, _-_, _/_, _<_, _≤_, _^_};
 ghost use lib.ListN.{length};
 ghost use lib.Dec.{leb, ltb, eqb};
-ghost use Rattle.sets.specs.Set.{setSize, setBytes, setAt, placed};
+ghost use Rattle.numbers.specs.Number.{placed};
+ghost use Rattle.sets.specs.Set.{setSize, setBytes, setAt};
 ghost use Rattle.rules.specs.Rules.{verdict};
 ghost use Rattle.feed.specs.Engine.{mostOffset};
 ghost use Rattle.feed.specs.Fed.{Answers};
@@ -260,10 +261,10 @@ fn advance(flow: &mut [u8], offset: u64, rows: u64)
     requires { ⌜ (length (now flow) ≡ flowSize) × (rowsOf (now flow) + rows < 2 ^ 64) ⌝ }
     ensures { λ r. ⌜ now (flow .exit) ≡ flowBytes (frontierOf (now (flow .entry))) offset (rowsOf (now (flow .entry)) + rows) ⌝ }
 {
-    let all = sets::number_at(flow, list_flow::ROWS_AT, 8) + rows;
-    sets::put_number(flow, list_flow::OFFSET_AT, 4, offset);
-    sets::put_number(flow, list_flow::RESERVED_AT, 4, 0);
-    sets::put_number(flow, list_flow::ROWS_AT, 8, all);
+    let all = numbers::number_at(flow, list_flow::ROWS_AT, 8) + rows;
+    numbers::put_number(flow, list_flow::OFFSET_AT, 4, offset);
+    numbers::put_number(flow, list_flow::RESERVED_AT, 4, 0);
+    numbers::put_number(flow, list_flow::ROWS_AT, 8, all);
 }
 
 // Saves a record at an offset, with more rows: at split i of n, where the feed has moved there.

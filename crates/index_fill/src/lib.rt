@@ -6,7 +6,8 @@ ghost use mathlib.Core.Bool.{true, not, cond};
 ghost use Prim.Native.Nat.{ℕ, _+_, _*_, _^_, _≤_, _<_};
 ghost use lib.ListN.{length, getD, take, drop};
 ghost use lib.Dec.{eqb};
-ghost use Rattle.sets.specs.Set.{states, setSize, setOf, sigsOf, num, digits, within, placed};
+ghost use Rattle.numbers.specs.Number.{num, digits, placed};
+ghost use Rattle.sets.specs.Set.{states, setSize, setOf, sigsOf, within};
 ghost use Rattle.rules.specs.Scan.{every};
 ghost use Rattle.list.specs.Automaton.{step, accepted, accepting, named};
 ghost use Rattle.table.specs.Table.{table, byteValues, mostSplits, part, splitCount, splitSet, slots, takenSlots, inOrder};
@@ -62,8 +63,8 @@ fn fill_word(
 {
     let low = lows[c] as usize;
     if low < c {
-        let w = sets::whole_number(index, at + 4 * low, 4);
-        sets::put_number(index, at + 4 * c, 4, w);
+        let w = numbers::whole_number(index, at + 4 * low, 4);
+        numbers::put_number(index, at + 4 * c, 4, w);
         return;
     }
     let w = word_of(
@@ -72,7 +73,7 @@ fn fill_word(
         splits,
         StateSet::from_bytes(work, sets::BYTES * c),
     );
-    sets::put_number(index, at + 4 * c, 4, w);
+    numbers::put_number(index, at + 4 * c, 4, w);
 }
 
 // Writes the words of the bytes, which lead to the sets of `work`, into the entry at a place.

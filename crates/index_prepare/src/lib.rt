@@ -7,7 +7,8 @@ ghost use mathlib.Core.List.{List};
 ghost use Prim.Native.Nat.{ℕ, _+_, _*_, _^_, _<_, _≤_};
 ghost use lib.ListN.{length, getD};
 ghost use lib.Dec.{ltb};
-ghost use Rattle.sets.specs.Set.{states, setSize, setOf, placed};
+ghost use Rattle.numbers.specs.Number.{placed};
+ghost use Rattle.sets.specs.Set.{states, setSize, setOf};
 ghost use Rattle.list.specs.Automaton.{step};
 ghost use Rattle.table.specs.Table.{byteValues, mostSplits, splitSize, part};
 ghost use Rattle.table_build.specs.Build.{Reach, Reached, over};
@@ -117,7 +118,7 @@ fn put_split(splits: &mut [u8], i: usize, f: StateSet)
 {
     let at = table::SPLIT_SIZE * i;
     f.store(splits, at);
-    sets::put_number(splits, at + sets::BYTES, 8, NO_SLOTS);
+    numbers::put_number(splits, at + sets::BYTES, 8, NO_SLOTS);
 }
 
 // Writes a split for each of the first n parts.

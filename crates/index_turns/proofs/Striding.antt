@@ -11,7 +11,7 @@ use lib.ListN.{length, getD}
 use lib.Dec.{eqb}
 use borrow.Author.Tests.{lt-leb, le-leb, ne-eqb, leb-true}
 use Rattle.sets.specs.Set.{signatures, size, members}
-use Rattle.sets.proofs.Placing.{length-placed}
+use Rattle.numbers.proofs.Placing.{length-placed}
 use Rattle.feed.specs.Engine.{pairsAt}
 use Rattle.feed.proofs.Going.{stop, finish}
 use Rattle.feed.specs.declared.Told.{Told}

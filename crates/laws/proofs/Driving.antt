@@ -10,8 +10,8 @@ use lib.ListN.{length, getD, set, take, drop, length-append}
 use lib.Seq.{length-take-le, take-append-add, take-append-le, take-take, take-add, take-at, getD-drop}
 use lib.Dec.{eqb}
 use borrow.Rule.Slice.PartMut.{midOf, postOf, putMid, same-len-mid, mid-len}
-use Rattle.sets.specs.Set.{placed}
-use Rattle.sets.proofs.Placing.{placed-fits, placed-none, placed-one}
+use Rattle.numbers.specs.Number.{placed}
+use Rattle.numbers.proofs.Placing.{placed-fits, placed-none, placed-one}
 use Rattle.rules.specs.Rules.{verdict}
 use Rattle.list.specs.List.{listRefusal}
 use Rattle.feed.specs.Calls.{Bytes, recordAfter, allTold, allBytes, outcome, ruled, asked, Along}

@@ -10,7 +10,7 @@ use Rattle.rules.specs.Words.{Row}
 use Rattle.list.specs.List.{recordSize, mostRecords, records}
 use Rattle.list.specs.Automaton.{start, step, accepted}
 use Rattle.list.specs.Words.{Edge-bytes, Start-bytes, Accept-bytes, Names-bytes}
-use Rattle.sets.specs.Order.{Smaller}
+use Rattle.numbers.specs.Order.{Smaller}
 use Rattle.feed.specs.Piece.{pieceWords}
 use Rattle.list_flow.specs.Flow.{flowSize, frontierOf, offsetOf, reservedOf, rowsOf}
 use Rattle.table.specs.Table.{Table, byteValues, mostClass, mostParts, mostSplits, mostBound, splitSize, classCount, partCount, splitCount}

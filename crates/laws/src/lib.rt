@@ -6,7 +6,7 @@ ghost use Prim.Native.Nat.{_≤_, _+_, _*_, _/_};
 ghost use mathlib.Core.Bool.{cond};
 ghost use mathlib.Core.Path.{_≡_};
 ghost use lib.ListN.{length, getD, take};
-ghost use Rattle.sets.specs.Set.{placed};
+ghost use Rattle.numbers.specs.Number.{placed};
 ghost use Rattle.table.specs.Table.{table};
 ghost use Rattle.feed.specs.Fed.{Answers};
 ghost use Rattle.feed.specs.Calls.{outcome};

@@ -5,7 +5,8 @@ use mathlib.Core.Bool.{Bool, true, false, _&&_}
 use mathlib.Core.List.{List, [], _∷_, _++_}
 use lib.Count.{onesIn}
 use lib.Dec.{T, eqb, eqb→eq}
-use Rattle.sets.specs.Set.{num, digits, holds, join, within, insert, size, members, setAt, sigsAt, before}
+use Rattle.numbers.specs.Number.{num, digits, before}
+use Rattle.sets.specs.Set.{holds, join, within, insert, size, members, setAt, sigsAt}
 use Rattle.rules.specs.Scan.{some, every, first, gather, rising, stack}
 use Rattle.rules.specs.Rules.{verdict}
 use Rattle.list.specs.List.{goodRecord, badLength, badRecord, noStart}

@@ -6,8 +6,9 @@ use mathlib.Core.Logic.{inl, inr}
 use native.Mathlib.Omega.{arith}
 use lib.ListN.{replicate}
 use lib.Dec.{lit<}
-use Rattle.sets.specs.Set.{digits, setBytes}
-use Rattle.sets.proofs.Laws.{small-digits}
+use Rattle.numbers.specs.Number.{digits}
+use Rattle.sets.specs.Set.{setBytes}
+use Rattle.numbers.proofs.Laws.{small-digits}
 use Rattle.list.specs.List.{badLength}
 use Rattle.rules.specs.Rules.{Rule, verdict}
 use Rattle.rules.proofs.Rules.{stop}

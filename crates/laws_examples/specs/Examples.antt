@@ -4,7 +4,8 @@ use mathlib.Core.Bool.{cond}
 use mathlib.Core.List.{List, [], _∷_, _++_}
 use mathlib.Core.Path.{_≡_}
 use lib.ListN.{replicate}
-use Rattle.sets.specs.Set.{states, signatures, setSize, digits, setBytes}
+use Rattle.numbers.specs.Number.{digits}
+use Rattle.sets.specs.Set.{states, signatures, setSize, setBytes}
 use Rattle.list.specs.List.{mostRecords, listRefusal}
 use Rattle.list.specs.Automaton.{start, edge, step}
 use Rattle.feed.specs.Engine.{Outcome, mostOffset, run}

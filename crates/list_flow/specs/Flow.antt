@@ -4,7 +4,8 @@ use mathlib.Core.Bool.{Bool, _||_, not}
 use mathlib.Core.List.{List, [], _∷_, _++_}
 use lib.ListN.{length, take, drop}
 use lib.Dec.{ltb, eqb}
-use Rattle.sets.specs.Set.{states, setSize, num, digits, setBytes, setAt, within}
+use Rattle.numbers.specs.Number.{num, digits}
+use Rattle.sets.specs.Set.{states, setSize, setBytes, setAt, within}
 use Rattle.rules.specs.Rules.{Rule}
 use Rattle.list.specs.List.{listRules}
 use Rattle.list.specs.Automaton.{named}

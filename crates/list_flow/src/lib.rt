@@ -45,21 +45,21 @@ pub struct Ran {
 pub fn offset_of(flow: &[u8]) -> u64
     ensures { λ r. ⌜ r ≡ offsetOf (now (flow .entry)) ⌝ }
 {
-    sets::number_at(flow, OFFSET_AT, 4)
+    numbers::number_at(flow, OFFSET_AT, 4)
 }
 
 // The reserved bytes of a record, as a number.
 fn reserved_of(flow: &[u8]) -> u64
     ensures { λ r. ⌜ r ≡ reservedOf (now (flow .entry)) ⌝ }
 {
-    sets::number_at(flow, RESERVED_AT, 4)
+    numbers::number_at(flow, RESERVED_AT, 4)
 }
 
 // The rows read of a record.
 fn rows_of(flow: &[u8]) -> u64
     ensures { λ r. ⌜ r ≡ rowsOf (now (flow .entry)) ⌝ }
 {
-    sets::number_at(flow, ROWS_AT, 8)
+    numbers::number_at(flow, ROWS_AT, 8)
 }
 
 // Says whether rule 4 refuses the record.
@@ -114,9 +114,9 @@ pub fn save(flow: &mut [u8], f: StateSet, offset: u64, rows: u64)
 {
     if flow.len() == FLOW_SIZE {
         f.store(flow, 0);
-        sets::put_number(flow, OFFSET_AT, 4, offset);
-        sets::put_number(flow, RESERVED_AT, 4, 0);
-        sets::put_number(flow, ROWS_AT, 8, rows);
+        numbers::put_number(flow, OFFSET_AT, 4, offset);
+        numbers::put_number(flow, RESERVED_AT, 4, 0);
+        numbers::put_number(flow, ROWS_AT, 8, rows);
     }
 }
 

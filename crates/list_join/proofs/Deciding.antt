@@ -9,8 +9,8 @@ use lib.ListN.{length, take, drop, length-append}
 use lib.Seq.{take-all, length-take-le}
 use lib.Dec.{eqb, ltb, leb}
 use borrow.Author.Tests.{eq-eqb, ne-eqb, ltb-true, ltb-false, eqb-true, not-false, le-leb, lt-leb}
-use Rattle.sets.specs.Set.{placed}
-use Rattle.sets.proofs.Placing.{placed-fits, placed-after}
+use Rattle.numbers.specs.Number.{placed}
+use Rattle.numbers.proofs.Placing.{placed-fits, placed-after}
 use Rattle.rules.specs.Scan.{every, stack}
 use Rattle.rules.proofs.Scanning.{neither, choose}
 use Rattle.rules.specs.Rules.{verdict}

@@ -12,9 +12,10 @@ use lib.Seq.{drop-cons, getD-take, getD-drop, getD-set-same, getD-set-other}
 use lib.Dec.{eqb, ltb}
 use lib.Bits.{bitOr}
 use borrow.Author.Tests.{eqb-true, eqb-false, eq-eqb, ne-eqb, lt-ltb, ltb-true}
-use Rattle.sets.specs.Set.{states, num, holds, join, insert}
-use Rattle.sets.proofs.Laws.{Small, small-zeros}
-use Rattle.sets.proofs.Bytes.{num-two}
+use Rattle.numbers.specs.Number.{num}
+use Rattle.sets.specs.Set.{states, holds, join, insert}
+use Rattle.numbers.proofs.Laws.{Small, small-zeros}
+use Rattle.numbers.proofs.Bytes.{num-two}
 use Rattle.sets.proofs.Sets.{or-false, holds-join, holds-insert, holds-empty}
 use Rattle.rules.specs.Scan.{some, every, first, gather}
 use Rattle.rules.proofs.Scanning.{both, choose, below-suc, or-true, and-false, some-intro, some-elim, every-at, gather-exactly}

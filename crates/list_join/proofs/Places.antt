@@ -8,8 +8,9 @@ use lib.ListN.{length, getD, take, drop, length-append, List·getD-append}
 use lib.Dec.{eqb}
 use lib.Seq.{getD-append-add}
 use borrow.Author.Tests.{eqb-true, eq-eqb}
-use Rattle.sets.specs.Set.{states, num}
-use Rattle.sets.proofs.Laws.{Small}
+use Rattle.numbers.specs.Number.{num}
+use Rattle.sets.specs.Set.{states}
+use Rattle.numbers.proofs.Laws.{Small}
 use Rattle.rules.specs.Scan.{stack}
 use Rattle.rules.proofs.Scanning.{both, below-suc, choose}
 use Rattle.list.specs.List.{records, isEdge, isStart, from, target}

@@ -6,7 +6,8 @@ ghost use mathlib.Core.Bool.{true, false, _&&_, cond};
 ghost use lib.Dec.{eqb};
 ghost use Prim.Native.Nat.{ℕ, suc, _+_, _*_, _<_, _≤_};
 ghost use lib.ListN.{length, take, drop, getD, set};
-ghost use Rattle.sets.specs.Set.{states, num, holds, placed};
+ghost use Rattle.numbers.specs.Number.{num, placed};
+ghost use Rattle.sets.specs.Set.{states, holds};
 ghost use Rattle.rules.specs.Scan.{some};
 ghost use Rattle.list.specs.List.{mostRecords, records, isEdge, isStart, low, high, from, target, goodRecord, listRefusal};
 ghost use Rattle.list.specs.Automaton.{highest};
@@ -91,7 +92,7 @@ fn full(list: &[u8], i: usize) -> bool
     requires { ⌜ i < records (now list) ⌝ }
     ensures { λ r. ⌜ r ≡ (eqb (low (now (list .entry)) i) 0 && eqb (high (now (list .entry)) i) 255) ⌝ }
 {
-    sets::whole_number(list, list::RECORD_SIZE * i + 1, 2) == EVERY_BYTE
+    numbers::whole_number(list, list::RECORD_SIZE * i + 1, 2) == EVERY_BYTE
 }
 
 // Takes in a good edge that leads from a state to itself.
@@ -141,7 +142,7 @@ fn head(list: &[u8], i: usize) -> u64
     requires { ⌜ i < records (now list) ⌝ }
     ensures { λ r. ⌜ r ≡ num 8 (take 4 (drop (8 * i) (now (list .entry)))) ⌝ }
 {
-    sets::whole_number(list, list::RECORD_SIZE * i, 4)
+    numbers::whole_number(list, list::RECORD_SIZE * i, 4)
 }
 
 // Takes in record i, which is a start, where it is good; says whether it is.
@@ -212,7 +213,7 @@ fn end_below(marks: &[u8], m: usize) -> usize
 {
     let mut s = m;
     while 8 <= s {
-        if sets::whole_number(marks, s - 8, 8) != 0 {
+        if numbers::whole_number(marks, s - 8, 8) != 0 {
             return end_near(marks, s);
         }
         s = s - 8;
@@ -366,7 +367,7 @@ fn tail(list: &[u8], i: usize) -> u64
     requires { ⌜ i < records (now list) ⌝ }
     ensures { λ r. ⌜ r ≡ num 8 (take 4 (drop (8 * i + 4) (now (list .entry)))) ⌝ }
 {
-    sets::whole_number(list, list::RECORD_SIZE * i + 4, 4)
+    numbers::whole_number(list, list::RECORD_SIZE * i + 4, 4)
 }
 
 // That number where both are 1.

@@ -2,7 +2,8 @@
 use Prim.Native.Nat.{ℕ}
 use mathlib.Core.List.{List, [], _∷_, _++_}
 use lib.ListN.{take}
-use Rattle.sets.specs.Set.{digits, setBytes}
+use Rattle.numbers.specs.Number.{digits}
+use Rattle.sets.specs.Set.{setBytes}
 use Rattle.rules.specs.Scan.{first}
 use Rattle.rules.specs.Rules.{verdict}
 use Rattle.list.specs.List.{records}

@@ -9,7 +9,8 @@ use lib.ListN.{length, getD, take, drop}
 use lib.Seq.{drop-drop}
 use lib.Dec.{eqb, ltb, leb}
 use borrow.Author.Tests.{ltb-true, lt-ltb, ltb-false, le-ltb, leb-false, lt-leb, not-true}
-use Rattle.sets.specs.Set.{signatures, num, size}
+use Rattle.numbers.specs.Number.{num}
+use Rattle.sets.specs.Set.{signatures, size}
 use Rattle.rules.specs.Scan.{every}
 use Rattle.rules.proofs.Scanning.{both, choose, either-words, differ-words, over-words, length-words, refuses-exactly}
 use Rattle.feed.specs.Opening.{noRoom}

@@ -4,7 +4,7 @@ use mathlib.Core.Bool.{Bool, _||_, not}
 use mathlib.Core.List.{List, [], _∷_, _++_}
 use lib.ListN.{length, getD, take, drop}
 use lib.Dec.{leb, ltb, eqb}
-use Rattle.sets.specs.Set.{num, digits}
+use Rattle.numbers.specs.Number.{num, digits}
 use Rattle.rules.specs.Scan.{every}
 use Rattle.rules.specs.Rules.{Rule}
 use Rattle.feed.specs.Engine.{Layout}

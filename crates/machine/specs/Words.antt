@@ -6,7 +6,8 @@ use mathlib.Core.Bool.{true, false}
 use mathlib.Core.List.{List, [], _∷_, _++_}
 use mathlib.Core.Logic.{_⊎_, _↔_}
 use lib.ListN.{length, getD, replicate, take, drop}
-use Rattle.sets.specs.Set.{num, size, holds}
+use Rattle.numbers.specs.Number.{num}
+use Rattle.sets.specs.Set.{size, holds}
 use Rattle.rules.specs.Words.{Row}
 use Rattle.feed.specs.Engine.{Engine}
 use Rattle.feed.specs.Piece.{pieceWords}

@@ -8,7 +8,8 @@ ghost use mathlib.Core.Bool.{true, false};
 ghost use Prim.Native.Nat.{_+_, _*_, _/_, _≤_, _<_};
 ghost use lib.ListN.{length, take, drop};
 ghost use lib.Dec.{eqb};
-ghost use Rattle.sets.specs.Set.{signatures, sigWords, sigsOf, num, size, placed};
+ghost use Rattle.numbers.specs.Number.{num, placed};
+ghost use Rattle.sets.specs.Set.{signatures, sigWords, sigsOf, size};
 ghost use Rattle.rules.specs.Scan.{every};
 ghost use Rattle.rules.specs.Rules.{verdict};
 ghost use Rattle.feed.specs.Engine.{mostOffset, room, consumed};
@@ -203,7 +204,7 @@ fn eight_bytes(b: &[u8], at: usize) -> u64
     requires { ⌜ at + 8 ≤ length (now b) ⌝ }
     ensures { λ r. ⌜ r ≡ num 8 (take 8 (drop at (now (b .entry)))) ⌝ }
 {
-    sets::whole_number(b, at, 8)
+    numbers::whole_number(b, at, 8)
 }
 
 // Says whether the program of state q does nothing.
@@ -367,7 +368,7 @@ fn tell_alerts(pairs: &mut [u32], words: usize, g: SigSet, offset: u32) -> Told
 pub fn offset_of(flow: &[u8]) -> u64
     ensures { λ r. ⌜ r ≡ offsetOf (now (flow .entry)) ⌝ }
 {
-    sets::number_at(flow, X_OFFSET_AT, 4)
+    numbers::number_at(flow, X_OFFSET_AT, 4)
 }
 
 // The counters that stand at a place of a list of bytes, where they are all there.
@@ -377,7 +378,7 @@ fn counters_at(b: &[u8], at: usize) -> Counters
 {
     let mut c = [0u32; X_COUNTERS];
     for i in 0..X_COUNTERS {
-        c[i] = sets::whole_number(b, at + 4 * i, 4) as u32;
+        c[i] = numbers::whole_number(b, at + 4 * i, 4) as u32;
     }
     Counters { values: c }
 }
@@ -402,7 +403,7 @@ pub fn config_at(b: &[u8], at: usize, bits: usize) -> Config
     let counters = counters_at(b, at + bits + 8);
     let values = counters.values;
     Config {
-        state: sets::whole_number(b, at, 2) as usize,
+        state: numbers::whole_number(b, at, 2) as usize,
         bits: eight_bytes(b, at + bits),
         counters: values,
     }
@@ -424,7 +425,7 @@ fn bad_flow(states: usize, flow: &[u8]) -> bool
         return true;
     }
     let x = load(flow);
-    let reserved = sets::whole_number(flow, X_RESERVED_AT, 2);
+    let reserved = numbers::whole_number(flow, X_RESERVED_AT, 2);
     !(x.state < states) | (reserved != 0) | !good_counters(x)
 }
 
@@ -455,7 +456,7 @@ fn put_counters(flow: &mut [u8], c: Counters)
 {
     let values = c.values;
     for i in 0..X_COUNTERS {
-        sets::put_number(flow, X_COUNTERS_AT + 4 * i, 4, values[i] as u64);
+        numbers::put_number(flow, X_COUNTERS_AT + 4 * i, 4, values[i] as u64);
     }
 }
 
@@ -464,10 +465,10 @@ fn save(flow: &mut [u8], x: Config, offset: u64)
     requires { ⌜ length (now flow) ≡ flowSize ⌝ }
     ensures { λ r. ⌜ now (flow .exit) ≡ flowBytes x offset ⌝ }
 {
-    sets::put_number(flow, 0, 2, x.state as u64);
-    sets::put_number(flow, X_RESERVED_AT, 2, 0);
-    sets::put_number(flow, X_OFFSET_AT, 4, offset);
-    sets::put_number(flow, X_BITS_AT, 8, x.bits);
+    numbers::put_number(flow, 0, 2, x.state as u64);
+    numbers::put_number(flow, X_RESERVED_AT, 2, 0);
+    numbers::put_number(flow, X_OFFSET_AT, 4, offset);
+    numbers::put_number(flow, X_BITS_AT, 8, x.bits);
     let values = x.counters;
     put_counters(flow, Counters { values: values });
 }

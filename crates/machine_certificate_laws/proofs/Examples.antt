@@ -1,7 +1,8 @@
 -- The worked examples hold of the definitions: one table, one statement. Assumes nothing.
 use Prim.Native.Nat.{ℕ}
 use mathlib.Core.List.{List, _++_}
-use Rattle.sets.specs.Set.{num, digits, holds, join, within, insert, size, members, setAt, before, compare}
+use Rattle.numbers.specs.Number.{num, digits, before, compare}
+use Rattle.sets.specs.Set.{holds, join, within, insert, size, members, setAt}
 use Rattle.rules.specs.Scan.{some, every, gather}
 use Rattle.rules.specs.Rules.{verdict}
 use Rattle.list.specs.List.{goodRecord, badLength, badRecord, noStart}

@@ -155,7 +155,7 @@ fn step(matrix: &[u8], n: usize, wide: usize, f: &[u8], c: u8) -> Stepped
             + join_word(
                 matrix,
                 n,
-                sets::whole_number(f, 8 * i, 8),
+                numbers::whole_number(f, 8 * i, 8),
                 64 * i,
                 c,
                 &mut w,

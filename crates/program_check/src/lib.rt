@@ -107,18 +107,18 @@ fn is_state(list: &[u8], state: &[u8]) -> bool
     }
     let mut flow = [0u8; list_flow::FLOW_SIZE];
     program_turn::take_part(state, program_turn::FLOW_AT, &mut flow);
-    let offset = sets::number_at(&flow, sets::BYTES, 4);
+    let offset = numbers::number_at(&flow, sets::BYTES, 4);
     if list_flow::feed_refusal(list, &flow, offset, b"") != rules::PASSED {
         program_files::fail(b"the state has a record that the list refuses, with 4\n");
         return false;
     }
-    let held = sets::number_at(state, program_turn::HELD_LENGTH_AT, 4);
-    let kind = sets::number_at(state, program_turn::KIND_AT, 4);
+    let held = numbers::number_at(state, program_turn::HELD_LENGTH_AT, 4);
+    let kind = numbers::number_at(state, program_turn::KIND_AT, 4);
     if ((segment::HELD_SIZE as u64) < held) | (program_turn::NUMBERED < kind) {
         program_files::fail(b"the state has a kind or a held place that there is none of\n");
         return false;
     }
-    let before = sets::number_at(state, program_turn::BEFORE_AT, 8);
+    let before = numbers::number_at(state, program_turn::BEFORE_AT, 8);
     put_count(b"offset ", std::num::wrapping_add_u64(before, offset));
     true
 }

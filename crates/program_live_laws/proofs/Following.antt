@@ -8,8 +8,8 @@ use lib.ListN.{length, take, drop, length-append, take-append-drop}
 use lib.Seq.{take-append-seam, drop-append-seam, drop-append-add}
 use lib.Dec.{eqb}
 use borrow.Author.Tests.{eq-eqb, ne-eqb, le-leb}
-use Rattle.sets.specs.Set.{num, digits}
-use Rattle.sets.proofs.Laws.{num-digits, length-digits}
+use Rattle.numbers.specs.Number.{num, digits}
+use Rattle.numbers.proofs.Laws.{num-digits, length-digits}
 use Rattle.segment.specs.Resend.{circle}
 use Rattle.program_turn.specs.State.{shortAt, numbered, renewOn}
 use Rattle.program_turn.specs.Turn.{Turn, Given, headSize, noWords, isEnd, givenOf, lastTurn, linesTurn, feedTurn, turnOf}

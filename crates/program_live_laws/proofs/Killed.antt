@@ -9,7 +9,8 @@ use lib.ListN.{length, take, drop, replicate, length-take, length-drop, length-a
 use lib.Seq.{take-append-seam, take-take, take-length}
 use lib.Dec.{eqb, leb}
 use borrow.Author.Tests.{eqb-true, eqb-false, eq-eqb, ne-eqb, leb-true, le-ltb}
-use Rattle.sets.specs.Set.{num, placed, within}
+use Rattle.numbers.specs.Number.{num, placed}
+use Rattle.sets.specs.Set.{within}
 use Rattle.rules.specs.Rules.{verdict}
 use Rattle.rules.proofs.Rules.{skip, last, verdict-then, passes-front}
 use Rattle.segment.specs.Resend.{circle}

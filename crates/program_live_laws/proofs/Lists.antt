@@ -10,8 +10,8 @@ use native.Mathlib.Nat.{div-add-mod, add-mul-mod-self-right}
 use lib.ListN.{length, take, drop, replicate, length-replicate}
 use lib.Dec.{eqb, leb}
 use borrow.Author.Tests.{eqb-true, eq-eqb, leb-true}
-use Rattle.sets.specs.Set.{num, digits, placed}
-use Rattle.sets.proofs.Laws.{num-digits, length-digits}
+use Rattle.numbers.specs.Number.{num, digits, placed}
+use Rattle.numbers.proofs.Laws.{num-digits, length-digits}
 use Rattle.feed.specs.Opening.{Opening}
 use Rattle.list_flow.specs.Flow.{offsetOf}
 use Rattle.list_flow.specs.Opening.{openFlow}

@@ -5,8 +5,8 @@ use mathlib.Core.List.{List, [], _∷_}
 use native.Mathlib.Omega.{arith}
 use lib.ListN.{length, take, drop, replicate, length-replicate}
 use lib.Seq.{take-all}
-use Rattle.sets.specs.Set.{num, digits, placed}
-use Rattle.sets.proofs.Laws.{num-digits, length-digits}
+use Rattle.numbers.specs.Number.{num, digits, placed}
+use Rattle.numbers.proofs.Laws.{num-digits, length-digits}
 use Rattle.list_flow.specs.Flow.{flowSize}
 use Rattle.segment.specs.Resend.{circle, heldSize}
 use Rattle.segment_feed.specs.Segment.{Kept}

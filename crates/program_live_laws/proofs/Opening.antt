@@ -5,7 +5,7 @@ use mathlib.Core.Bool.{true, false}
 use mathlib.Core.List.{List, [], _∷_, _++_, append-nil}
 use native.Mathlib.Omega.{arith}
 use lib.ListN.{length, drop, replicate}
-use Rattle.sets.specs.Set.{num, placed}
+use Rattle.numbers.specs.Number.{num, placed}
 use Rattle.rules.specs.Rules.{verdict}
 use Rattle.list.specs.Automaton.{start}
 use Rattle.feed.specs.Engine.{told}

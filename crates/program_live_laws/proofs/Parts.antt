@@ -10,9 +10,9 @@ use lib.Seq.{take-append-seam, drop-append-seam, take-append-le, drop-append-le,
 use lib.Dec.{leb}
 use borrow.Author.Tests.{leb-true}
 use Rattle.rules.proofs.Scanning.{both}
-use Rattle.sets.specs.Set.{num, digits, placed}
-use Rattle.sets.proofs.Laws.{num-digits, length-digits}
-use Rattle.sets.proofs.Placing.{placed-fits, length-placed}
+use Rattle.numbers.specs.Number.{num, digits, placed}
+use Rattle.numbers.proofs.Laws.{num-digits, length-digits}
+use Rattle.numbers.proofs.Placing.{placed-fits, length-placed}
 use Rattle.list_flow.specs.Flow.{flowSize}
 use Rattle.program_turn.specs.State.{stateSize, wholeNumbers, longAt, wordAt, flowOf, lengthAt, sumAt, kindAt, firstAt, beforeAt, placeAt, linesAt, flowAt, plusNumber, sumOf, freshState}
 

@@ -9,7 +9,7 @@ use lib.ListN.{length, take, drop, replicate, length-take, length-append, length
 use lib.Seq.{take-append-seam, take-length}
 use lib.Dec.{lit<, eqb, leb}
 use borrow.Author.Tests.{eqb-true, eqb-false, eq-eqb, ne-eqb, leb-true}
-use Rattle.sets.specs.Set.{digits, placed}
+use Rattle.numbers.specs.Number.{digits, placed}
 use Rattle.rules.specs.Rules.{verdict}
 use Rattle.rules.proofs.Rules.{skip, passes-front}
 use Rattle.list.specs.List.{listRules}

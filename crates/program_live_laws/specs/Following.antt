@@ -4,7 +4,7 @@ use mathlib.Core.Bool.{true, false, cond}
 use mathlib.Core.List.{List, [], _∷_, _++_}
 use mathlib.Core.Path.{_≡_}
 use lib.ListN.{length, take}
-use Rattle.sets.specs.Set.{digits}
+use Rattle.numbers.specs.Number.{digits}
 use Rattle.segment.specs.Resend.{circle}
 use Rattle.program_turn.specs.Turn.{Turn, turnOf}
 use Rattle.program_live.specs.Live.{Unit, unitAt, nextOf, lessBy, textsFrom}

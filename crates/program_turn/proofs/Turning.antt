@@ -9,7 +9,7 @@ use lib.Dec.{eqb}
 use borrow.Author.Tests.{eq-eqb, ne-eqb}
 use Rattle.io.specs.Counts.{Counts}
 use Rattle.io.proofs.Counting.{counts}
-use Rattle.sets.specs.Set.{placed, digits}
+use Rattle.numbers.specs.Number.{placed, digits}
 use Rattle.feed.specs.Opening.{Opening, Opens}
 use Rattle.feed.specs.declared.Opened.{Opened}
 use Rattle.list_flow.specs.Opening.{openFlow}

@@ -6,7 +6,7 @@ use mathlib.Core.List.{List, [], _∷_, _++_}
 use lib.ListN.{length, take, getD, replicate}
 use lib.Dec.{eqb}
 use Rattle.io.specs.Counts.{Counts}
-use Rattle.sets.specs.Set.{placed}
+use Rattle.numbers.specs.Number.{placed}
 use Rattle.list_flow.specs.Flow.{flowSize, offsetOf}
 use Rattle.list_flow.specs.Opening.{openFlow}
 use Rattle.list_feed.specs.Plain.{plainFeed}

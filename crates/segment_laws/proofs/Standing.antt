@@ -9,7 +9,8 @@ use native.Mathlib.Decide.{ℕ-discrete}
 use lib.ListN.{length, drop}
 use lib.Dec.{lit<, eqb}
 use borrow.Author.Tests.{eqb-true, eqb-false}
-use Rattle.sets.specs.Set.{setBytes, digits}
+use Rattle.numbers.specs.Number.{digits}
+use Rattle.sets.specs.Set.{setBytes}
 use Rattle.rules.specs.Rules.{verdict}
 use Rattle.rules.proofs.Rules.{verdict-lt}
 use Rattle.feed.specs.Engine.{ended}

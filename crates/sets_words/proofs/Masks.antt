@@ -11,8 +11,9 @@ use lib.Pow.{pow-pos, ones-split, ones-lt, high}
 use lib.Bits.{bitOr, bitXor, xor-shr, xor-mod}
 use lib.ListN.{getD}
 use borrow.Author.Tests.{le-leb, lt-leb}
-use Rattle.sets.specs.Set.{byteWords, byteCount, num, bit, holds}
-use Rattle.sets.proofs.Laws.{Small}
+use Rattle.numbers.specs.Number.{num, bit}
+use Rattle.sets.specs.Set.{byteWords, byteCount, holds}
+use Rattle.numbers.proofs.Laws.{Small}
 use Rattle.sets.proofs.Sets.{Words, holds-past, holds-empty}
 use Rattle.sets_words.proofs.Bits.{join-or, up-in, up-under, down, word-bit}
 

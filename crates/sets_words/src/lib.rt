@@ -7,7 +7,8 @@ ghost use mathlib.Core.Bool.{true, false, _&&_, _||_, not};
 ghost use Prim.Native.Nat.{ℕ, _+_, _-_, _*_, _^_, _<_, _≤_};
 ghost use lib.Dec.{leb};
 ghost use lib.ListN.{length, getD};
-ghost use Rattle.sets.specs.Set.{states, byteCount, setWords, num, setOf, byteSetOf, holds};
+ghost use Rattle.numbers.specs.Number.{num};
+ghost use Rattle.sets.specs.Set.{states, byteCount, setWords, setOf, byteSetOf, holds};
 ghost use Rattle.sets_words.specs.inner.Next.{Next};
 ghost use Rattle.sets_words.specs.inner.Further.{further, Straddles, Strides};
 

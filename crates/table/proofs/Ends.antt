@@ -8,7 +8,7 @@ use native.Mathlib.Decide.{decLt}
 use lib.ListN.{length, getD, set, drop, replicate, List·getD-eq-default}
 use lib.Seq.{getD-set-other, getD-drop}
 use Rattle.sets.specs.Set.{setSize, setAt}
-use Rattle.sets.proofs.Laws.{fill-more, num-alike}
+use Rattle.numbers.proofs.Laws.{fill-more, num-alike}
 
 -- the first i bytes are those behind the place, and zeros are behind them
 abbrev pub Fills : List ℕ → ℕ → ℕ → List ℕ → Type 0

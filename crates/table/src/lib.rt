@@ -128,7 +128,7 @@ pub fn slot(splits: &[u8], i: usize, j: usize) -> usize
     requires { ⌜ (i < splitCount (now splits)) × (j < 4) ⌝ }
     ensures { λ r. ⌜ r ≡ getD (slots (now (splits .entry)) i) j 0 ⌝ }
 {
-    sets::whole_number(splits, SPLIT_SIZE * i + sets::BYTES + 2 * j, 2) as usize
+    numbers::whole_number(splits, SPLIT_SIZE * i + sets::BYTES + 2 * j, 2) as usize
 }
 
 // The row of part p and class q, where there are k classes and that row is there.
@@ -412,10 +412,10 @@ pub fn find_sorted(splits: &[u8], f: StateSet) -> usize
     while lo < hi {
         let mid = (lo + hi) / 2;
         let met = f.compare_whole(splits, SPLIT_SIZE * mid);
-        if met == sets::SAME {
+        if met == numbers::SAME {
             return mid;
         }
-        if met == sets::BEFORE {
+        if met == numbers::BEFORE {
             lo = mid + 1;
         } else {
             hi = mid;

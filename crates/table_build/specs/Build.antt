@@ -6,7 +6,8 @@ use mathlib.Core.List.{List, [], _∷_, _++_}
 use mathlib.Core.Logic.{_⊎_}
 use lib.ListN.{length, getD, replicate}
 use lib.Dec.{ltb}
-use Rattle.sets.specs.Set.{setSize, setBytes, digits, before}
+use Rattle.numbers.specs.Number.{digits, before}
+use Rattle.sets.specs.Set.{setSize, setBytes}
 use Rattle.rules.specs.Scan.{stack}
 use Rattle.rules.specs.Rules.{Rule, verdict}
 use Rattle.list.specs.List.{listRules}

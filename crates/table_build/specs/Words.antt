@@ -4,7 +4,7 @@ use mathlib.Core.Path.{_≡_}
 use mathlib.Core.List.{List, [], _∷_}
 use lib.ListN.{length, getD, take}
 use Rattle.sets.specs.Set.{setSize, setBytes}
-use Rattle.sets.specs.Order.{Smaller}
+use Rattle.numbers.specs.Order.{Smaller}
 use Rattle.list.specs.Automaton.{step}
 use Rattle.table.specs.Table.{Table, byteValues, partCount, splitCount, part, row, splitSet, slots}
 use Rattle.table_classes.specs.Classes.{classOf}

@@ -8,9 +8,10 @@ use native.Mathlib.Decide.{decLt}
 use native.Mathlib.Nat.{lt-of-not-le}
 use lib.ListN.{length, take, drop, length-append}
 use lib.Seq.{take-at, drop-at, take-take, drop-drop, length-take-le}
-use Rattle.sets.specs.Set.{states, byteCount, setSize, byteSetSize, num, setBytes, byteSetBytes, setAt, byteSetAt, placed}
-use Rattle.sets.proofs.Laws.{Small, small-drop, num-take-lt, drop-take, length-digits, num-digits}
-use Rattle.sets.proofs.Placing.{placed-fits, length-placed}
+use Rattle.numbers.specs.Number.{num, placed}
+use Rattle.sets.specs.Set.{states, byteCount, setSize, byteSetSize, setBytes, byteSetBytes, setAt, byteSetAt}
+use Rattle.numbers.proofs.Laws.{Small, small-drop, num-take-lt, drop-take, length-digits, num-digits}
+use Rattle.numbers.proofs.Placing.{placed-fits, length-placed}
 use Rattle.text_walk.specs.inner.Rows.{rowSize, rowsSize, priorAt, bytesOf}
 
 module _ (b : List ℕ) (at : ℕ) (xs : List ℕ) (fits : at + length xs ≤ length b) where

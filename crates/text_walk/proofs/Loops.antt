@@ -10,7 +10,8 @@ use native.Mathlib.Nat.{lt-of-not-le}
 use lib.ListN.{length}
 use lib.Pow.{pow-pos}
 use lib.Bits.{or-lt}
-use Rattle.sets.specs.Set.{states, byteCount, setSize, setBytes, byteSetBytes, holds, join, placed}
+use Rattle.numbers.specs.Number.{placed}
+use Rattle.sets.specs.Set.{states, byteCount, setSize, setBytes, byteSetBytes, holds, join}
 use Rattle.sets.proofs.Sets.{holds-join, or-false}
 use Rattle.text_walk.specs.inner.Rows.{rowSize, rowsSize, priorAt, bytesOf, Leafed, Entered, Seamed, Copied}
 use Rattle.text_walk.proofs.Buffer.{prior-there, prior-other, prior-bytes, prior-long, bytes-there, bytes-other, bytes-prior, bytes-long}

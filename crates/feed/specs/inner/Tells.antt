@@ -4,7 +4,8 @@ use mathlib.Core.Path.{_≡_}
 use mathlib.Core.Bool.{false}
 use mathlib.Core.List.{List}
 use lib.Dec.{eqb}
-use Rattle.sets.specs.Set.{signatures, size, members, placed}
+use Rattle.numbers.specs.Number.{placed}
+use Rattle.sets.specs.Set.{signatures, size, members}
 use Rattle.feed.specs.Engine.{pairsAt}
 use Rattle.feed.specs.declared.Fed.{Fed}
 

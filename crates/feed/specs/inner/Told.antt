@@ -5,7 +5,8 @@ use mathlib.Core.Bool.{cond}
 use mathlib.Core.List.{List}
 use lib.ListN.{length}
 use lib.Dec.{leb}
-use Rattle.sets.specs.Set.{signatures, size, members, placed}
+use Rattle.numbers.specs.Number.{placed}
+use Rattle.sets.specs.Set.{signatures, size, members}
 use Rattle.feed.specs.Engine.{pairsAt}
 use Rattle.feed.specs.declared.Told.{Told}
 

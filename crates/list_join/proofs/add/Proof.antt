@@ -1,10 +1,10 @@
 -- `add` goes through the records; the invariant is what they add so far. Assumes nothing.
 use lib.ListN.{length-append, length}
 use Rattle.rules.specs.Scan.{stack}
-use Rattle.sets.specs.Set.{placed}
+use Rattle.numbers.specs.Number.{placed}
 use native.Mathlib.Numerals.{add-one}
 use mathlib.Core.Path.{refl, _≡_, _∙_}
-use Rattle.sets.proofs.Placing.{placed-none}
+use Rattle.numbers.proofs.Placing.{placed-none}
 use Rattle.list.proofs.Steps.{good-at}
 use Rattle.list_join.proofs.Deciding.{added-more, added-room, add-more}
 use Rattle.list.specs.List.{records}

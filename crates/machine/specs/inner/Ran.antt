@@ -2,7 +2,8 @@
 use Prim.Native.Nat.{ℕ}
 use mathlib.Core.Path.{_≡_}
 use mathlib.Core.List.{List}
-use Rattle.sets.specs.Set.{sigsOf, num}
+use Rattle.numbers.specs.Number.{num}
+use Rattle.sets.specs.Set.{sigsOf}
 use Rattle.machine.specs.declared.Config.{Config}
 use Rattle.machine.specs.declared.Step.{Step}
 use Rattle.machine.specs.Program.{bitsBy, countersBy, alertsBy, kindOf, whichOf, numberOf, programmed, alertsOf, moved}

@@ -4,7 +4,7 @@ use mathlib.Core.Path.{_≡_}
 use Prim.Native.Nat.{ℕ, _≤_, _<_, _-_}
 use native.Mathlib.Omega.{arith}
 use lib.ListN.{length, getD}
-use Rattle.sets.proofs.Laws.{Small}
+use Rattle.numbers.proofs.Laws.{Small}
 use Rattle.sets.proofs.Words.{Alike, alike-none, alike-more, alike-lists}
 use Rattle.sets.proofs.words_same.Statement.{statement}
 use Rattle.sets.proofs.words_same.Tie as tie

@@ -6,8 +6,9 @@ use lib.ListN.{length, getD}
 use mathlib.Core.Path.{_≡_, _∙_, ap}
 use mathlib.Core.Bool.{not}
 use lib.Pow.{ones-lt}
-use Rattle.sets.specs.Set.{byteWords, num, holds}
-use Rattle.sets.proofs.Laws.{Small, small-set}
+use Rattle.numbers.specs.Number.{num}
+use Rattle.sets.specs.Set.{byteWords, holds}
+use Rattle.numbers.proofs.Laws.{Small, small-set}
 use Rattle.sets.proofs.Whole.{byte-set-valid-of}
 use Rattle.sets_words.proofs.Further.{stride-more}
 use lib.Bits.{bitXor, xor-lt}

@@ -8,8 +8,9 @@ use mathlib.Core.Bool.{_&&_, _||_}
 use lib.Dec.{leb}
 use mir.Val.{Fits}
 use mir.Syntax.{w64}
-use Rattle.sets.specs.Set.{byteWords, num, holds}
-use Rattle.sets.proofs.Laws.{Small, small-set}
+use Rattle.numbers.specs.Number.{num}
+use Rattle.sets.specs.Set.{byteWords, holds}
+use Rattle.numbers.proofs.Laws.{Small, small-set}
 use Rattle.sets.proofs.Whole.{byte-set-valid-of}
 use Rattle.sets_words.proofs.Further.{stride-more}
 use lib.Bits.{bitOr, or-lt}

@@ -3,7 +3,8 @@ use borrow.Author.Needs.{needs}
 use mathlib.Core.Path.{ap₂, _∙_}
 use Prim.Native.Nat.{ℕ, _+_, _*_, _^_, _≤_}
 use native.Mathlib.Omega.{arith}
-use Rattle.sets.specs.Set.{setSize, setAt, before}
+use Rattle.numbers.specs.Number.{before}
+use Rattle.sets.specs.Set.{setSize, setAt}
 use Rattle.table.specs.Table.{mostParts, row}
 use Rattle.table.proofs.Entries.{classes-fit, rows-fit}
 use Rattle.table.proofs.row_set.Statement.{statement}

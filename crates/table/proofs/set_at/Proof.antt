@@ -4,7 +4,7 @@ use mathlib.Core.Path.{_∙_}
 use native.Mathlib.Omega.{arith}
 use Rattle.sets.specs.Set.{setWords}
 use Rattle.sets.proofs.Sets.{empty-words}
-use Rattle.sets.proofs.Bytes.{set-at-past}
+use Rattle.sets.proofs.Standing.{set-at-past}
 use Rattle.table.proofs.set_at.Statement.{statement}
 use Rattle.table.proofs.set_at.Tie as tie
 

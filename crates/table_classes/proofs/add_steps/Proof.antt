@@ -4,7 +4,7 @@ use mathlib.Core.Path.{_≡_, sym, ap, ap₂, _∙_}
 use Prim.Native.Nat.{ℕ, _-_, _≤_, _<_}
 use native.Mathlib.Omega.{arith}
 use Rattle.sets.specs.Set.{setOf, join}
-use Rattle.sets.proofs.Laws.{Small}
+use Rattle.numbers.proofs.Laws.{Small}
 use Rattle.sets.proofs.Sets.{set-at-lt, join-comm, join-empty}
 use Rattle.rules.proofs.Scanning.{choose}
 use Rattle.list.specs.Automaton.{step}

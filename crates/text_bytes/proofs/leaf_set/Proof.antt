@@ -4,7 +4,8 @@ use native.Mathlib.Omega.{arith}
 use mathlib.Core.Path.{sym, ap, _∙_}
 use mathlib.Core.Logic.{_⊎_, inl, inr, ⊎-elim}
 use lib.ListN.{replicate}
-use Rattle.sets.specs.Set.{num, byteSetOf, holds, byteWords}
+use Rattle.numbers.specs.Number.{num}
+use Rattle.sets.specs.Set.{byteSetOf, holds, byteWords}
 use Rattle.sets.proofs.Sets.{empty-words, holds-empty}
 use Rattle.text.specs.Grammar.{value}
 use Rattle.text_bytes.proofs.Bytes.{adds-none, leaf-any, leaf-negated, leaf-members, leaf-space, leaf-single}

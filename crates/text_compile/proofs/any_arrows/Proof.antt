@@ -4,7 +4,8 @@ use mathlib.Core.Path.{_∙_, ap}
 use Rattle.sets.proofs.Sets.{empty-words}
 use Rattle.text_compile.proofs.Listing.{all-bytes}
 use lib.ListN.{replicate}
-use Rattle.sets.specs.Set.{states, setWords, byteWords, num, insert, holds}
+use Rattle.numbers.specs.Number.{num}
+use Rattle.sets.specs.Set.{states, setWords, byteWords, insert, holds}
 use Rattle.text_compile.proofs.any_arrows.Statement.{statement}
 use Rattle.text_compile.proofs.any_arrows.Tie as tie
 

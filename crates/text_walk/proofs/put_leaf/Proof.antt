@@ -4,7 +4,8 @@ use native.Mathlib.Omega.{arith}
 use Prim.Native.Nat.{_*_}
 use mathlib.Core.Path.{_≡_, ap, _∙_}
 use lib.ListN.{length}
-use Rattle.sets.specs.Set.{setWords, byteWords, setBytes, placed, byteSetOf}
+use Rattle.numbers.specs.Number.{placed}
+use Rattle.sets.specs.Set.{setWords, byteWords, setBytes, byteSetOf}
 use Rattle.sets.proofs.Sets.{words-lt, empty-words}
 use Rattle.sets.proofs.Whole.{byte-set-valid-of}
 use Rattle.text_walk.specs.inner.Rows.{rowSize}

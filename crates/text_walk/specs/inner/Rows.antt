@@ -7,7 +7,8 @@ use mathlib.Core.Bool.{Bool, true, false, _&&_, _||_, cond}
 use mathlib.Core.List.{List, [], _∷_, _++_}
 use lib.Dec.{leb, ltb, eqb}
 use Rattle.text.specs.Exp.{Exp, one, eps, cat, alt, plus, size, null}
-use Rattle.sets.specs.Set.{states, setSize, byteSetSize, setOf, byteSetOf, num, setAt, byteSetAt, holds, join, insert}
+use Rattle.numbers.specs.Number.{num}
+use Rattle.sets.specs.Set.{states, setSize, byteSetSize, setOf, byteSetOf, setAt, byteSetAt, holds, join, insert}
 use Rattle.sets_words.specs.inner.Further.{further}
 use Rattle.text_walk.specs.declared.Shape.{Shape}
 

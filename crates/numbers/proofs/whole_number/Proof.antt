@@ -4,10 +4,10 @@ use mathlib.Core.Path.{_≡_, _∙_, ap}
 use Prim.Native.Nat.{ℕ, _≤_, _-_, _+_}
 use native.Mathlib.Omega.{arith}
 use lib.ListN.{take, drop}
-use Rattle.sets.specs.Set.{num}
-use Rattle.sets.proofs.Bytes.{byte-more}
-use Rattle.sets.proofs.whole_number.Statement.{statement}
-use Rattle.sets.proofs.whole_number.Tie as tie
+use Rattle.numbers.specs.Number.{num}
+use Rattle.numbers.proofs.Bytes.{byte-more}
+use Rattle.numbers.proofs.whole_number.Statement.{statement}
+use Rattle.numbers.proofs.whole_number.Tie as tie
 
 abbrev Inv-loop : tie.InvT-loop
 Inv-loop b at n v₀ j₀ v j = (j ≤ n) × (v ≡ num 8 (take j (drop at b)))

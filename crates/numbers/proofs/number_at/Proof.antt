@@ -5,9 +5,9 @@ use Prim.Native.Nat.{ℕ, _-_, _≤_}
 use native.Mathlib.Omega.{arith}
 use lib.ListN.{length, drop, drop-of-length-le, length-drop}
 use lib.Seq.{take-all, take-nil}
-use Rattle.sets.specs.Set.{num}
-use Rattle.sets.proofs.number_at.Statement.{statement}
-use Rattle.sets.proofs.number_at.Tie as tie
+use Rattle.numbers.specs.Number.{num}
+use Rattle.numbers.proofs.number_at.Statement.{statement}
+use Rattle.numbers.proofs.number_at.Tie as tie
 
 returns : tie.Need-returns
 unfolding num

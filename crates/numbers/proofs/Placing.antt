@@ -10,8 +10,8 @@ use lib.ListN.{length, getD, set, take, drop, length-append, length-drop, take-a
 use lib.Seq.{drop-cons, drop-drop, take-at, drop-at, set-at, drop-length, length-take-le}
 use lib.Dec.{leb}
 use borrow.Author.Tests.{le-leb, leb-true}
-use Rattle.sets.specs.Set.{placed}
-use Rattle.sets.proofs.Bytes.{placed-out}
+use Rattle.numbers.specs.Number.{placed}
+use Rattle.numbers.proofs.Bytes.{placed-out}
 
 -- where it fits
 pub placed-fits : (b : List ℕ) (at : ℕ) (xs : List ℕ) → at + length xs ≤ length b → placed b at xs ≡ (take at b ++ xs) ++ drop (at + length xs) b

@@ -8,8 +8,8 @@ use native.Mathlib.Omega.{arith}
 use native.Mathlib.Nat.{lt-of-not-le}
 use native.Mathlib.Decide.{decLt, ℕ-discrete}
 use lib.ListN.{length}
-use Rattle.sets.specs.Set.{before, compare}
-use Rattle.sets.proofs.Order.{before-irrefl, before-trans, compare-exactly, compare-rest}
+use Rattle.numbers.specs.Number.{before, compare}
+use Rattle.numbers.proofs.Order.{before-irrefl, before-trans, compare-exactly, compare-rest}
 
 -- the first n of them rise
 abbrev pub Rising : (ℕ → List ℕ) → ℕ → Type 0

@@ -6,11 +6,11 @@ use native.Mathlib.Omega.{arith}
 use native.Mathlib.Numerals.{add-one}
 use lib.ListN.{length}
 use lib.Seq.{paste, paste-zero, paste-suc, length-paste}
-use Rattle.sets.specs.Set.{digits}
-use Rattle.sets.proofs.Laws.{length-digits, digits-at}
-use Rattle.sets.proofs.Bytes.{placed-in}
-use Rattle.sets.proofs.put_number.Statement.{statement}
-use Rattle.sets.proofs.put_number.Tie as tie
+use Rattle.numbers.specs.Number.{digits}
+use Rattle.numbers.proofs.Laws.{length-digits, digits-at}
+use Rattle.numbers.proofs.Bytes.{placed-in}
+use Rattle.numbers.proofs.put_number.Statement.{statement}
+use Rattle.numbers.proofs.put_number.Tie as tie
 
 abbrev Inv-loop : tie.InvT-loop
 Inv-loop b₀ at n v j₀ b j = (j ≤ n) × (b ≡ paste b₀ at (digits 8 n v) j)
