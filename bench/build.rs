@@ -7,9 +7,7 @@ fn main() {
         Ok(path) if !path.is_empty() => PathBuf::from(path),
         _ => Path::new(&here).join("../target/staticlib/libwatch_c.a"),
     };
-    let archive = archive
-        .canonicalize()
-        .expect("there is no archive: make it with tools/build-c");
+    let archive = archive.canonicalize().expect("there is no archive: make it with tools/build-c");
     let archive = archive.display();
     println!("cargo:rustc-env=ARCHIVE={archive}");
     println!("cargo:rerun-if-env-changed=ARCHIVE");

@@ -326,10 +326,10 @@
  *   - Stack: WATCH_MOST_STACK bytes below the caller's frame at most, whatever the input, return
  *     addresses and red zone counted; that is for watch_fill_index, which keeps the sets that the
  *     bytes lead to from a split there, and calls the table check. watch_prepare, which keeps such
- *     sets too, takes 38,168, watch_fold, which keeps numbers of states and records, 23,016,
+ *     sets too, takes 38,168, watch_join, which keeps marks and counts of states and their new
+ *     numbers, 25,016, watch_fold, which keeps numbers of states and records, 23,016,
  *     watch_check_certificate, which keeps the places of the records and bytes that step alike,
- *     14,056, watch_join, which keeps the new numbers of states and marks of those that are named,
- *     10,968, watch_check_table, which keeps bytes that step alike, 5,720, and all others but one
+ *     14,056, watch_check_table, which keeps bytes that step alike, 5,720, and all others but one
  *     2,000 at most: watch_compile keeps a row for each state, 160 KiB, goes as deep as the
  *     brackets do, and takes WATCH_COMPILE_STACK.
  *     tools/stack reads the number off the archive for each function, and tools/test-outside holds

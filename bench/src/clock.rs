@@ -14,10 +14,7 @@ const PROCESS: i32 = 2;
 
 /// Nanoseconds of processor time since the process began.
 pub fn now() -> f64 {
-    let mut time = Time {
-        seconds: 0,
-        nanoseconds: 0,
-    };
+    let mut time = Time { seconds: 0, nanoseconds: 0 };
     // SAFETY: the C library of every Linux has this function, and the pointer is to a value of its type.
     let answer = unsafe { clock_gettime(PROCESS, &mut time) };
     assert_eq!(answer, 0, "the processor's clock");

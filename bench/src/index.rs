@@ -1,28 +1,34 @@
-//! The index by places in ordinary Rust: its filler, the feed that runs it, and splits with their index straight from a list. The loops are those of the
-//! proved library: turns of four bytes, the bytes that tell between them, and blocks of 32 bytes passed where a feed stays at a place.
+//! The index by places: its filler, the feed that runs it, and splits with their index straight from a list; ordinary Rust of them, the proved functions, and
+//! the rows that compare them. The loops are those of the proved library: turns of four bytes, the bytes that tell between them, and blocks of 32 bytes passed
+//! where a feed stays at a place.
+use crate::flow::{read_flow, refused, tell, Fed};
+use crate::inputs;
+use crate::join;
 use crate::later::{chunks, chunks_mut};
-use crate::ordinary::{
-    accepted, accepting, check_list, check_sizes, check_table, classes_of, exchanged, from, named, place_of, put_set,
-    read_flow, records, refused, set_at, sets, slots, split_set, splits, start_set, target, tell, Fed, Record, Set,
-    Signatures, Split, States, Table, EDGE, EITHER_CASE, HALTED,
+use crate::list::{
+    self, accepted, accepting, exchanged, from, named, records, start_set, target, Record, EDGE, EITHER_CASE,
 };
+use crate::row::{number, Both, Buffers, Call, Row, Side};
+use crate::sets::{put_set, set_at, sets, Set, Signatures, States};
 use crate::sizes::{
-    BYTE_VALUES, ENTRY_SIZE, FLOW_SIZE, MOST_INDEX, MOST_SPLITS, NOTE_AT, SET_SIZE, SPLIT_SIZE, TELLING, TOLD_AT, UNUSED,
+    BYTE_VALUES, ENTRY_SIZE, FLOW_SIZE, MOST_INDEX, MOST_RECORDS, MOST_SPLITS, NOTE_AT, PREPARE_INDEX, PREPARE_SPLITS,
+    SET_SIZE, SLOTS, SPLIT_SIZE, TELLING, TOLD_AT, UNUSED,
 };
+use crate::table::{self, check_sizes, classes_of, place_of, slots, split_set, splits, Split, Table, HALTED};
 
 /// What a prepared feed answers: as every feed, and the split where the flow then stands.
 #[derive(Clone, Copy, Debug, PartialEq, Eq)]
-pub struct Stood {
-    pub fed: Fed,
-    pub split: u32,
+struct Stood {
+    fed: Fed,
+    split: u32,
 }
 
 /// What preparing answers: a refusal, or the bytes used of the splits and of the index.
 #[derive(Clone, Copy, Debug, Default, PartialEq, Eq)]
-pub struct Made {
-    pub refusal: u32,
-    pub splits: usize,
-    pub index: usize,
+struct Made {
+    refusal: u32,
+    splits: usize,
+    index: usize,
 }
 
 type Entry = [u8; ENTRY_SIZE];
@@ -233,7 +239,7 @@ fn run<'a>(index: &'a [u8], piece: &[u8], offset: u64, mut s: Stand<'a>, room: &
 // ---- the feed
 
 /// The prepared feed: rules 4 to 6 and 8, then 14 per byte.
-pub fn feed(
+fn feed(
     splits_bytes: &[u8],
     index: &[u8],
     hint: u32,
@@ -248,21 +254,13 @@ pub fn feed(
         && index.len() == place(splits.len());
     let hinted = splits.get(hint as usize).filter(|_| good);
     let held = hinted.map_or(false, |split| record.get(..SET_SIZE) == Some(split_set(split)));
-    let known = if held {
-        index[place(hint as usize) + NOTE_AT + 1] != 0
-    } else {
-        within(record, index)
-    };
+    let known = if held { index[place(hint as usize) + NOTE_AT + 1] != 0 } else { within(record, index) };
     let flow = match read_flow(known, record, start, piece) {
         Ok(flow) if good => flow,
         Ok(_) => return Stood { fed: refused(8), split: hint },
         Err(refusal) => return Stood { fed: refused(refusal), split: hint },
     };
-    let first = if held {
-        hint as usize
-    } else {
-        place_of(splits, flow.frontier).unwrap_or(splits.len())
-    };
+    let first = if held { hint as usize } else { place_of(splits, flow.frontier).unwrap_or(splits.len()) };
     let begun = Stand { place: place(first), here: entry(index, place(first)), bytes: 0, pairs: 0, rows: 0 };
     let s = run(index, piece, flow.offset, begun, chunks_mut(pairs));
     let split = s.here.map_or(splits.len(), |_| s.place.saturating_sub(SET_SIZE) / ENTRY_SIZE);
@@ -306,7 +304,13 @@ fn steps(list: &[Record], set: States, led: &mut [States; BYTE_VALUES]) {
 }
 
 /// Writes the states that the list names and an entry for each split, at which a byte costs what is said. `low` has for each byte the lowest of its class.
-fn fill_entries(list: &[Record], low: &[u8; BYTE_VALUES], splits: &[Split], cost: impl Fn(&Split) -> u8, index: &mut [u8]) {
+fn fill_entries(
+    list: &[Record],
+    low: &[u8; BYTE_VALUES],
+    splits: &[Split],
+    cost: impl Fn(&Split) -> u8,
+    index: &mut [u8],
+) {
     let (names, accepts) = (named(list), accepting(list));
     let (set, entries) = index.split_at_mut(SET_SIZE);
     set.copy_from_slice(&names.bytes());
@@ -341,8 +345,8 @@ fn lowest(classes: &[u8]) -> [u8; BYTE_VALUES] {
 }
 
 /// The filler: the rules of the table check, where 8 covers the index's length; then an entry for each split.
-pub fn fill_index(list: &[u8], bound: u64, table: &Table, index: &mut [u8]) -> u32 {
-    let refusal = match check_list(list) {
+fn fill(list: &[u8], bound: u64, table: &Table, index: &mut [u8]) -> u32 {
+    let refusal = match list::check(list) {
         0 => check_sizes(bound, table),
         refusal => refusal,
     };
@@ -353,7 +357,7 @@ pub fn fill_index(list: &[u8], bound: u64, table: &Table, index: &mut [u8]) -> u
     if index.len() != place(splits.len()) {
         return 8;
     }
-    let refusal = check_table(list, bound, table);
+    let refusal = table::check(list, bound, table);
     if refusal != 0 {
         return refusal;
     }
@@ -390,9 +394,9 @@ fn search(list: &[Record], low: &[u8; BYTE_VALUES], queue: &mut [u8], parts: &mu
 }
 
 /// Splits and their index straight from a list: rules 1 to 3, 17, 16.
-pub fn prepare(list: &[u8], lent: &mut [u8], index: &mut [u8]) -> Made {
+fn prepare(list: &[u8], lent: &mut [u8], index: &mut [u8]) -> Made {
     let refused = |refusal| Made { refusal, ..Made::default() };
-    let refusal = check_list(list);
+    let refusal = list::check(list);
     if refusal != 0 {
         return refused(refusal);
     }
@@ -420,13 +424,122 @@ pub fn prepare(list: &[u8], lent: &mut [u8], index: &mut [u8]) -> Made {
     Made { refusal: 0, splits: used.len(), index: place(count) }
 }
 
-// ---- traffic
+// ---- the proved functions
+
+mod proved {
+    use super::{Made, Stood};
+    use crate::call::call;
+    use crate::flow::Fed;
+    use crate::table::Table;
+
+    pub fn fill(list: &[u8], bound: u64, table: &Table, index: &mut [u8]) -> u32 {
+        call!(watch_fill_index(&list, bound, &table.classes, &table.parts, &table.rows, &table.splits, &mut index))
+    }
+
+    pub fn feed(
+        splits: &[u8],
+        index: &[u8],
+        split: u32,
+        flow: &mut [u8],
+        start: u64,
+        piece: &[u8],
+        pairs: &mut [u32],
+    ) -> Stood {
+        let stood = call!(watch_prepared_feed(&splits, &index, split, &mut flow, start, &piece, &mut pairs));
+        let fed =
+            Fed { refusal: stood.refusal, bytes: stood.bytes as usize, pairs: stood.pairs as usize, all: stood.all };
+        Stood { fed, split: stood.split }
+    }
+
+    pub fn prepare(list: &[u8], splits: &mut [u8], index: &mut [u8]) -> Made {
+        let made = call!(watch_prepare(&list, &mut splits, &mut index));
+        Made { refusal: made.refusal, splits: made.splits as usize, index: made.index as usize }
+    }
+}
+
+// ---- the rows
+
+const FILL: Both<fn(&[u8], u64, &Table, &mut [u8]) -> u32> = Both([proved::fill, fill]);
+type Feed = fn(&[u8], &[u8], u32, &mut [u8], u64, &[u8], &mut [u32]) -> Stood;
+const FEED: Both<Feed> = Both([proved::feed, feed]);
+const PREPARE: Both<fn(&[u8], &mut [u8], &mut [u8]) -> Made> = Both([proved::prepare, prepare]);
+
+/// The bytes of a table's index.
+fn index_bytes(table: &inputs::Table) -> usize {
+    place(table.splits.len() / SPLIT_SIZE)
+}
+
+/// The filling of a table's index.
+struct Filled {
+    list: Vec<u8>,
+    bound: u64,
+    table: inputs::Table,
+}
+
+impl Call for Filled {
+    fn run(&self, side: Side, buffers: &mut Buffers) -> Fed {
+        refused(FILL.of(side)(&self.list, self.bound, &self.table.lent(), &mut buffers.index))
+    }
+
+    fn lend(&self, buffers: &mut Buffers) {
+        buffers.index = vec![Buffers::BEFORE; index_bytes(&self.table)];
+    }
+}
+
+/// Splits and their index straight from a list.
+struct Prepared(Vec<u8>);
+
+impl Call for Prepared {
+    fn run(&self, side: Side, buffers: &mut Buffers) -> Fed {
+        let [splits, index, ..] = &mut buffers.lists;
+        let made = PREPARE.of(side)(&self.0, splits, index);
+        Fed { refusal: made.refusal, bytes: made.splits, pairs: made.index, all: false }
+    }
+
+    fn lend(&self, buffers: &mut Buffers) {
+        buffers.lend_lists([PREPARE_SPLITS, PREPARE_INDEX, 0, 0]);
+    }
+}
+
+/// The prepared feed of a piece, from a record on that stands at a split.
+struct Indexed {
+    splits: Vec<u8>,
+    index: Vec<u8>,
+    split: u32,
+    flow: [u8; FLOW_SIZE],
+    piece: Vec<u8>,
+}
+
+impl Indexed {
+    /// From a frontier on, by the index of a table for a list, which ordinary Rust fills.
+    fn new(list: &[u8], bound: u64, table: inputs::Table, first: inputs::Bytes, piece: Vec<u8>) -> Indexed {
+        let mut index = vec![0; index_bytes(&table)];
+        assert_eq!(fill(list, bound, &table.lent(), &mut index), 0, "the index is filled");
+        let flow = inputs::flow_at(first);
+        let mut splits = table.splits.chunks(SPLIT_SIZE);
+        let split = splits.position(|split| split[..SET_SIZE] == flow[..SET_SIZE]);
+        let split = split.expect("the frontier is a split's") as u32;
+        Indexed { splits: table.splits, index, split, flow, piece }
+    }
+}
+
+impl Call for Indexed {
+    fn run(&self, side: Side, buffers: &mut Buffers) -> Fed {
+        buffers.flow = self.flow;
+        let (record, pairs) = (&mut buffers.flow, &mut buffers.pairs);
+        FEED.of(side)(&self.splits, &self.index, self.split, record, 0, &self.piece, pairs).fed
+    }
+
+    fn bytes(&self) -> Option<usize> {
+        Some(self.piece.len())
+    }
+}
 
 /// Lists of signatures, and traffic of four kinds for each.
-pub struct Traffic {
-    pub name: &'static str,
-    pub list: &'static [u8],
-    pub kinds: [(&'static str, &'static [u8]); 4],
+struct Traffic {
+    name: &'static str,
+    list: &'static [u8],
+    kinds: [(&'static str, &'static [u8]); 4],
 }
 
 macro_rules! traffic {
@@ -444,39 +557,37 @@ macro_rules! traffic {
     };
 }
 
-pub const TRAFFIC: [Traffic; 4] = [traffic!("plain4"), traffic!("plain64"), traffic!("gap4"), traffic!("gap8b2")];
+const TRAFFIC: [Traffic; 4] = [traffic!("plain4"), traffic!("plain64"), traffic!("gap4"), traffic!("gap8b2")];
 
 /// The lengths of pieces that traffic is cut into.
-pub const PIECES: [usize; 6] = [1, 16, 64, 256, 1500, 4096];
+const PIECES: [usize; 6] = [1, 16, 64, 256, 1500, 4096];
 
 /// Traffic that is fed in pieces, each with the split that the one before answered.
-pub struct Work {
+struct Line {
     splits: Vec<u8>,
     index: Vec<u8>,
     first: [u8; FLOW_SIZE],
-    pub bytes: &'static [u8],
+    bytes: &'static [u8],
     piece: usize,
 }
 
-impl Work {
-    pub fn new(list: &[u8], bytes: &'static [u8], piece: usize) -> Work {
+impl Line {
+    fn new(list: &[u8], bytes: &'static [u8], piece: usize) -> Line {
         let (mut splits, mut index) = (vec![0; SPLIT_SIZE * MOST_SPLITS], vec![0; MOST_INDEX]);
         let made = prepare(list, &mut splits, &mut index);
         assert_eq!(made.refusal, 0, "a list that can be prepared");
         splits.truncate(made.splits);
         index.truncate(made.index);
-        let mut first = [0; FLOW_SIZE];
-        first[..SET_SIZE].copy_from_slice(&start_set(records(list)).bytes());
-        Work { splits, index, first, bytes, piece }
+        let first = inputs::flow_at(start_set(records(list)).bytes());
+        Line { splits, index, first, bytes, piece }
     }
+}
 
-    /// Feeds the whole traffic by one side's feed; answers the pairs, and leaves the record.
-    pub fn run(
-        &self,
-        feed: fn(&[u8], &[u8], u32, &mut [u8], u64, &[u8], &mut [u32]) -> Stood,
-        flow: &mut [u8; FLOW_SIZE],
-        pairs: &mut [u32],
-    ) -> Fed {
+impl Call for Line {
+    /// Feeds the whole traffic; answers the pairs, and leaves the record.
+    fn run(&self, side: Side, buffers: &mut Buffers) -> Fed {
+        let feed = FEED.of(side);
+        let (flow, pairs) = (&mut buffers.flow, &mut buffers.pairs);
         *flow = self.first;
         let (mut at, mut told, mut split) = (0, 0, 0);
         while at < self.bytes.len() {
@@ -489,4 +600,77 @@ impl Work {
         }
         Fed { refusal: 0, bytes: at, pairs: told, all: true }
     }
+
+    fn bytes(&self) -> Option<usize> {
+        Some(self.bytes.len())
+    }
+}
+
+/// What a row of the busy table feeds: its name, where the flow begins, and the bytes.
+type Kind = (&'static str, fn() -> inputs::Bytes, fn(usize) -> Vec<u8>);
+
+/// One byte of the order that is told leaves a split and tells nothing: the one that tells is fed where the order has begun.
+const ONE: [Kind; 3] = [
+    (inputs::QUIET, inputs::busy_start, inputs::quiet_bytes),
+    ("a byte that leaves", inputs::busy_start, inputs::busy_telling),
+    ("a byte that tells two pairs", inputs::busy_begun, inputs::busy_end),
+];
+const MORE: [Kind; 2] = [
+    (inputs::QUIET, inputs::busy_start, inputs::quiet_bytes),
+    (inputs::TELLING, inputs::busy_start, inputs::busy_telling),
+];
+
+/// The rows of the prepared feed on tables.
+fn table_feeds() -> Vec<Row> {
+    let mut rows = Vec::new();
+    for splits in [16, 256, MOST_SPLITS] {
+        for (bytes, turn, kinds) in [(1, 64, &ONE[..]), (64, 32, &MORE), (4096, 8, &MORE)] {
+            for &(kind, first, make) in kinds {
+                let pieces = inputs::pieces(bytes);
+                let name = format!("prepared feed, {} splits, pieces of {pieces}, {kind}", number(splits));
+                rows.push(Row::new(name, turn, move || {
+                    let (list, bound) = (inputs::busy_list(), SLOTS as u64);
+                    let table = inputs::busy_table(splits, bound);
+                    Indexed::new(&list, bound, table, first(), make(bytes))
+                }));
+            }
+        }
+    }
+    let full = number(MOST_RECORDS);
+    for (kind, bytes) in inputs::TRAFFIC {
+        let (splits, bound) = (inputs::ORDERS_SPLITS, inputs::ORDERS_BOUND);
+        let name = format!("prepared feed, {splits} splits, bound {bound}, {full} records, {kind}");
+        rows.push(Row::new(name, 8, move || {
+            let (list, table) = (inputs::orders_list(MOST_RECORDS), inputs::orders_table(MOST_RECORDS));
+            Indexed::new(&list, bound, table, inputs::first(1), bytes(4096))
+        }));
+    }
+    rows
+}
+
+pub fn rows() -> Vec<Row> {
+    let mut rows = table_feeds();
+    for set in TRAFFIC {
+        for (kind, bytes) in set.kinds {
+            for piece in PIECES {
+                let name = format!("prepared feed, {}, {kind}, pieces of {}", set.name, number(piece));
+                rows.push(Row::new(name, 1, move || Line::new(set.list, bytes, piece)));
+            }
+        }
+    }
+    let reached: [(&str, fn() -> Vec<u8>); 2] = [
+        ("1,024 sets, 300 records", || inputs::reaching_list(300, 10, 64)),
+        ("4,096 sets, 300 records", || inputs::reaching_list(300, 12, 64)),
+    ];
+    for (what, list) in join::LISTS.into_iter().chain(reached) {
+        rows.push(Row::new(format!("preparing, {what}"), 1, move || Prepared(list())));
+    }
+    for splits in [16, MOST_SPLITS] {
+        let name = format!("filling an index, {} splits, 34 records", number(splits));
+        rows.push(Row::new(name, 1, move || {
+            let bound = SLOTS as u64;
+            Filled { list: inputs::busy_list(), bound, table: inputs::busy_table(splits, bound) }
+        }));
+    }
+    rows
 }

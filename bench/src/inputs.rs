@@ -1,10 +1,11 @@
 //! The lists, tables, flow records and pieces that the rows of the table run on. All are made by rule, so every run has the same.
 use crate::later::chunks;
-use crate::ordinary;
+use crate::row::number;
 use crate::sizes::{
-    BYTE_VALUES, CLASSES, FLOW_SIZE, MOST_PARTS, MOST_RECORDS, MOST_SPLITS, RECORD_SIZE,
-    SET_SIZE, SIGNATURES, SLOTS, SPLIT_SIZE, STATES,
+    BYTE_VALUES, CLASSES, FLOW_SIZE, MOST_PARTS, MOST_RECORDS, MOST_SPLITS, RECORD_SIZE, SET_SIZE, SIGNATURES, SLOTS,
+    SPLIT_SIZE, STATES,
 };
+use crate::table::{self, Lists};
 use std::collections::BTreeSet;
 
 /// A split table that owns its four lists.
@@ -13,6 +14,12 @@ pub struct Table {
     pub parts: Vec<u8>,
     pub rows: Vec<u8>,
     pub splits: Vec<u8>,
+}
+
+impl Table {
+    pub fn lent(&self) -> table::Table<'_> {
+        table::Table { classes: &self.classes, parts: &self.parts, rows: &self.rows, splits: &self.splits }
+    }
 }
 
 /// A set as its bytes.
@@ -60,6 +67,11 @@ pub fn set_of(states: impl IntoIterator<Item = u16>) -> Bytes {
         set[usize::from(s / 8)] |= 1 << (s % 8);
     }
     set
+}
+
+/// The set of the first n states.
+pub fn first(n: usize) -> Bytes {
+    set_of((0..n).map(|s| s as u16))
 }
 
 fn join(sets: impl IntoIterator<Item = Bytes>) -> Bytes {
@@ -127,14 +139,7 @@ pub fn line(n: usize) -> Vec<u8> {
 
 /// The barn list: signature 7 after any "ab". 5 records.
 pub fn barn_list() -> Vec<u8> {
-    [
-        edge(0, 255, 0, 0),
-        edge(b'a', b'a', 0, 1),
-        edge(b'b', b'b', 1, 2),
-        start(0),
-        accept(2, 7),
-    ]
-    .concat()
+    [edge(0, 255, 0, 0), edge(b'a', b'a', 0, 1), edge(b'b', b'b', 1, 2), start(0), accept(2, 7)].concat()
 }
 
 /// An edge on one to six bytes.
@@ -158,11 +163,7 @@ pub fn steady_list(n: usize, frontier: usize) -> Vec<u8> {
             list.push(accept(state as u16, dice.signature()));
             continue;
         }
-        let to = if usize::from(from) < frontier {
-            dice.below(frontier as u64) as u16
-        } else {
-            dice.state()
-        };
+        let to = if usize::from(from) < frontier { dice.below(frontier as u64) as u16 } else { dice.state() };
         list.push(narrow_edge(&mut dice, from, to));
     }
     dice.mix(&mut list);
@@ -268,10 +269,27 @@ pub fn telling_bytes(n: usize) -> Vec<u8> {
 }
 
 fn telling(orders: u8, n: usize) -> Vec<u8> {
-    let orders = (0..orders)
-        .cycle()
-        .flat_map(|order| [letter(order), digit(order)]);
+    let orders = (0..orders).cycle().flat_map(|order| [letter(order), digit(order)]);
     orders.take(n).collect()
+}
+
+/// How the names of rows end in which nothing is told, and of those with two pairs at every second byte.
+pub const QUIET: &str = "quiet bytes";
+pub const TELLING: &str = "bytes that tell";
+
+/// Bytes of a kind, of any length.
+type Kind = (&'static str, fn(usize) -> Vec<u8>);
+
+/// Traffic for the orders' list, and for the busy list.
+pub const TRAFFIC: [Kind; 2] = [(QUIET, quiet_bytes), (TELLING, telling_bytes)];
+pub const BUSY: [Kind; 2] = [(QUIET, quiet_bytes), (TELLING, busy_telling)];
+
+/// The length of pieces, as the names of rows have it.
+pub fn pieces(bytes: usize) -> String {
+    match bytes {
+        1 => "1 byte".into(),
+        _ => format!("{} bytes", number(bytes)),
+    }
 }
 
 /// The orders of the busy list, the states that its frontiers always hold, and the first state that is neither among these nor an order's.
@@ -299,6 +317,15 @@ pub fn busy_start() -> Bytes {
     set_of(STAY)
 }
 
+/// The same where the first order has begun, and the byte that ends it and tells its two pairs.
+pub fn busy_begun() -> Bytes {
+    join([busy_start(), set_of([2])])
+}
+
+pub fn busy_end(_: usize) -> Vec<u8> {
+    vec![digit(0)]
+}
+
 /// As `telling_bytes`, of the orders of the busy list.
 pub fn busy_telling(n: usize) -> Vec<u8> {
     telling(BUSY_ORDERS, n)
@@ -314,9 +341,7 @@ pub fn busy_table(n: usize, bound: u64) -> Table {
     let one = bound == 1;
     let stay = match one {
         true => vec![b.part(busy_start())],
-        false => [&STAY[..], &[0], &[1]]
-            .map(|states| b.part(set_of(states.iter().copied())))
-            .to_vec(),
+        false => [&STAY[..], &[0], &[1]].map(|states| b.part(set_of(states.iter().copied()))).to_vec(),
     };
     b.split(stay.clone());
     for s in 2..UNREACHED {
@@ -381,12 +406,7 @@ struct Builder {
 
 impl Builder {
     fn new(seed: u64) -> Builder {
-        Builder {
-            dice: Dice(seed),
-            parts: Vec::new(),
-            splits: BTreeSet::new(),
-            sets: BTreeSet::new(),
-        }
+        Builder { dice: Dice(seed), parts: Vec::new(), splits: BTreeSet::new(), sets: BTreeSet::new() }
     }
 
     /// The number of a part, added where it is new.
@@ -421,9 +441,7 @@ impl Builder {
     fn fill_splits(&mut self, n: usize, from: usize, size: u64) {
         let others = (self.parts.len() - from) as u64;
         while self.splits.len() < n {
-            let slots = (0..size)
-                .map(|_| from as u16 + self.dice.below(others) as u16)
-                .collect();
+            let slots = (0..size).map(|_| from as u16 + self.dice.below(others) as u16).collect();
             self.split(slots);
         }
     }
@@ -474,25 +492,13 @@ impl Builder {
         let list = chunks(list);
         let count = 1 + *classes.iter().max().expect("a class for each byte");
         let first: Vec<u8> = (0..count)
-            .map(|k| {
-                classes
-                    .iter()
-                    .position(|&class| class == k)
-                    .expect("a byte of each class") as u8
-            })
+            .map(|k| classes.iter().position(|&class| class == k).expect("a byte of each class") as u8)
             .collect();
-        let rows = self
-            .parts
-            .iter()
-            .flat_map(|part| first.iter().map(|&c| step(list, part, c)));
+        let rows = self.parts.iter().flat_map(|part| first.iter().map(|&c| step(list, part, c)));
         Table {
             rows: rows.collect::<Vec<_>>().concat(),
             parts: self.parts.concat(),
-            splits: self
-                .splits
-                .iter()
-                .flat_map(|(set, slots)| split(*set, slots))
-                .collect(),
+            splits: self.splits.iter().flat_map(|(set, slots)| split(*set, slots)).collect(),
             classes,
         }
     }
@@ -616,13 +622,7 @@ pub fn largest_small_list() -> (Vec<u8>, Table) {
     let numbers = [0, 1, 2].map(|s| b.part(set_of([s])));
     b.split(vec![]);
     for i in 1..8u8 {
-        b.split(
-            numbers
-                .iter()
-                .copied()
-                .filter(|&p| i >> p & 1 == 1)
-                .collect(),
-        );
+        b.split(numbers.iter().copied().filter(|&p| i >> p & 1 == 1).collect());
     }
     b.fill_parts(MOST_PARTS, 0);
     b.fill_splits(MOST_SPLITS, 0, SLOTS as u64);
@@ -647,12 +647,7 @@ pub fn reaching_list(n: usize, places: u16, ranges: u8) -> Vec<u8> {
     list.extend((1..places).map(|s| edge(0, 255, s, s + 1)));
     list.push(accept(places, 7));
     for class in 0..ranges {
-        list.push(edge(
-            4 * class,
-            4 * class + 3,
-            IDLE_PLACES,
-            u16::from(class),
-        ));
+        list.push(edge(4 * class, 4 * class + 3, IDLE_PLACES, u16::from(class)));
     }
     while list.len() < n {
         let class = dice.below(u64::from(ranges)) as u8;
@@ -674,13 +669,13 @@ pub fn built_table(list: &[u8]) -> Table {
         rows: vec![0; SET_SIZE * MOST_PARTS * CLASSES],
         splits: vec![0; SPLIT_SIZE * MOST_PARTS],
     };
-    let lists = ordinary::Lists {
+    let lists = Lists {
         classes: &mut table.classes,
         parts: &mut table.parts,
         rows: &mut table.rows,
         splits: &mut table.splits,
     };
-    let built = ordinary::build(list, lists);
+    let built = table::build(list, lists);
     assert_eq!(built.refusal, 0, "a table within the limits");
     table.parts.truncate(built.parts);
     table.rows.truncate(built.rows);

@@ -1,5 +1,5 @@
 //! 64 texts of orders as one list, by the proved library: each compiled, and joined to those before it; and the same folded after each join.
-use crate::raw::{watch_compile, watch_fold, watch_join};
+use crate::call::call;
 use crate::sizes::{MOST_RECORDS, RECORD_SIZE};
 
 /// The texts, a line each; signatures count from 0.
@@ -13,15 +13,7 @@ const ROOM: usize = MOST_RECORDS * RECORD_SIZE;
 
 fn compiled(text: &[u8], signature: u8) -> Vec<u8> {
     let mut list = vec![0; ROOM];
-    let answer = unsafe {
-        watch_compile(
-            text.as_ptr(),
-            text.len(),
-            signature,
-            list.as_mut_ptr(),
-            ROOM,
-        )
-    };
+    let answer = call!(watch_compile(&text, signature, &mut list));
     assert_eq!((answer.refusal, answer.place), (0, 0), "a good text");
     list.truncate(answer.length as usize);
     list
@@ -30,7 +22,7 @@ fn compiled(text: &[u8], signature: u8) -> Vec<u8> {
 fn joined_with(mut list: Vec<u8>, other: &[u8]) -> Vec<u8> {
     let used = list.len() as u64;
     list.resize(ROOM, 0);
-    let answer = unsafe { watch_join(list.as_mut_ptr(), ROOM, used, other.as_ptr(), other.len()) };
+    let answer = call!(watch_join(&mut list, used, &other));
     assert_eq!(answer.refusal, 0, "two lists that can be joined");
     list.truncate(answer.length as usize);
     list
@@ -38,29 +30,26 @@ fn joined_with(mut list: Vec<u8>, other: &[u8]) -> Vec<u8> {
 
 fn fold(list: Vec<u8>) -> Vec<u8> {
     let mut folded = vec![0; list.len()];
-    let answer =
-        unsafe { watch_fold(list.as_ptr(), list.len(), folded.as_mut_ptr(), folded.len()) };
+    let answer = call!(watch_fold(&list, &mut folded));
     assert_eq!(answer.refusal, 0, "a list that can be folded");
     folded.truncate(answer.length as usize);
     folded
 }
 
 fn collected(after: fn(Vec<u8>) -> Vec<u8>) -> Vec<u8> {
-    let lists = TEXTS
-        .lines()
-        .enumerate()
-        .map(|(i, text)| compiled(text.as_bytes(), i as u8));
-    lists
-        .reduce(|list, other| after(joined_with(list, &other)))
-        .expect("texts")
+    let lists = TEXTS.lines().enumerate().map(|(i, text)| compiled(text.as_bytes(), i as u8));
+    lists.reduce(|list, other| after(joined_with(list, &other))).expect("texts")
 }
 
 /// The list of all texts, joined.
-pub fn joined() -> Vec<u8> {
+fn joined() -> Vec<u8> {
     collected(|list| list)
 }
 
 /// The same, folded after each join.
-pub fn folded() -> Vec<u8> {
+fn folded() -> Vec<u8> {
     collected(fold)
 }
+
+/// Both, by name.
+pub const LISTS: [(&str, fn() -> Vec<u8>); 2] = [("64 texts joined", joined), ("64 texts joined and folded", folded)];

@@ -1,8 +1,8 @@
 //! The automaton with bits and counters: the proved functions, ordinary Rust of the same algorithm, and the rows that compare them.
-use crate::ordinary::Fed;
-use crate::raw::{watch_x_check, watch_x_feed, watch_x_open};
+use crate::call::call;
+use crate::flow::{refused, Fed};
+use crate::row::{Both, Buffers, Call, Row, Side};
 use crate::sizes::{X_FLOW_SIZE, X_MOVES_SIZE, X_OFF, X_PROGRAM_SIZE};
-
 
 #[derive(Clone, Copy)]
 pub struct Config {
@@ -12,11 +12,7 @@ pub struct Config {
 }
 
 /// What the start state's program runs on.
-pub const START: Config = Config {
-    state: 0,
-    bits: 0,
-    counters: [X_OFF; 16],
-};
+pub const START: Config = Config { state: 0, bits: 0, counters: [X_OFF; 16] };
 
 pub fn two(b: &[u8]) -> u16 {
     u16::from_le_bytes([b[0], b[1]])
@@ -38,17 +34,12 @@ fn good_record(r: &[u8]) -> bool {
 
 pub fn check(moves: &[u8], programs: &[u8]) -> u32 {
     let states = moves.len() / X_MOVES_SIZE;
-    if moves.is_empty()
-        || moves.len() % X_MOVES_SIZE != 0
-        || states > 1024
-        || programs.len() != X_PROGRAM_SIZE * states
+    if moves.is_empty() || moves.len() % X_MOVES_SIZE != 0 || states > 1024 || programs.len() != X_PROGRAM_SIZE * states
     {
         return 24;
     }
     let n = states as u16;
-    let good = moves
-        .chunks_exact(2)
-        .fold(true, |all, t| all & (two(t) < n));
+    let good = moves.chunks_exact(2).fold(true, |all, t| all & (two(t) < n));
     if !good || !programs.chunks_exact(4).all(good_record) {
         24
     } else {
@@ -112,11 +103,7 @@ fn load(flow: &[u8]) -> Config {
     for (c, b) in counters.iter_mut().zip(flow[16..].chunks_exact(4)) {
         *c = u32::from_le_bytes(b.try_into().unwrap());
     }
-    Config {
-        state: two(flow) as usize,
-        bits: u64::from_le_bytes(flow[8..16].try_into().unwrap()),
-        counters,
-    }
+    Config { state: two(flow) as usize, bits: u64::from_le_bytes(flow[8..16].try_into().unwrap()), counters }
 }
 
 fn save(flow: &mut [u8], x: &Config, offset: u32) {
@@ -163,10 +150,7 @@ fn refusal(moves: &[u8], programs: &[u8], flow: &[u8], start: u64, piece: &[u8])
         return 4;
     }
     let x = load(flow);
-    if x.state >= moves.len() / X_MOVES_SIZE
-        || flow[2..4] != [0, 0]
-        || x.counters.iter().any(|c| *c > X_OFF)
-    {
+    if x.state >= moves.len() / X_MOVES_SIZE || flow[2..4] != [0, 0] || x.counters.iter().any(|c| *c > X_OFF) {
         return 4;
     }
     let offset = u32::from_le_bytes(flow[4..8].try_into().unwrap()) as u64;
@@ -179,22 +163,10 @@ fn refusal(moves: &[u8], programs: &[u8], flow: &[u8], start: u64, piece: &[u8])
     0
 }
 
-fn feed(
-    moves: &[u8],
-    programs: &[u8],
-    flow: &mut [u8],
-    start: u64,
-    piece: &[u8],
-    pairs: &mut [u32],
-) -> Fed {
-    let refused = refusal(moves, programs, flow, start, piece);
-    if refused != 0 {
-        return Fed {
-            refusal: refused,
-            bytes: 0,
-            pairs: 0,
-            all: false,
-        };
+fn feed(moves: &[u8], programs: &[u8], flow: &mut [u8], start: u64, piece: &[u8], pairs: &mut [u32]) -> Fed {
+    let refusal = refusal(moves, programs, flow, start, piece);
+    if refusal != 0 {
+        return refused(refusal);
     }
     let mut x = load(flow);
     let mut words = 0;
@@ -202,11 +174,7 @@ fn feed(
     for (i, c) in piece.iter().enumerate() {
         let q = two(&moves[2 * (256 * x.state + *c as usize)..]) as usize;
         let program = &programs[X_PROGRAM_SIZE * q..X_PROGRAM_SIZE * q + X_PROGRAM_SIZE];
-        if program
-            .chunks_exact(8)
-            .fold(0, |all, b| all | u64::from_le_bytes(b.try_into().unwrap()))
-            == 0
-        {
+        if program.chunks_exact(8).fold(0, |all, b| all | u64::from_le_bytes(b.try_into().unwrap())) == 0 {
             x.state = q;
             continue;
         }
@@ -225,33 +193,31 @@ fn feed(
         x = next;
     }
     save(flow, &x, (start + bytes as u64) as u32);
-    Fed {
-        refusal: 0,
-        bytes,
-        pairs: words / 2,
-        all: bytes == piece.len(),
-    }
+    Fed { refusal: 0, bytes, pairs: words / 2, all: bytes == piece.len() }
 }
 
 /// What a row asks of a machine.
-pub enum Ask {
+enum Ask {
     Check,
     Open,
-    Feed {
-        flow: [u8; X_FLOW_SIZE],
-        piece: Vec<u8>,
-    },
+    Feed { flow: [u8; X_FLOW_SIZE], piece: Vec<u8> },
 }
 
-pub struct Work {
+struct Work {
     moves: Vec<u8>,
     programs: Vec<u8>,
     ask: Ask,
 }
 
-impl Work {
-    /// The bytes that a call consumes; nothing where the row is about calls.
-    pub fn bytes(&self) -> Option<usize> {
+const SIDES: Both<fn(&Work, &mut [u8], &mut [u32]) -> Fed> = Both([proved, by_rust]);
+
+impl Call for Work {
+    fn run(&self, side: Side, buffers: &mut Buffers) -> Fed {
+        let record = &mut buffers.flow[..X_FLOW_SIZE];
+        SIDES.of(side)(self, record, &mut buffers.pairs)
+    }
+
+    fn bytes(&self) -> Option<usize> {
         match &self.ask {
             Ask::Feed { piece, .. } => Some(piece.len()),
             _ => None,
@@ -260,16 +226,11 @@ impl Work {
 }
 
 fn answered(refusal: u32, pairs: usize) -> Fed {
-    Fed {
-        refusal,
-        bytes: 0,
-        pairs,
-        all: false,
-    }
+    Fed { refusal, bytes: 0, pairs, all: false }
 }
 
 /// The row by ordinary Rust.
-pub fn by_rust(work: &Work, record: &mut [u8], pairs: &mut [u32]) -> Fed {
+fn by_rust(work: &Work, record: &mut [u8], pairs: &mut [u32]) -> Fed {
     let (moves, programs) = (&work.moves[..], &work.programs[..]);
     match &work.ask {
         Ask::Check => answered(check(moves, programs), 0),
@@ -285,55 +246,17 @@ pub fn by_rust(work: &Work, record: &mut [u8], pairs: &mut [u32]) -> Fed {
 }
 
 /// The row by the proved code.
-pub fn proved(work: &Work, record: &mut [u8], pairs: &mut [u32]) -> Fed {
-    let (moves, programs) = (&work.moves[..], &work.programs[..]);
-    let (m, ml, p, pl) = (
-        moves.as_ptr(),
-        moves.len(),
-        programs.as_ptr(),
-        programs.len(),
-    );
+fn proved(work: &Work, record: &mut [u8], pairs: &mut [u32]) -> Fed {
+    let (moves, programs) = (&work.moves, &work.programs);
     match &work.ask {
-        // SAFETY, here and below: pointers and lengths are those of borrowed slices, and what is written is borrowed as mutable.
-        Ask::Check => answered(unsafe { watch_x_check(m, ml, p, pl) }, 0),
+        Ask::Check => answered(call!(watch_x_check(&moves, &programs)), 0),
         Ask::Open => {
-            let opened = unsafe {
-                watch_x_open(
-                    m,
-                    ml,
-                    p,
-                    pl,
-                    record.as_mut_ptr(),
-                    record.len(),
-                    pairs.as_mut_ptr(),
-                    pairs.len(),
-                )
-            };
+            let opened = call!(watch_x_open(&moves, &programs, &mut record, &mut pairs));
             answered(opened.refusal, opened.pairs as usize)
         }
         Ask::Feed { flow, piece } => {
             record.copy_from_slice(flow);
-            let fed = unsafe {
-                watch_x_feed(
-                    m,
-                    ml,
-                    p,
-                    pl,
-                    record.as_mut_ptr(),
-                    record.len(),
-                    0,
-                    piece.as_ptr(),
-                    piece.len(),
-                    pairs.as_mut_ptr(),
-                    pairs.len(),
-                )
-            };
-            Fed {
-                refusal: fed.refusal,
-                bytes: fed.bytes as usize,
-                pairs: fed.pairs as usize,
-                all: fed.all,
-            }
+            call!(watch_x_feed(&moves, &programs, &mut record, 0, &piece, &mut pairs)).into()
         }
     }
 }
@@ -346,9 +269,7 @@ pub fn machine(
     lead: impl Fn(usize, usize) -> usize + Copy,
     programs: &[(usize, &[(u8, u8, u16)])],
 ) -> (Vec<u8>, Vec<u8>) {
-    let moves = (0..states)
-        .flat_map(|q| (0..256).flat_map(move |c| (lead(q, c) as u16).to_le_bytes()))
-        .collect();
+    let moves = (0..states).flat_map(|q| (0..256).flat_map(move |c| (lead(q, c) as u16).to_le_bytes())).collect();
     let mut bytes = vec![0; X_PROGRAM_SIZE * states];
     for (state, program) in programs {
         for (j, (kind, which, number)) in program.iter().enumerate() {
@@ -362,9 +283,7 @@ pub fn machine(
 }
 
 fn traffic(length: u32) -> Vec<u8> {
-    (0..length)
-        .map(|i| (i.wrapping_mul(2_654_435_761) >> 24) as u8)
-        .collect()
+    (0..length).map(|i| (i.wrapping_mul(2_654_435_761) >> 24) as u8).collect()
 }
 
 fn fed((moves, programs): (Vec<u8>, Vec<u8>), length: u32) -> Work {
@@ -372,23 +291,14 @@ fn fed((moves, programs): (Vec<u8>, Vec<u8>), length: u32) -> Work {
     let opened = open(&moves, &programs, &mut flow, &mut [0; 512]);
     assert_eq!(opened.0, 0);
     let piece = traffic(length);
-    Work {
-        moves,
-        programs,
-        ask: Ask::Feed { flow, piece },
-    }
+    Work { moves, programs, ask: Ask::Feed { flow, piece } }
 }
 
 fn asked((moves, programs): (Vec<u8>, Vec<u8>), ask: Ask) -> Work {
-    Work {
-        moves,
-        programs,
-        ask,
-    }
+    Work { moves, programs, ask }
 }
 
-/// By name: how many calls a turn of bench/count has, and what makes the row.
-pub fn rows() -> Vec<(&'static str, u32, fn() -> Work)> {
+pub fn rows() -> Vec<Row> {
     fn empty(states: usize) -> (Vec<u8>, Vec<u8>) {
         match states {
             1 => machine(1, |_, _| 0, &[]),
@@ -397,23 +307,10 @@ pub fn rows() -> Vec<(&'static str, u32, fn() -> Work)> {
         }
     }
     fn counting() -> (Vec<u8>, Vec<u8>) {
-        machine(
-            2,
-            |_, c| usize::from(c != 10),
-            &[(0, &[(3, 0, 300)]), (1, &[(5, 0, 0), (8, 0, 9)])],
-        )
+        machine(2, |_, c| usize::from(c != 10), &[(0, &[(3, 0, 300)]), (1, &[(5, 0, 0), (8, 0, 9)])])
     }
     fn busy() -> (Vec<u8>, Vec<u8>) {
-        let program = [
-            (1, 3, 0),
-            (3, 1, 7),
-            (5, 1, 0),
-            (7, 5, 1),
-            (2, 3, 0),
-            (8, 2, 5),
-            (4, 1, 0),
-            (5, 2, 0),
-        ];
+        let program = [(1, 3, 0), (3, 1, 7), (5, 1, 0), (7, 5, 1), (2, 3, 0), (8, 2, 5), (4, 1, 0), (5, 2, 0)];
         machine(2, |_, c| c % 2, &[(1, &program)])
     }
     fn telling() -> (Vec<u8>, Vec<u8>) {
@@ -424,57 +321,22 @@ pub fn rows() -> Vec<(&'static str, u32, fn() -> Work)> {
         machine(16, lead, &[(3, &[(1, 3, 0)]), (9, &[(7, 3, 1), (2, 3, 0)])])
     }
     fn full() -> (Vec<u8>, Vec<u8>) {
-        let program = [
-            3, 1, 7, 1, 5, 1, 0, 0, 8, 1, 9, 0, 1, 3, 0, 0, 7, 3, 1, 0, 2, 3, 0, 0, 4, 1, 0, 0, 0,
-            0, 0, 0,
-        ];
+        let program = [3, 1, 7, 1, 5, 1, 0, 0, 8, 1, 9, 0, 1, 3, 0, 0, 7, 3, 1, 0, 2, 3, 0, 0, 4, 1, 0, 0, 0, 0, 0, 0];
         (empty(1024).0, program.repeat(1024))
     }
     vec![
-        ("extended feed, 1 state, empty programs", 2, || {
-            fed(empty(1), 4096)
-        }),
-        ("extended feed, 4 states, empty programs", 2, || {
-            fed(empty(4), 4096)
-        }),
-        ("extended feed, 1,024 states, empty programs", 2, || {
-            fed(empty(1024), 4096)
-        }),
-        ("extended feed, 16 states, few programs met", 2, || {
-            fed(few(), 4096)
-        }),
-        (
-            "extended feed, 2 states, a counter lowered at each byte",
-            2,
-            || fed(counting(), 4096),
-        ),
-        (
-            "extended feed, 2 states, eight instructions at every second byte",
-            2,
-            || fed(busy(), 4096),
-        ),
-        (
-            "extended feed, 2 states, a pair at every second byte",
-            2,
-            || fed(telling(), 4096),
-        ),
-        ("extended feed, 2 states, pieces of 1 byte", 100, || {
-            fed(telling(), 1)
-        }),
-        ("extended opening, 2 states", 100, || {
-            asked(telling(), Ask::Open)
-        }),
-        ("extended opening, 1,024 states", 2, || {
-            asked(empty(1024), Ask::Open)
-        }),
-        ("extended check, 2 states", 100, || {
-            asked(telling(), Ask::Check)
-        }),
-        ("extended check, 1,024 states, empty programs", 2, || {
-            asked(empty(1024), Ask::Check)
-        }),
-        ("extended check, 1,024 states, full programs", 2, || {
-            asked(full(), Ask::Check)
-        }),
+        Row::new("extended feed, 1 state, empty programs", 2, || fed(empty(1), 4096)),
+        Row::new("extended feed, 4 states, empty programs", 2, || fed(empty(4), 4096)),
+        Row::new("extended feed, 1,024 states, empty programs", 2, || fed(empty(1024), 4096)),
+        Row::new("extended feed, 16 states, few programs met", 2, || fed(few(), 4096)),
+        Row::new("extended feed, 2 states, a counter lowered at each byte", 2, || fed(counting(), 4096)),
+        Row::new("extended feed, 2 states, eight instructions at every second byte", 2, || fed(busy(), 4096)),
+        Row::new("extended feed, 2 states, a pair at every second byte", 2, || fed(telling(), 4096)),
+        Row::new("extended feed, 2 states, pieces of 1 byte", 100, || fed(telling(), 1)),
+        Row::new("extended opening, 2 states", 100, || asked(telling(), Ask::Open)),
+        Row::new("extended opening, 1,024 states", 2, || asked(empty(1024), Ask::Open)),
+        Row::new("extended check, 2 states", 100, || asked(telling(), Ask::Check)),
+        Row::new("extended check, 1,024 states, empty programs", 2, || asked(empty(1024), Ask::Check)),
+        Row::new("extended check, 1,024 states, full programs", 2, || asked(full(), Ask::Check)),
     ]
 }

@@ -1,13 +1,15 @@
 //! Segments by sequence number: the proved functions, ordinary Rust of the same algorithm, and the rows that compare them. A call takes a segment and asks
 //! for the part that is then due.
-use crate::ordinary::Fed;
-use crate::raw::{watch_due, watch_take, WatchHeld as Held, WatchPart as Part};
+use crate::call::call;
+use crate::flow::Fed;
+use crate::raw::{WatchHeld as Held, WatchPart as Part};
+use crate::row::{Both, Buffers, Call, Row, Side};
 use crate::sizes::{HELD_SIZE, MOST_SEGMENT};
 
 const HALF: u32 = 1 << 31;
 
 /// What is asked: the next number, the held place, and a segment.
-pub struct Work {
+struct Work {
     next: u32,
     start: u32,
     length: u32,
@@ -38,35 +40,19 @@ fn take(next: u32, held: &mut [u8], p: u32, n: u32, q: u32, segment: &[u8]) -> H
     let early = !segment.is_empty() && ahead(next, q);
     let full = || !free(next, p, n as usize) || segment.len() > HELD_SIZE;
     if bad_sizes(held.len(), n as usize, segment.len()) || early && full() {
-        return Held {
-            refusal: 18,
-            start: p,
-            length: n,
-        };
+        return Held { refusal: 18, start: p, length: n };
     }
     if early {
         held[..segment.len()].copy_from_slice(segment);
-        return Held {
-            refusal: 0,
-            start: q,
-            length: segment.len() as u32,
-        };
+        return Held { refusal: 0, start: q, length: segment.len() as u32 };
     }
-    Held {
-        refusal: 0,
-        start: p,
-        length: if free(next, p, n as usize) { 0 } else { n },
-    }
+    Held { refusal: 0, start: p, length: if free(next, p, n as usize) { 0 } else { n } }
 }
 
 #[inline(never)]
 fn due(next: u32, held: &[u8], p: u32, n: u32, q: u32, segment: &[u8]) -> Part {
     let n = n as usize;
-    let part = |source, at: usize, length: usize| Part {
-        at: at as u64,
-        length: length as u64,
-        source,
-    };
+    let part = |source, at: usize, length: usize| Part { at: at as u64, length: length as u64, source };
     if bad_sizes(held.len(), n, segment.len()) {
         return part(0, 0, 0);
     }
@@ -94,7 +80,7 @@ fn answered(held: Held, part: Part) -> Fed {
 }
 
 /// The row by ordinary Rust.
-pub fn by_rust(work: &Work, held: &mut [u8]) -> Fed {
+fn by_rust(work: &Work, held: &mut [u8]) -> Fed {
     let Work { next, first, .. } = *work;
     let place = take(next, held, work.start, work.length, first, &work.segment);
     let part = due(next, held, place.start, place.length, first, &work.segment);
@@ -102,40 +88,26 @@ pub fn by_rust(work: &Work, held: &mut [u8]) -> Fed {
 }
 
 /// The row by the proved code.
-pub fn proved(work: &Work, held: &mut [u8]) -> Fed {
+fn proved(work: &Work, held: &mut [u8]) -> Fed {
     let Work { next, first, .. } = *work;
-    let (bytes, length) = (work.segment.as_ptr(), work.segment.len());
-    // SAFETY: pointers and lengths are those of borrowed slices, and what is written is borrowed as mutable.
-    let place = unsafe {
-        watch_take(
-            next,
-            held.as_mut_ptr(),
-            held.len(),
-            work.start,
-            work.length,
-            first,
-            bytes,
-            length,
-        )
-    };
-    // SAFETY: as above; nothing is written.
-    let part = unsafe {
-        watch_due(
-            next,
-            held.as_ptr(),
-            held.len(),
-            place.start,
-            place.length,
-            first,
-            bytes,
-            length,
-        )
-    };
+    let place = call!(watch_take(next, &mut held, work.start, work.length, first, &work.segment));
+    let part = call!(watch_due(next, &held, place.start, place.length, first, &work.segment));
     answered(place, part)
 }
 
-/// By name: how many calls a turn of bench/count has, and what makes the row.
-pub fn rows() -> Vec<(&'static str, u32, fn() -> Work)> {
+const SIDES: Both<fn(&Work, &mut [u8]) -> Fed> = Both([proved, by_rust]);
+
+impl Call for Work {
+    fn run(&self, side: Side, buffers: &mut Buffers) -> Fed {
+        SIDES.of(side)(self, &mut buffers.held)
+    }
+
+    fn lend(&self, buffers: &mut Buffers) {
+        buffers.held = vec![Buffers::BEFORE; HELD_SIZE];
+    }
+}
+
+pub fn rows() -> Vec<Row> {
     fn asked(first: i64, count: usize, start: i64, length: u32) -> Work {
         let next = u32::MAX - 20;
         Work {
@@ -147,23 +119,13 @@ pub fn rows() -> Vec<(&'static str, u32, fn() -> Work)> {
         }
     }
     vec![
-        ("segment, the next 1,460 bytes", 100, || {
-            asked(0, 1460, -9, 0)
-        }),
-        ("segment, its new end", 100, || asked(-730, 1460, -9, 0)),
-        ("segment, dropped", 100, || asked(-1460, 1460, -9, 0)),
-        ("segment, up to the held part", 100, || {
-            asked(0, 1460, 100, 50)
-        }),
-        ("segment, the held part is due", 100, || {
-            asked(-10, 1460, -5, 50)
-        }),
-        ("segment, 1 byte is held", 100, || asked(100, 1, -9, 9)),
-        ("segment, 1,460 bytes are held", 100, || {
-            asked(100, 1460, -9, 9)
-        }),
-        ("segment, 4,096 bytes are held", 100, || {
-            asked(100, 4096, -9, 9)
-        }),
+        Row::new("segment, the next 1,460 bytes", 100, || asked(0, 1460, -9, 0)),
+        Row::new("segment, its new end", 100, || asked(-730, 1460, -9, 0)),
+        Row::new("segment, dropped", 100, || asked(-1460, 1460, -9, 0)),
+        Row::new("segment, up to the held part", 100, || asked(0, 1460, 100, 50)),
+        Row::new("segment, the held part is due", 100, || asked(-10, 1460, -5, 50)),
+        Row::new("segment, 1 byte is held", 100, || asked(100, 1, -9, 9)),
+        Row::new("segment, 1,460 bytes are held", 100, || asked(100, 1460, -9, 9)),
+        Row::new("segment, 4,096 bytes are held", 100, || asked(100, 4096, -9, 9)),
     ]
 }

@@ -1,32 +1,18 @@
 //! Why a pair is due: the proved question, ordinary Rust of the same algorithm, and the rows that compare them. A call asks why of the last pair of its piece.
+use crate::call::call;
+use crate::flow::Fed;
 use crate::inputs;
-use crate::ordinary::{accepted, check_list, records, start_set, step, Fed, States};
-use crate::raw::watch_why;
+use crate::list::{self, accepted, from, records, start_set, step, target, Record, ACCEPT};
+use crate::row::{Both, Buffers, Call, Row, Side};
+use crate::sets::States;
 use crate::sizes::{FLOW_SIZE, SET_SIZE, STATES};
 
 /// What is asked: a list, an opened record, the bytes of a flow, and the signature that ends with them.
-pub struct Work {
+struct Work {
     list: Vec<u8>,
     flow: [u8; FLOW_SIZE],
     piece: Vec<u8>,
     signature: u32,
-}
-
-impl Work {
-    /// The bytes of flow that a call explains.
-    pub fn bytes(&self) -> Option<usize> {
-        Some(self.piece.len())
-    }
-}
-
-type Record = [u8; 8];
-
-fn from(record: &Record) -> u16 {
-    u16::from_le_bytes([record[4], record[5]])
-}
-
-fn target(record: &Record) -> u16 {
-    u16::from_le_bytes([record[6], record[7]])
 }
 
 fn has(set: &States, s: u16) -> bool {
@@ -35,36 +21,27 @@ fn has(set: &States, s: u16) -> bool {
 
 fn takes(record: &Record, byte: u8) -> bool {
     let within = |byte: u8| record[1] <= byte && byte <= record[2];
-    record[0] == 1
-        && (within(byte) || record[3] == 1 && byte.is_ascii_alphabetic() && within(byte ^ 32))
+    record[0] == 1 && (within(byte) || record[3] == 1 && byte.is_ascii_alphabetic() && within(byte ^ 32))
 }
 
 /// The lowest state of the frontier from which such a record leads to t.
 fn lowest(list: &[Record], frontier: &States, t: u16, such: impl Fn(&Record) -> bool) -> u16 {
-    let leads =
-        |record: &&Record| target(record) == t && such(record) && has(frontier, from(record));
-    list.iter()
-        .filter(leads)
-        .map(from)
-        .min()
-        .unwrap_or(STATES as u16)
+    let leads = |record: &&Record| target(record) == t && such(record) && has(frontier, from(record));
+    list.iter().filter(leads).map(from).min().unwrap_or(STATES as u16)
 }
 
 /// The states and the frontiers, and the refusal; both are zeros before.
 #[inline(never)]
 fn why(work: &Work, run: &mut [u16], place: &mut [u8]) -> u32 {
-    let refusal = check_list(&work.list);
+    let refusal = list::check(&work.list);
     if refusal != 0 {
         return refusal;
     }
-    let list: &[Record] = records(&work.list);
+    let list = records(&work.list);
     let first = States::read(work.flow[..SET_SIZE].try_into().unwrap());
     let n = work.piece.len();
-    let last = work
-        .piece
-        .iter()
-        .fold(first, |f, &byte| step(list, f, byte));
-    let mut t = lowest(list, &last, work.signature as u16, |record| record[0] == 3);
+    let last = work.piece.iter().fold(first, |f, &byte| step(list, f, byte));
+    let mut t = lowest(list, &last, work.signature as u16, |record| record[0] == ACCEPT);
     if usize::from(t) == STATES {
         return 26;
     }
@@ -91,15 +68,13 @@ fn answered(refusal: u32, run: &[u16]) -> Fed {
     Fed {
         refusal,
         bytes: run.len() - 1,
-        pairs: run
-            .iter()
-            .fold(7usize, |h, &s| h.wrapping_mul(1025).wrapping_add(s.into())),
+        pairs: run.iter().fold(7usize, |h, &s| h.wrapping_mul(1025).wrapping_add(s.into())),
         all: refusal == 0,
     }
 }
 
 /// The row by ordinary Rust.
-pub fn by_rust(work: &Work, place: &mut Vec<u8>) -> Fed {
+fn by_rust(work: &Work, place: &mut Vec<u8>) -> Fed {
     let mut run = vec![0; work.piece.len() + 1];
     place.resize(SET_SIZE * run.len(), 0);
     let refusal = why(work, &mut run, place);
@@ -107,27 +82,19 @@ pub fn by_rust(work: &Work, place: &mut Vec<u8>) -> Fed {
 }
 
 /// The row by the proved function.
-pub fn proved(work: &Work, place: &mut Vec<u8>) -> Fed {
+fn proved(work: &Work, place: &mut Vec<u8>) -> Fed {
     let mut run = vec![0; work.piece.len() + 1];
     place.resize(SET_SIZE * run.len(), 0);
-    // SAFETY: each pointer and length is that of a slice that is borrowed over the call, and the two that are written overlap nothing.
-    let refusal = unsafe {
-        watch_why(
-            work.list.as_ptr(),
-            work.list.len(),
-            work.flow.as_ptr(),
-            work.flow.len(),
-            0,
-            work.piece.as_ptr(),
-            work.piece.len(),
-            work.signature,
-            work.piece.len() as u64,
-            run.as_mut_ptr(),
-            run.len(),
-            place.as_mut_ptr(),
-            place.len(),
-        )
-    };
+    let refusal = call!(watch_why(
+        &work.list,
+        &work.flow,
+        0,
+        &work.piece,
+        work.signature,
+        work.piece.len() as u64,
+        &mut run,
+        &mut place
+    ));
     answered(refusal, &run)
 }
 
@@ -144,38 +111,29 @@ fn asked(records_of: usize, bytes: fn(usize) -> Vec<u8>) -> Work {
     let mut piece = bytes(1022);
     piece.extend(inputs::telling_bytes(2));
     let begun = start_set(records(&list));
-    let last = piece
-        .iter()
-        .fold(begun, |f, &byte| step(records(&list), f, byte));
+    let last = piece.iter().fold(begun, |f, &byte| step(records(&list), f, byte));
     let told = accepted(records(&list), last);
-    let signature = (0..256u32)
-        .find(|g| told.0[*g as usize / 64] >> (g % 64) & 1 == 1)
-        .expect("the order is told");
-    Work {
-        list,
-        flow: opened(),
-        piece,
-        signature,
+    let signature = (0..256u32).find(|g| told.0[*g as usize / 64] >> (g % 64) & 1 == 1).expect("the order is told");
+    Work { list, flow: opened(), piece, signature }
+}
+
+const SIDES: Both<fn(&Work, &mut Vec<u8>) -> Fed> = Both([proved, by_rust]);
+
+impl Call for Work {
+    fn run(&self, side: Side, buffers: &mut Buffers) -> Fed {
+        SIDES.of(side)(self, &mut buffers.held)
+    }
+
+    /// The bytes of flow that a call explains.
+    fn bytes(&self) -> Option<usize> {
+        Some(self.piece.len())
     }
 }
 
-type Made = (&'static str, u32, fn() -> Work);
-
-/// The rows: name, calls of a turn, and what makes the work.
-pub fn rows() -> [Made; 3] {
-    [
-        (
-            "why, 318 records, 1,022 quiet bytes and an order",
-            1,
-            || asked(318, inputs::quiet_bytes),
-        ),
-        ("why, 318 records, 1,024 bytes of orders", 1, || {
-            asked(318, inputs::telling_bytes)
-        }),
-        (
-            "why, 8,192 records, 1,022 quiet bytes and an order",
-            1,
-            || asked(8192, inputs::quiet_bytes),
-        ),
+pub fn rows() -> Vec<Row> {
+    vec![
+        Row::new("why, 318 records, 1,022 quiet bytes and an order", 1, || asked(318, inputs::quiet_bytes)),
+        Row::new("why, 318 records, 1,024 bytes of orders", 1, || asked(318, inputs::telling_bytes)),
+        Row::new("why, 8,192 records, 1,022 quiet bytes and an order", 1, || asked(8192, inputs::quiet_bytes)),
     ]
 }

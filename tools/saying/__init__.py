@@ -1,2 +1,2 @@
-"""What tools/show, tools/why, tools/counters and tools/convert say of files, over the rules of the
-second program. Not proved."""
+"""What tools/show, tools/why, tools/counters, tools/convert and tools/signatures say of files, over the
+rules of the second program. Not proved."""

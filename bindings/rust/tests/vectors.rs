@@ -2,8 +2,11 @@
 //! `crates/list_replay/stdout`. `tools/second/README.md` says what the commands are. Every buffer is a heap block of exactly its length, so
 //! that a memory checker sees any step outside it. Under one, `WATCH_VECTORS` may name a smaller number of lines.
 
+#[path = "../src/call.rs"]
+mod call;
 mod common;
 
+use call::call;
 use common::stream::{digest, digest_words, replay, Reader};
 use std::collections::BTreeMap;
 use watch::raw;
@@ -39,7 +42,6 @@ impl State {
     /// Runs one command; those that answer give the refusal and the line.
     fn run(&mut self, reader: &mut Reader) -> Option<(char, u32, String)> {
         let name = char::from(reader.take(1)[0]);
-        let (l, n) = (self.list.as_ptr(), self.list.len());
         let (refusal, line) = match name {
             'L' => {
                 self.list = reader.block();
@@ -73,14 +75,12 @@ impl State {
                 return None;
             }
             'c' => {
-                // SAFETY: here and below, every pointer and length is that of a block of its own.
-                let refusal = unsafe { raw::watch_check_list(l, n) };
+                let refusal = call!(watch_check_list(&self.list));
                 (refusal, format!("c {refusal}"))
             }
             'o' => {
                 let mut words = reader.words();
-                let (record, length) = (self.record.as_mut_ptr(), self.record.len());
-                let opened = unsafe { raw::watch_open(l, n, record, length, words.as_mut_ptr(), words.len()) };
+                let opened = call!(watch_open(&self.list, &mut self.record, &mut words));
                 let line =
                     format!("o {} {} {} {}", opened.refusal, opened.pairs, digest_words(&words), digest(&self.record));
                 (opened.refusal, line)
@@ -89,134 +89,71 @@ impl State {
                 let start = reader.number(8);
                 let mut words = reader.words();
                 let piece = reader.block();
-                let fed = unsafe {
-                    raw::watch_feed(
-                        l,
-                        n,
-                        self.record.as_mut_ptr(),
-                        self.record.len(),
-                        start,
-                        piece.as_ptr(),
-                        piece.len(),
-                        words.as_mut_ptr(),
-                        words.len(),
-                    )
-                };
+                let fed = call!(watch_feed(&self.list, &mut self.record, start, &piece, &mut words));
                 fed_line('f', fed, None, &words, &self.record)
             }
             'k' => {
                 let bound = reader.number(8);
-                let refusal = unsafe {
-                    raw::watch_check_table(
-                        l,
-                        n,
-                        bound,
-                        self.classes.as_ptr(),
-                        self.classes.len(),
-                        self.parts.as_ptr(),
-                        self.parts.len(),
-                        self.rows.as_ptr(),
-                        self.rows.len(),
-                        self.splits.as_ptr(),
-                        self.splits.len(),
-                    )
-                };
+                let refusal =
+                    call!(watch_check_table(&self.list, bound, &self.classes, &self.parts, &self.rows, &self.splits));
                 (refusal, format!("k {refusal}"))
             }
             's' => {
                 let (bound, start) = (reader.number(8), reader.number(8));
                 let mut words = reader.words();
                 let piece = reader.block();
-                let fed = unsafe {
-                    raw::watch_split_feed(
-                        l,
-                        n,
-                        bound,
-                        self.classes.as_ptr(),
-                        self.classes.len(),
-                        self.parts.as_ptr(),
-                        self.parts.len(),
-                        self.rows.as_ptr(),
-                        self.rows.len(),
-                        self.splits.as_ptr(),
-                        self.splits.len(),
-                        self.record.as_mut_ptr(),
-                        self.record.len(),
-                        start,
-                        piece.as_ptr(),
-                        piece.len(),
-                        words.as_mut_ptr(),
-                        words.len(),
-                    )
-                };
+                let fed = call!(watch_split_feed(
+                    &self.list,
+                    bound,
+                    &self.classes,
+                    &self.parts,
+                    &self.rows,
+                    &self.splits,
+                    &mut self.record,
+                    start,
+                    &piece,
+                    &mut words
+                ));
                 fed_line('s', fed, None, &words, &self.record)
             }
             'm' => {
-                let refusal = unsafe { raw::watch_fill_matrix(l, n, self.matrix.as_mut_ptr(), self.matrix.len()) };
+                let refusal = call!(watch_fill_matrix(&self.list, &mut self.matrix));
                 (refusal, format!("m {refusal} {}", digest(&self.matrix)))
             }
             'x' => {
                 let start = reader.number(8);
                 let mut words = reader.words();
                 let piece = reader.block();
-                let fed = unsafe {
-                    raw::watch_matrix_feed(
-                        l,
-                        n,
-                        self.matrix.as_ptr(),
-                        self.matrix.len(),
-                        self.record.as_mut_ptr(),
-                        self.record.len(),
-                        start,
-                        piece.as_ptr(),
-                        piece.len(),
-                        words.as_mut_ptr(),
-                        words.len(),
-                    )
-                };
+                let fed =
+                    call!(watch_matrix_feed(&self.list, &self.matrix, &mut self.record, start, &piece, &mut words));
                 fed_line('x', fed, None, &words, &self.record)
             }
             'i' => {
                 let bound = reader.number(8);
-                let refusal = unsafe {
-                    raw::watch_fill_index(
-                        l,
-                        n,
-                        bound,
-                        self.classes.as_ptr(),
-                        self.classes.len(),
-                        self.parts.as_ptr(),
-                        self.parts.len(),
-                        self.rows.as_ptr(),
-                        self.rows.len(),
-                        self.splits.as_ptr(),
-                        self.splits.len(),
-                        self.matrix.as_mut_ptr(),
-                        self.matrix.len(),
-                    )
-                };
+                let refusal = call!(watch_fill_index(
+                    &self.list,
+                    bound,
+                    &self.classes,
+                    &self.parts,
+                    &self.rows,
+                    &self.splits,
+                    &mut self.matrix
+                ));
                 (refusal, format!("i {refusal} {}", digest(&self.matrix)))
             }
             'p' => {
                 let (split, start) = (reader.u32(), reader.number(8));
                 let mut words = reader.words();
                 let piece = reader.block();
-                let stood = unsafe {
-                    raw::watch_prepared_feed(
-                        self.splits.as_ptr(),
-                        self.splits.len(),
-                        self.matrix.as_ptr(),
-                        self.matrix.len(),
-                        split,
-                        self.record.as_mut_ptr(),
-                        self.record.len(),
-                        start,
-                        piece.as_ptr(),
-                        piece.len(),
-                        words.as_mut_ptr(),
-                        words.len(),
-                    )
-                };
+                let stood = call!(watch_prepared_feed(
+                    &self.splits,
+                    &self.matrix,
+                    split,
+                    &mut self.record,
+                    start,
+                    &piece,
+                    &mut words
+                ));
                 let raw::WatchStood { bytes, pairs, refusal, split, all } = stood;
                 let fed = raw::WatchFed { bytes, pairs, refusal, all };
                 fed_line('p', fed, Some(split), &words, &self.record)

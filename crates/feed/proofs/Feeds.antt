@@ -25,7 +25,7 @@ module _ {C : Type 0} (E : Engine C) (K : Layout C) (R : List ℕ) (rules : List
   -- a feed that a rule refuses changes nothing
   pub refused-unchanged : (verdict rules ≡ 0 → ⊥) → Unchanged R out (feed rules E K R piece out)
   refused-unchanged v =
-      rw (unfed E K R piece out rules v) (record { bytes = refl; pairs = refl; all = refl; words = refl; saved = refl })
+      rw (unfed E K R piece out rules v) refl
 
   pub feed-longest : verdict rules ≡ 0 → Longest E (K .config R) (room out) piece (feed rules E K R piece out .bytes)
   feed-longest v =

@@ -10,14 +10,14 @@ use native.Mathlib.Decide.{decLt}
 use lib.ListN.{length, take}
 use lib.Seq.{length-take-le, take-take}
 use lib.Dec.{ltb}
-use borrow.Author.Tests.{eq-eqb, ltb-true, lt-ltb, le-ltb}
+use borrow.Author.Tests.{eq-eqb, ltb-true, lt-ltb, le-ltb, ne-eqb}
 use Rattle.rules.specs.Rules.{Rule, verdict}
 use Rattle.rules.proofs.Scanning.{both}
 use Rattle.feed.specs.Engine.{Engine, Layout, Outcome, room, run, consumed, ended, feed}
 use Rattle.feed.proofs.Runs.{consumed-most, consumed-again, consumed-free}
 use Rattle.feed.proofs.Going.{unfed}
 use Rattle.feed.proofs.Moves.{no-refusal}
-use Rattle.feed.specs.Demands.{Same}
+use Rattle.feed.specs.Demands.{Halted}
 
 module _ {C : Type 0} (E : Engine C) (K : Layout C) (R : List ℕ) (rules : List Rule) (piece out : List ℕ) where
   few : ℕ
@@ -118,12 +118,23 @@ module _ {C : Type 0} (E : Engine C) (K : Layout C) (R : List ℕ) (rules : List
 
 -- 14 leaves what the bytes before it leave, where a front of the piece passes its rules as well
 pub kept : {C : Type 0} (E : Engine C) (K : Layout C) (R : List ℕ) (rules others : List Rule) (piece out : List ℕ) → verdict rules < 14
-    → feed rules E K R piece out .refusal ≡ 14 → verdict others ≡ 0 → Same (feed rules E K R piece out) (feed others E K R (take (feed rules E K R piece out .bytes) piece) out)
+    → feed rules E K R piece out .refusal ≡ 14 → verdict others ≡ 0 → Halted (feed rules E K R piece out) (feed others E K R (take (feed rules E K R piece out .bytes) piece) out)
 unfolding front few ended
-kept E K R rules others piece out low e w =
-    let v = passed-14 E K R rules piece out low e in
-    let n = few E K R rules piece out in
-    let again : take (consumed E (K .config R) (room out) (take n piece)) (take n piece) ≡ take n piece =
-    ap (λ (m : ℕ). take m (take n piece)) (consumed-again E (K .config R) (room out) piece) ∙ take-take n n piece (omega arith) in
-    rw (bytes-few E K R rules piece out v, goes E K R rules piece out v, goes E K R others (take n piece) out w, again)
-    (record { bytes = sym (front-long E K R rules piece out); pairs = refl; words = refl; saved = refl })
+kept E K R rules others piece out low e w = so (feed rules E K R piece out .bytes) (bytes-few E K R rules piece out (passed-14 E K R rules piece out low e))
+  where
+    so : (m : ℕ) → m ≡ few E K R rules piece out → Halted (feed rules E K R piece out) (feed others E K R (take m piece) out)
+    so m q =
+        let n = few E K R rules piece out in
+        let again : take (consumed E (K .config R) (room out) (take n piece)) (take n piece) ≡ take n piece =
+        ap (λ (m : ℕ). take m (take n piece)) (consumed-again E (K .config R) (room out) piece) ∙ take-take n n piece (omega arith) in
+        let h = halts-14 E K R rules piece out low e in
+        let short : length (take n piece) < length piece = rw (front-long E K R rules piece out) (h .0) in
+        rw (
+          q,
+          goes E K R rules piece out (passed-14 E K R rules piece out low e),
+          goes E K R others (take n piece) out w,
+          again,
+          lt-ltb (length (take n piece)) (length piece) short,
+          h .1,
+          ne-eqb (length (take n piece)) (length piece) (λ y. omega (arith, short, y)),
+        ) refl

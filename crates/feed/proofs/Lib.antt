@@ -1,5 +1,5 @@
 pub mod Runs
-pub mod Told
+pub mod Due
 pub mod Follows
 pub mod Alike
 pub mod Going
@@ -12,5 +12,7 @@ pub mod Made
 pub mod Lawful
 pub mod Telling
 pub mod Looping
+pub mod Fitting
 pub mod Opening
+pub mod Piece
 pub mod Unique

@@ -10,7 +10,8 @@ use lib.ListN.{length, getD, take, drop}
 use lib.Seq.{length-take-le}
 use lib.Dec.{ltb, eqb}
 use borrow.Author.Tests.{lt-ltb, le-ltb}
-use Rattle.sets.specs.Set.{signatures, size, members, placed}
+use Rattle.numbers.specs.Number.{placed}
+use Rattle.sets.specs.Set.{signatures, size, members}
 use Rattle.sets.proofs.Members.{members-size}
 use Rattle.rules.proofs.Scanning.{and-false}
 use Rattle.rules.specs.Rules.{Rule, verdict}
@@ -22,7 +23,7 @@ use Rattle.feed.specs.Fed.{Answers}
 use Rattle.feed.proofs.Runs.{pairsAt-length, costs-most, bytes-take}
 use Rattle.feed.specs.inner.Going.{Going}
 use Rattle.feed.proofs.Going.{words-even, length-kept, more, stop, fed, unfed}
-use Rattle.sets.proofs.Placing.{placed-fits}
+use Rattle.numbers.proofs.Placing.{placed-fits}
 
 module _ {C : Type 0} {E : Engine C} {x₀ : C} {k₀ : ℕ} {piece out₀ : List ℕ} {x : C} {out : List ℕ} {i w n : ℕ} (g : Going E x₀ k₀ piece out₀ x out i w n) where
   -- the words written are among the words that are there

@@ -10,9 +10,10 @@ use native.Mathlib.Nat.{zero-add}
 use lib.ListN.{length, getD, take, drop}
 use lib.Seq.{take-at}
 use borrow.Author.Tests.{eq-eqb, ne-eqb, le-ltb, ltb-false}
-use Rattle.sets.specs.Set.{signatures, members, holds, placed}
+use Rattle.numbers.specs.Number.{placed}
+use Rattle.sets.specs.Set.{signatures, members, holds}
 use Rattle.sets.proofs.Members.{members-at, members-all, members-rise}
-use Rattle.sets.proofs.Placing.{placed-fits}
+use Rattle.numbers.proofs.Placing.{placed-fits}
 use Rattle.rules.specs.Rules.{Rule, verdict}
 use Rattle.rules.proofs.Scanning.{choose}
 use Rattle.rules.proofs.Rules as rules
@@ -24,7 +25,7 @@ use Rattle.feed.specs.Opening.{Opening, noRoom, opening, Opens}
 use Rattle.feed.specs.Demands.{OneOpening, Due}
 use Rattle.feed.proofs.Runs.{pairsAt-length}
 use Rattle.feed.proofs.Moves.{behind-stay, behind-many}
-use Rattle.feed.proofs.Told.{pairsAt-offset, pairsAt-exactly, pairsAt-ordered, pair-append, before-append, told-exactly, told-ordered, told-beyond}
+use Rattle.feed.proofs.Due.{pairsAt-offset, pairsAt-exactly, pairsAt-ordered, pair-append, before-append, told-exactly, told-ordered, told-beyond}
 
 module _ (rules : List Rule) (ws Q R out : List ℕ) where
   -- no rule applies, or one does
@@ -98,7 +99,7 @@ module _ (early : List Rule) (ws Q R out : List ℕ) (m : ℕ) (even : length ws
       let e = opening-refusal all ws Q R out in
       record {
         refuses = rw e (refuses all apart);
-        unchanged = λ v. rw (unopened all ws Q R out (λ z. v (e ∙ z))) (record { pairs = refl; words = refl; saved = refl });
+        unchanged = λ v. rw (unopened all ws Q R out (λ z. v (e ∙ z))) refl;
         passes = λ z. let v = sym e ∙ z in (opening-tells all ws Q R out m even v, ap (λ (o : Opening). o .saved) (opens all ws Q R out v));
         words-stay = opening-rest all ws Q R out m even;
         words-many = opening-length all ws Q R out m even has-room;

@@ -8,8 +8,9 @@ use native.Mathlib.Nat.{zero-mul, mul-one, div-one, div-eq-of-lt, mod-lt}
 use lib.ListN.{length, getD, set, length-append}
 use lib.Pow.{shr-shr, pow-pos}
 use borrow.Author.Tests.{eqb-true, eqb-false}
-use Rattle.sets.specs.Set.{sigWords, signatures, num, bit, holds, size, members, placed}
-use Rattle.sets.proofs.Laws.{bits-ext, bit-zero}
+use Rattle.numbers.specs.Number.{num, bit, placed}
+use Rattle.sets.specs.Set.{sigWords, signatures, holds, size, members}
+use Rattle.numbers.proofs.Laws.{bits-ext, bit-zero}
 use Rattle.sets.proofs.Words.{word-at}
 use Rattle.sets.proofs.Sets.{Words, words-lt, holds-empty}
 use Rattle.sets.proofs.Parts.{low-in, high-in, at-state, members-none, members-one, members-split}
@@ -18,7 +19,7 @@ use Rattle.sets_words.proofs.Bits.{bit-mod}
 use Rattle.feed.specs.Engine.{pairsAt}
 use Rattle.feed.specs.inner.Tells.{Tells}
 use Rattle.feed.proofs.Runs.{pairsAt-length}
-use Rattle.sets.proofs.Placing.{length-placed, placed-none, placed-one, placed-after, placed-empty}
+use Rattle.numbers.proofs.Placing.{length-placed, placed-none, placed-one, placed-after, placed-empty}
 
 -- ---- the words of their pairs
 

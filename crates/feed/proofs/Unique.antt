@@ -1,15 +1,24 @@
 -- Each promise of the public functions determines the outcome: two outcomes that meet it are equal. Assumes nothing.
 use mathlib.Core.Path.{_≡_, sym, ap, _∙_}
 use mathlib.Core.List.{List}
-use mathlib.Core.Bool.{Bool}
-use Prim.Native.Nat.{ℕ}
-use Rattle.sets.specs.Set.{signatures, members, placed}
+use mathlib.Core.Bool.{Bool, cond}
+use Prim.Native.Nat.{ℕ, _+_, _*_}
+use Rattle.numbers.specs.Number.{placed}
+use Rattle.sets.specs.Set.{signatures, size, members}
+use Rattle.rules.specs.Rules.{verdict}
 use Rattle.feed.specs.declared.Fed.{Fed}
 use Rattle.feed.specs.Engine.{Outcome, pairsAt}
-use Rattle.feed.specs.inner.Tells.{Unfed}
+use Rattle.feed.specs.Piece.{pieceRules}
+use Rattle.feed.specs.inner.Tells.{Unfed, Ends}
+use Rattle.feed.specs.inner.Told.{TellsAll}
+use Rattle.feed.specs.declared.Told.{Told}
 use Rattle.feed.specs.Fed.{Answers}
 use Rattle.feed.specs.Opening.{Opening, Opens}
 use Rattle.feed.specs.declared.Opened.{Opened}
+
+-- the check of a piece gives one number
+pub unique-piece-refusal : (r q k at : ℕ) (piece : List ℕ) → r ≡ verdict (pieceRules k at piece) → q ≡ verdict (pieceRules k at piece) → r ≡ q
+unique-piece-refusal r q k at piece e f = e ∙ sym f
 
 -- telling leaves one list of words
 pub unique-tell : (r q out : List ℕ) (at k G : ℕ)
@@ -45,3 +54,16 @@ unique-answers o f g ws vs sv tv a b = (
   a .words ∙ sym (b .words),
   a .saved ∙ sym (b .saved),
 )
+
+-- the end of a loop gives one answer
+pub unique-ended : (n i w len : ℕ) (f g : Fed) → Ends n i w len f → Ends n i w len g → f ≡ g
+unique-ended n i w len f g a b = fed-one f g (a .refusal ∙ sym (b .refusal)) (a .bytes ∙ sym (b .bytes)) (a .pairs ∙ sym (b .pairs)) (a .all ∙ sym (b .all))
+
+-- telling all or nothing leaves one answer and one list of words
+pub unique-tell-all : (G : ℕ) (out : List ℕ) (w k : ℕ) (t s : Told) (left end : List ℕ) → TellsAll G out w k t left → TellsAll G out w k s end → (t ≡ s) × (left ≡ end)
+unique-tell-all G out w k t s left end a b =
+    let f = a .fits ∙ sym (b .fits) in (
+      ap {B = Told} (λ (x : Bool). record { fits = x; words = t .words }) f
+          ∙ ap {B = Told} (λ (x : ℕ). record { fits = s .fits; words = x }) (a .words ∙ ap (λ (x : Bool). cond x (w + 2 * size signatures G) w) f ∙ sym (b .words)),
+      a .wrote ∙ ap (λ (x : Bool). cond x (placed out w (pairsAt k (members signatures G))) out) f ∙ sym (b .wrote),
+    )

@@ -15,7 +15,7 @@ use Rattle.feed.specs.Calls.{Bytes, Asked, asking, recordAfter, allTold,
 use Rattle.feed.specs.Demands.{Answered, openTold, Runs, Counts, Due, Flowed, Alike}
 use Rattle.feed.specs.Opening.{Opening}
 use Rattle.feed.proofs.Runs.{run-append, costs-append, told-append, told-length, bytes-take, take-front, length-take-most, costs-most}
-use Rattle.feed.proofs.Told.{told-exactly, told-ordered}
+use Rattle.feed.proofs.Due.{told-exactly, told-ordered}
 use Rattle.feed.proofs.Going.{unfed}
 use Rattle.feed.proofs.Moves.{feed-ends, rules-alone}
 use Rattle.feed.proofs.Alike.{answered}

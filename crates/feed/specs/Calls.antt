@@ -36,6 +36,24 @@ abbrev pub asking : List ℕ → (List ℕ → Outcome) → Asked (List ℕ)
 asking piece does =
     record { piece = piece; eaten = λ R. take (does R .bytes) piece; spoken = λ R. take (2 * does R .pairs) (does R .words); left = λ R. does R .saved }
 
+-- ---- a feed that a caller makes, by what he goes: the list or the lists, and the engine. Of a kind B of these, `way` says how each feeds
+
+pub record Call (B : Type 0) : Type 0 where
+  pub by : B
+  pub at : ℕ
+  pub piece : List ℕ
+  pub out : List ℕ
+
+-- what it answers, and leaves of the record R; its rules there; and the call that this is
+abbrev pub outcome : {B : Type 0} → (B → Way) → List ℕ → Call B → Outcome
+outcome way R c = fedBy (way (c .by)) R (c .at) (c .piece) (c .out)
+
+abbrev pub ruled : {B : Type 0} → (B → Way) → List ℕ → Call B → List Rule
+ruled way R c = way (c .by) .rules R (c .at) (c .piece)
+
+abbrev pub asked : {B : Type 0} → (B → Way) → Call B → Asked (List ℕ)
+asked way c = asking (c .piece) (λ R. outcome way R c)
+
 -- ---- one after the other, each on what the one before it left
 
 -- what all of them leave

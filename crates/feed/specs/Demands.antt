@@ -8,19 +8,15 @@ use lib.ListN.{length, getD, take}
 use Rattle.sets.specs.Set.{signatures, members, holds}
 use Rattle.rules.specs.Rules.{Rule, verdict, Refuses}
 use Rattle.feed.specs.Pairs.{Pair, Before}
-use Rattle.feed.specs.Engine.{Engine, Layout, Outcome, run, costs, pairsAt, told, amount, room}
+use Rattle.feed.specs.Engine.{Engine, Layout, Outcome, refused, run, costs, pairsAt, told, amount, room}
 use Rattle.feed.specs.Opening.{Opening, noRoom}
-use Rattle.feed.specs.Calls.{Way, fedBy, Asked, recordAfter, allTold, allBytes}
+use Rattle.feed.specs.Calls.{Way, fedBy, Asked, Call, outcome, ruled, asked, recordAfter, allTold, allBytes, Along, Pieces}
 
 -- ---- a refusal
 
 -- zero bytes, zero pairs, not all, and both buffers as they were
-pub record Unchanged (R out : List ℕ) (o : Outcome) : Type 0 where
-  pub bytes : o .bytes ≡ 0
-  pub pairs : o .pairs ≡ 0
-  pub all : o .all ≡ false
-  pub words : o .words ≡ out
-  pub saved : o .saved ≡ R
+abbrev pub Unchanged : List ℕ → List ℕ → Outcome → Type 0
+Unchanged R out o = o ≡ refused (o .refusal) R out
 
 -- two calls that answer the same and leave the same words
 pub record Answered (o p : Outcome) : Type 0 where
@@ -30,18 +26,9 @@ pub record Answered (o p : Outcome) : Type 0 where
   pub all : o .all ≡ p .all
   pub words : o .words ≡ p .words
 
--- two calls that consume the same, tell the same and leave the same buffers
-pub record Same (o p : Outcome) : Type 0 where
-  pub bytes : o .bytes ≡ p .bytes
-  pub pairs : o .pairs ≡ p .pairs
-  pub words : o .words ≡ p .words
-  pub saved : o .saved ≡ p .saved
-
--- an opening so: zero pairs, and both buffers as they were
-pub record Unopened (R out : List ℕ) (o : Opening) : Type 0 where
-  pub pairs : o .pairs ≡ 0
-  pub words : o .words ≡ out
-  pub saved : o .saved ≡ R
+-- it ends in 14: it consumes the bytes, tells the pairs and leaves the buffers of another call, and not all is consumed
+abbrev pub Halted : Outcome → Outcome → Type 0
+Halted o p = o ≡ record { refusal = 14; bytes = p .bytes; pairs = p .pairs; all = false; words = p .words; saved = p .saved }
 
 -- the words of the pairs that an opening tells
 abbrev pub openTold : Opening → List ℕ
@@ -52,7 +39,7 @@ openTold o = take (2 * o .pairs) (o .words)
 pub record OneOpening (early : List Rule) (ws Q R out : List ℕ) (o : Opening) : Type 0 where
   -- the first rule that applies refuses it, and changes nothing; the last is 15, for more pairs than there is room for
   pub refuses : Refuses (early ++ ((15, noRoom ws out) ∷ [])) (o .refusal)
-  pub unchanged : (o .refusal ≡ 0 → ⊥) → Unopened R out o
+  pub unchanged : (o .refusal ≡ 0 → ⊥) → o ≡ record { refusal = o .refusal; pairs = 0; words = out; saved = R }
   -- else those pairs are told, and the record is Q, whatever it held
   pub passes : o .refusal ≡ 0 → (openTold o ≡ ws) × (o .saved ≡ Q)
   -- whether refused or not: the words from the pairs on stay, an odd last word too; there are as many; the pairs fit half as many
@@ -87,7 +74,7 @@ pub record OneFeed (W : Way) (R : List ℕ) (at : ℕ) (piece out : List ℕ) (o
   -- and 14, if it is no rule's number, exactly when no rule refuses it, bytes are left, and the engine halts; what is left is what a feed of just the bytes before it leaves
   pub halts : verdict (W .rules R at piece) < 14
       → (o .refusal ≡ 14) ↔ ((verdict (W .rules R at piece) ≡ 0) × (o .bytes < length piece) × (W .engine .halts (standsAfter W R piece (o .bytes)) ≡ true))
-  pub kept : verdict (W .rules R at piece) < 14 → o .refusal ≡ 14 → verdict (W .rules R at (take (o .bytes) piece)) ≡ 0 → Same o (fedBy W R at (take (o .bytes) piece) out)
+  pub kept : verdict (W .rules R at piece) < 14 → o .refusal ≡ 14 → verdict (W .rules R at (take (o .bytes) piece)) ≡ 0 → Halted o (fedBy W R at (take (o .bytes) piece) out)
   -- it says all exactly when there is no refusal and that is the whole piece
   pub all : (o .all ≡ true) ↔ ((o .refusal ≡ 0) × (o .bytes ≡ length piece))
   -- whether refused or not: the words from the pairs on stay, an odd last word too; there are as many; the pairs fit half as many
@@ -116,6 +103,11 @@ pub record Runs {A D : Type 0} (ask : A → Asked (List ℕ)) (K : Layout D) (G 
   pub config : K .config (recordAfter ask R cs) ≡ run G (K .config R) (allBytes ask R cs)
   pub offset : K .offset (recordAfter ask R cs) ≡ K .offset R + length (allBytes ask R cs)
 
+-- feeds do so, and a refusal is one of the rules', never 14
+pub record Tells {B D : Type 0} (way : B → Way) (K : Layout D) (G : Engine D) (R : List ℕ) (cs : List (Call B)) : Type 0 where
+  pub runs : Runs (asked way) K G R cs
+  pub refused : Along (asked way) (λ Q c. outcome way Q c .refusal ≡ verdict (ruled way Q c)) R cs
+
 -- and the rows read are those of G
 abbrev pub Counts : {A D : Type 0} → (A → Asked (List ℕ)) → Layout D → Engine D → List ℕ → List A → Type 0
 Counts ask K G R cs = K .rows (recordAfter ask R cs) ≡ K .rows R + costs G (K .config R) (allBytes ask R cs)
@@ -138,9 +130,19 @@ pub record Flowed {A D : Type 0} (ask : A → Asked (List ℕ)) (K : Layout D) (
   pub config : K .config (recordAfter ask (o .saved) cs) ≡ run G x (allBytes ask (o .saved) cs)
   pub offset : K .offset (recordAfter ask (o .saved) cs) ≡ length (allBytes ask (o .saved) cs)
 
+-- what holds of an opening and calls holds of each that is not refused, on any record and words, with any calls after it whose pieces are bytes, of each of which P holds at the record that it meets
+abbrev pub Onward : {A : Type 0} → (A → Asked (List ℕ)) → (List ℕ → List ℕ → Opening) → (List ℕ → A → Type 0) → (Opening → List A → Type 0) → Type 0
+Onward {A} ask opens P Holds =
+    (R out : List ℕ) → opens R out .refusal ≡ 0 → (cs : List A) → Pieces ask cs → Along ask P (opens R out .saved) cs → Holds (opens R out) cs
+
 -- ---- cut otherwise
 
 -- cut anywhere: calls that consume the same bytes tell the same words and leave the same record, whatever the pieces, the rooms and the refusals between
 pub record Alike {A B : Type 0} (ask : A → Asked (List ℕ)) (bid : B → Asked (List ℕ)) (R : List ℕ) (cs : List A) (ds : List B) : Type 0 where
   pub words : allTold ask R cs ≡ allTold bid R ds
   pub record-after : recordAfter ask R cs ≡ recordAfter bid R ds
+
+-- so of all calls from the record R on, of each of which P holds at the record that it meets
+abbrev pub Cuts : {A : Type 0} → (A → Asked (List ℕ)) → (List ℕ → A → Type 0) → List ℕ → Type 0
+Cuts {A} ask P R =
+    (cs ds : List A) → Pieces ask cs → Pieces ask ds → Along ask P R cs → Along ask P R ds → allBytes ask R cs ≡ allBytes ask R ds → Alike ask ask R cs ds

@@ -32,21 +32,30 @@ pub record Means (S D : Type 0) : Type 1 where
   pub Names : S → Type 0
   pub Lent : Type 0
 
+-- means whose engine stands at the automaton's own configurations, and which take for named what s names and are lent nothing: its rules, its engine, what a byte counts, the most that
+-- this is, and what is checked
+abbrev pub ownMeans : {S D : Type 0} → (S → List ℕ → ℕ → List ℕ → List Rule) → (S → Engine D) → (D → ℕ) → ℕ → (S → Type 0) → Means S D
+ownMeans {S} {D} rules engine spends bound Checked =
+    record {
+      Config = D;
+      rules = rules;
+      engine = engine;
+      stands = λ x. x;
+      frontier = λ x. x;
+      spends = spends;
+      bound = bound;
+      Checked = Checked;
+      Names = λ s. Unit {0};
+      Lent = Unit {0};
+    }
+
+-- a layout of configurations of type D, for an engine that stands elsewhere: where it stands at each of them, and the other way round
+abbrev pub seenBy : {C D : Type 0} → (D → C) → (C → D) → Layout D → Layout C
+seenBy stands frontier K = record { config = λ R. stands (K .config R); offset = K .offset; rows = K .rows; save = λ x k n. K .save (frontier x) k n }
+
 -- the way to feed by them: the record holds a configuration of the automaton
 abbrev pub wayBy : {S D : Type 0} → Automata S D → Means S D → S → Way
-wayBy A M s =
-    record {
-      Config = M .Config;
-      rules = M .rules s;
-      engine = M .engine s;
-      layout =
-          record {
-            config = λ R. M .stands (A .layout .config R);
-            offset = A .layout .offset;
-            rows = A .layout .rows;
-            save = λ x k n. A .layout .save (M .frontier x) k n;
-          };
-    }
+wayBy A M s = record { Config = M .Config; rules = M .rules s; engine = M .engine s; layout = seenBy (M .stands) (M .frontier) (A .layout) }
 
 -- the automaton of s comes to x by some bytes
 abbrev pub Reached : {S D : Type 0} → Automata S D → S → D → Type 0

@@ -1,5 +1,6 @@
 pub mod Pairs
 pub mod Engine
+pub mod Piece
 pub mod Calls
 pub mod Fed
 pub mod Opening

@@ -3,9 +3,13 @@ use sets::SigSet;
 ghost use mathlib.Core.Path.{_≡_};
 ghost use Prim.Native.Nat.{_+_, _*_, _^_, _≤_, _<_};
 ghost use lib.ListN.{length};
-ghost use Rattle.sets.specs.Set.{signatures, size, members, sigsOf, placed};
-ghost use Rattle.feed.specs.Engine.{pairsAt};
-ghost use Rattle.feed.specs.inner.Tells.{Unfed, Tells};
+ghost use Rattle.numbers.specs.Number.{placed};
+ghost use Rattle.sets.specs.Set.{signatures, size, members, sigsOf};
+ghost use Rattle.rules.specs.Rules.{verdict};
+ghost use Rattle.feed.specs.Engine.{mostOffset, pairsAt};
+ghost use Rattle.feed.specs.Piece.{pieceRules};
+ghost use Rattle.feed.specs.inner.Tells.{Unfed, Ends, Tells};
+ghost use Rattle.feed.specs.inner.Told.{TellsAll};
 
 // The largest offset.
 pub const MOST_OFFSET: u64 = 4294967295;
@@ -24,6 +28,12 @@ pub struct Opened {
     pub pairs: usize,
 }
 
+// What telling a byte's pairs leaves: whether they all fit, and how many words are written.
+pub struct Told {
+    pub fits: bool,
+    pub words: usize,
+}
+
 // The answer of a feed that a rule refuses.
 pub fn refused(refusal: u32) -> Fed
     ensures { λ f. ⌜ Unfed refusal f ⌝ }
@@ -34,6 +44,32 @@ pub fn refused(refusal: u32) -> Fed
         pairs: 0,
         all: false,
     }
+}
+
+// The answer of a feed of a piece of `len` bytes whose loop has ended: with a refusal or 0, so many bytes consumed and so many words written.
+pub fn ended(refusal: u32, bytes: usize, words: usize, len: usize) -> Fed
+    ensures { λ f. ⌜ Ends refusal bytes words len f ⌝ }
+{
+    Fed {
+        refusal: refusal,
+        bytes: bytes,
+        pairs: words / 2,
+        all: bytes == len,
+    }
+}
+
+// The check of a piece at the offset of its flow: the number of the first of the rules 5 and 6 that refuses it, 0 where neither does.
+pub fn piece_refusal(offset: u64, start: u64, piece: &[u8]) -> u32
+    requires { ⌜ offset ≤ mostOffset ⌝ }
+    ensures { λ r. ⌜ r ≡ verdict (pieceRules offset start (now (piece .entry))) ⌝ }
+{
+    if start != offset {
+        return rules::OTHER_START;
+    }
+    if piece.len() as u64 > MOST_OFFSET - offset {
+        return rules::TOO_LONG;
+    }
+    rules::PASSED
 }
 
 // Writes signature s and the offset at word w, where the bit is 1; answers the word after.
@@ -76,5 +112,24 @@ pub fn tell(pairs: &mut [u32], at: usize, g: SigSet, offset: u32)
     let mut w = at;
     for i in 0..sets::SIG_WORDS {
         w = tell_word(pairs, w, words[i], 64 * i, offset);
+    }
+}
+
+// Tells a set of signatures behind the words that are written: all of it, or nothing where it does not fit.
+pub fn tell_all(pairs: &mut [u32], words: usize, g: SigSet, offset: u32) -> Told
+    requires { ⌜ words ≤ length (now pairs) ⌝ }
+    ensures { λ t. ⌜ TellsAll (sigsOf g) (now (pairs .entry)) words offset t (now (pairs .exit)) ⌝ }
+{
+    let n = g.count() as usize;
+    if (pairs.len() - words) / 2 < n {
+        return Told {
+            fits: false,
+            words: words,
+        };
+    }
+    tell(pairs, words, g, offset);
+    Told {
+        fits: true,
+        words: words + 2 * n,
     }
 }

@@ -8,9 +8,10 @@ use native.Mathlib.Nat.{lt-of-not-le}
 use native.Mathlib.Decide.{decLt}
 use lib.Dec.{ltb, eqb}
 use borrow.Author.Tests.{ltb-true, ltb-false, lt-ltb, le-ltb, ne-eqb, eqb-true}
-use Rattle.sets.specs.Set.{setBytes, before, compare}
-use Rattle.sets.proofs.Laws.{Small}
-use Rattle.sets.proofs.Order.{before-irrefl, before-trans}
+use Rattle.numbers.specs.Number.{before, compare}
+use Rattle.sets.specs.Set.{setBytes}
+use Rattle.numbers.proofs.Laws.{Small}
+use Rattle.numbers.proofs.Order.{before-irrefl, before-trans}
 use Rattle.rules.specs.Scan.{every}
 use Rattle.rules.proofs.Scanning.{below-suc, choose, some-none, first-none}
 use Rattle.table.specs.Table.{splitCount, splitSet, splitOf, inOrder}

@@ -19,8 +19,10 @@ use Rattle.feed.specs.Calls.{Bytes, costing}
 use Rattle.feed.specs.Lawful.{Reached, Fit, Lawful}
 use Rattle.feed.proofs.Alike.{feed-same, feed-stuck}
 use Rattle.feed.proofs.Lawful.{reached-has}
-use Rattle.list_flow.specs.Flow.{flowBytes, flowLayout, frontierOf, offsetOf, badFlow, otherStart, flowRules, feedRules}
-use Rattle.list_flow.proofs.Passing.{flow-passes, cut-passes}
+use Rattle.feed.specs.Piece.{otherStart}
+use Rattle.feed.proofs.Piece.{cut-passes}
+use Rattle.list_flow.specs.Flow.{flowBytes, flowLayout, frontierOf, offsetOf, badFlow, flowRules, feedRules}
+use Rattle.list_flow.proofs.Passing.{flow-passes}
 use Rattle.list_flow.proofs.Kept.{good-feed, fit-feed}
 use Rattle.list_feed.specs.Plain.{plain}
 use Rattle.list_feed.specs.Means.{listAutomata}
@@ -117,7 +119,7 @@ lawful b f cheap S X h =
       not-4 = λ L R at piece n fit e.
           true≢false (sym (rw (named-right L S X n h (frontierOf R)) at (exactly (standRules S X h R at piece) refl 0 (lit< tt) .0 e .0)) ∙ rw (fit .0, fit .1));
       shorter = λ L R at piece n v.
-          cut-passes ((4, badFlow R || not (namedBy S X h (frontierOf R))) ∷ (5, otherStart R at) ∷ []) ((8, badIndex S X) ∷ []) R piece n
+          cut-passes (offsetOf R) ((4, badFlow R || not (namedBy S X h (frontierOf R))) ∷ (5, otherStart (offsetOf R) at) ∷ []) ((8, badIndex S X) ∷ []) piece n
           (stand-passes S X h R at piece v .2) v;
       cheap = λ l L x. omega (arith, l (x .place + costPlace));
       counts = cheap;

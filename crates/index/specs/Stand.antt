@@ -4,7 +4,8 @@ use mathlib.Core.Bool.{Bool, _&&_, not, cond}
 use mathlib.Core.List.{List, [], _∷_, _++_}
 use lib.ListN.{take}
 use lib.Dec.{leb, ltb, eqb}
-use Rattle.sets.specs.Set.{setBytes, before}
+use Rattle.numbers.specs.Number.{before}
+use Rattle.sets.specs.Set.{setBytes}
 use Rattle.rules.specs.Rules.{Rule, verdict}
 use Rattle.feed.specs.Engine.{Engine, Layout, Outcome, run, consumed, room, feed}
 use Rattle.list_flow.specs.Flow.{frontierOf, offsetOf, rowsOf, flowBytes, flowRules}

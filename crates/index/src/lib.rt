@@ -16,6 +16,9 @@ pub const FLAG_PLACE: usize = COST_PLACE + 1;
 
 pub const ENTRY_SIZE: usize = COST_PLACE + sets::SIG_BYTES;
 
+// A place has a whole entry where one byte and so many more stand from it on.
+pub const REST: usize = ENTRY_SIZE - 1;
+
 // A word from here on tells.
 pub const TELLING: usize = 2147483648;
 
@@ -44,7 +47,7 @@ pub fn known(index: &[u8], f: StateSet) -> bool
     if index.len() < sets::BYTES {
         return true;
     }
-    let named = StateSet::whole(index, 0);
+    let named = StateSet::from_bytes(index, 0);
     f.union(named).same(named)
 }
 
@@ -58,10 +61,10 @@ pub fn find(splits: &[u8], f: StateSet) -> usize
     while lo < hi {
         let mid = (lo + hi) / 2;
         let met = f.compare_whole(splits, table::SPLIT_SIZE * mid);
-        if met == sets::SAME {
+        if met == numbers::SAME {
             return mid;
         }
-        if met == sets::BEFORE {
+        if met == numbers::BEFORE {
             lo = mid + 1;
         } else {
             hi = mid;

@@ -7,7 +7,8 @@ use native.Mathlib.Omega.{arith}
 use lib.ListN.{length}
 use lib.Dec.{leb, ltb, eqb}
 use borrow.Author.Tests.{ne-eqb, eqb-true, eqb-false, ltb-true, not-false}
-use Rattle.sets.specs.Set.{setSize, setBytes, before}
+use Rattle.numbers.specs.Number.{before}
+use Rattle.sets.specs.Set.{setSize, setBytes}
 use Rattle.rules.specs.Rules.{verdict}
 use Rattle.rules.proofs.Scanning.{neither}
 use Rattle.feed.specs.Engine.{room, consumed}

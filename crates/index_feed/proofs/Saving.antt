@@ -8,10 +8,11 @@ use lib.ListN.{length, getD, set, take, drop, length-append, length-drop, take-a
 use lib.Seq.{take-suc, getD-take, getD-drop, drop-at, length-take-le, ext-getD}
 use lib.Dec.{eqb}
 use borrow.Author.Tests.{eq-eqb, ne-eqb, eqb-true}
-use Rattle.sets.specs.Set.{setSize, num, digits, setBytes, bytesAt, setAt, placed}
-use Rattle.sets.proofs.Laws.{Small, small-take, small-drop, num-inj, length-digits}
+use Rattle.numbers.specs.Number.{num, digits, placed}
+use Rattle.sets.specs.Set.{setSize, setBytes, bytesAt, setAt}
+use Rattle.numbers.proofs.Laws.{Small, small-take, small-drop, num-inj, length-digits}
 use Rattle.sets.proofs.Words.{Alike}
-use Rattle.sets.proofs.Placing.{placed-fits, placed-one}
+use Rattle.numbers.proofs.Placing.{placed-fits, placed-one}
 use Rattle.rules.specs.Rules.{verdict}
 use Rattle.rules.proofs.Rules.{stop}
 use Rattle.list_flow.specs.Flow.{flowSize, frontierOf, flowBytes, badFlow}

@@ -8,28 +8,19 @@ ghost use mathlib.Core.List.{[], _∷_, _++_};
 ghost use Prim.Native.Nat.{_+_, _*_, _-_, _/_, _<_, _≤_, _^_};
 ghost use lib.ListN.{length};
 ghost use lib.Dec.{leb, ltb, eqb};
-ghost use Rattle.sets.specs.Set.{setSize, setBytes, setAt, placed};
+ghost use Rattle.numbers.specs.Number.{placed};
+ghost use Rattle.sets.specs.Set.{setSize, setBytes, setAt};
 ghost use Rattle.rules.specs.Rules.{verdict};
 ghost use Rattle.feed.specs.Engine.{mostOffset};
 ghost use Rattle.feed.specs.Fed.{Answers};
 ghost use Rattle.list_flow.specs.Flow.{flowSize, frontierOf, rowsOf, flowBytes, flowRules};
 ghost use Rattle.table.specs.Table.{mostSplits, splitCount, splitSet};
-ghost use Rattle.index.specs.Entry.{entrySize, entryPlace, telling, limit, badIndex};
+ghost use Rattle.index.specs.Entry.{entrySize, entryPlace, telling, limit, flagAt, knownIn, badIndex};
 ghost use Rattle.index.specs.Stand.{soughtOf, holdsAt, namedBy, standRules, standFeed, stoodAt};
 ghost use Rattle.index_turns.specs.inner.Goes.{Strides};
 
-// A place has a whole entry where one byte and so many more stand from it on.
-const REST: usize = index::ENTRY_SIZE - 1;
-
 // A piece of fewer bytes than these is first tried byte by byte.
 const SHORT: usize = 16;
-
-// The places of the offset, of the bytes behind it and of the rows read in a record.
-const OFFSET_AT: usize = sets::BYTES;
-
-const RESERVED_AT: usize = sets::BYTES + 4;
-
-const ROWS_AT: usize = sets::BYTES + 8;
 
 // What a call answers: as every feed, and the split where the flow then stands.
 pub struct Stood {
@@ -49,39 +40,71 @@ fn same_set(splits: &[u8], at: usize, flow: &[u8]) -> bool
     all
 }
 
+// Says whether split `hint` is there and the lists are good: by one division, since where the split is there the splits are not none.
+fn there(splits: &[u8], index: &[u8], hint: usize) -> bool
+    ensures { λ r. ⌜ r ≡ (ltb hint (splitCount (now (splits .entry))) && not (badIndex (now (splits .entry)) (now (index .entry)))) ⌝ }
+{
+    let n = table::split_count(splits);
+    if n <= hint {
+        return false;
+    }
+    if table::MOST_SPLITS < n {
+        return false;
+    }
+    if table::SPLIT_SIZE * n != splits.len() {
+        return false;
+    }
+    index.len() == sets::BYTES + index::ENTRY_SIZE * n
+}
+
 // Says whether the lists are good and split `hint` is there and has the set that a record begins with.
 fn holds_at(splits: &[u8], index: &[u8], hint: usize, flow: &[u8]) -> bool
     requires { ⌜ setSize ≤ length (now flow) ⌝ }
     ensures { λ r. ⌜ r ≡ holdsAt (now (splits .entry)) (now (index .entry)) hint (frontierOf (now (flow .entry))) ⌝ }
 {
-    if index::bad_index(splits, index) {
-        return false;
+    let found = there(splits, index, hint);
+    if found {
+        return same_set(splits, table::SPLIT_SIZE * hint, flow);
     }
-    if table::split_count(splits) <= hint {
-        return false;
-    }
-    same_set(splits, table::SPLIT_SIZE * hint, flow)
+    false
+}
+
+// Says whether the entry of split `hint` has its flag, where it is there.
+fn flag_at(index: &[u8], hint: usize) -> bool
+    requires { ⌜ (entryPlace hint + entrySize ≤ length (now index)) × (length (now index) < telling) ⌝ }
+    ensures { λ r. ⌜ r ≡ not (eqb (flagAt (now (index .entry)) (entryPlace hint)) 0) ⌝ }
+{
+    index[sets::BYTES + index::ENTRY_SIZE * hint + index::FLAG_PLACE] != 0
+}
+
+// Says whether the set that the index begins with has the states of a record.
+fn known_in(index: &[u8], flow: &[u8]) -> bool
+    requires { ⌜ setSize ≤ length (now flow) ⌝ }
+    ensures { λ r. ⌜ r ≡ knownIn (now (index .entry)) (frontierOf (now (flow .entry))) ⌝ }
+{
+    index::known(index, StateSet::from_bytes(flow, 0))
 }
 
 // Says whether the states of a record count as named, where it is known whether the hint holds.
 fn named_by(splits: &[u8], index: &[u8], hint: usize, flow: &[u8], held: bool) -> bool
-    requires { ⌜ held ≡ holdsAt (now splits) (now index) hint (frontierOf (now flow)) ⌝ }
+    requires { ⌜ (held ≡ holdsAt (now splits) (now index) hint (frontierOf (now flow))) × (setSize ≤ length (now flow)) ⌝ }
     ensures { λ r. ⌜ r ≡ namedBy (now (splits .entry)) (now (index .entry)) hint (frontierOf (now (flow .entry))) ⌝ }
 {
     if held {
-        return index[sets::BYTES + index::ENTRY_SIZE * hint + index::FLAG_PLACE] != 0;
+        return flag_at(index, hint);
     }
-    index::known(index, StateSet::load(flow, 0))
+    known_in(index, flow)
 }
 
 // Where a call begins, where it is known whether the hint holds.
 fn begin(splits: &[u8], hint: usize, flow: &[u8], held: bool) -> usize
+    requires { ⌜ setSize ≤ length (now flow) ⌝ }
     ensures { λ r. ⌜ r ≡ cond held hint (soughtOf (now (splits .entry)) (frontierOf (now (flow .entry)))) ⌝ }
 {
     if held {
         return hint;
     }
-    index::find(splits, StateSet::load(flow, 0))
+    index::find(splits, StateSet::from_bytes(flow, 0))
 }
 
 // The check of a call on a record of the right size: the number of the first of the rules 4 to 6 and 8 that refuses it, 0 where none does. Where the hint holds, 8 does not.
@@ -125,8 +148,12 @@ pub fn refusal(
         return rules::FLOW_RECORD;
     }
     let held = holds_at(splits, index, hint, flow);
-    let named = named_by(splits, index, hint, flow, held);
-    feed_refusal(splits, index, held, named, flow, start, piece)
+    if held {
+        let flag = flag_at(index, hint);
+        return feed_refusal(splits, index, true, flag, flow, start, piece);
+    }
+    let known = known_in(index, flow);
+    feed_refusal(splits, index, false, known, flow, start, piece)
 }
 
 // Runs from a place with a whole entry: byte by byte where the piece is short and no byte of it tells, else by turns.
@@ -184,7 +211,7 @@ fn split_at(index: &[u8], n: usize, place: usize) -> usize
     requires { ⌜ entrySize ≤ length (now index) ⌝ }
     ensures { λ r. ⌜ r ≡ cond (ltb place (limit (now (index .entry)))) ((place - setSize) / entrySize) n ⌝ }
 {
-    if index.len() - REST <= place {
+    if index.len() - index::REST <= place {
         return n;
     }
     if place < sets::BYTES {
@@ -201,7 +228,7 @@ fn halted(index: &[u8], place: usize, bytes: usize, len: usize) -> u32
     if len <= bytes {
         return rules::PASSED;
     }
-    if place < index.len() - REST {
+    if place < index.len() - index::REST {
         return rules::PASSED;
     }
     rules::NO_SPLIT
@@ -234,10 +261,10 @@ fn advance(flow: &mut [u8], offset: u64, rows: u64)
     requires { ⌜ (length (now flow) ≡ flowSize) × (rowsOf (now flow) + rows < 2 ^ 64) ⌝ }
     ensures { λ r. ⌜ now (flow .exit) ≡ flowBytes (frontierOf (now (flow .entry))) offset (rowsOf (now (flow .entry)) + rows) ⌝ }
 {
-    let all = sets::number_at(flow, ROWS_AT, 8) + rows;
-    sets::put_number(flow, OFFSET_AT, 4, offset);
-    sets::put_number(flow, RESERVED_AT, 4, 0);
-    sets::put_number(flow, ROWS_AT, 8, all);
+    let all = numbers::number_at(flow, list_flow::ROWS_AT, 8) + rows;
+    numbers::put_number(flow, list_flow::OFFSET_AT, 4, offset);
+    numbers::put_number(flow, list_flow::RESERVED_AT, 4, 0);
+    numbers::put_number(flow, list_flow::ROWS_AT, 8, all);
 }
 
 // Saves a record at an offset, with more rows: at split i of n, where the feed has moved there.

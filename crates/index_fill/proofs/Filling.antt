@@ -10,9 +10,10 @@ use native.Mathlib.Decide.{decLt, ℕ-discrete}
 use lib.ListN.{replicate, length, getD, take, drop, set, length-append, length-take, length-drop}
 use lib.Seq.{getD-set-same, getD-set-other, take-all, drop-at, drop-drop, drop-append-le, take-append-le}
 use lib.Dec.{eqb}
-use Rattle.sets.specs.Set.{setSize, sigSize, num, digits, setBytes, sigBytes, placed, within}
-use Rattle.sets.proofs.Laws.{num-zeros, length-digits, num-digits}
-use Rattle.sets.proofs.Placing.{placed-after, placed-fits}
+use Rattle.numbers.specs.Number.{num, digits, placed}
+use Rattle.sets.specs.Set.{setSize, sigSize, setBytes, sigBytes, within}
+use Rattle.numbers.proofs.Laws.{num-zeros, length-digits, num-digits}
+use Rattle.numbers.proofs.Placing.{placed-after, placed-fits}
 use borrow.Author.Tests.{eq-eqb, eqb-true}
 use Rattle.rules.specs.Scan.{some, first, stack}
 use Rattle.rules.proofs.Scanning.{some-intro, first-found}

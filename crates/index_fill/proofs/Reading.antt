@@ -9,8 +9,9 @@ use lib.Seq.{getD-append-add, drop-at, drop-drop, take-at}
 use lib.Dec.{eqb}
 use lib.Bits.{or-lt}
 use borrow.Author.Tests.{le-ltb}
-use Rattle.sets.specs.Set.{states, signatures, join, setSize, sigSize, num, digits, setBytes, setAt, sigBytes, sigsAt, within}
-use Rattle.sets.proofs.Laws.{length-digits, digits-at, num-digits}
+use Rattle.numbers.specs.Number.{num, digits}
+use Rattle.sets.specs.Set.{states, signatures, join, setSize, sigSize, setBytes, setAt, sigBytes, sigsAt, within}
+use Rattle.numbers.proofs.Laws.{length-digits, digits-at, num-digits}
 use Rattle.rules.specs.Scan.{some, first, stack}
 use Rattle.rules.proofs.Scanning.{gather-lt, first-found, first-none}
 use Rattle.rules.proofs.Stacks.{stack-length, stack-at, stack-part}

@@ -5,7 +5,8 @@ use mathlib.Core.Bool.{Bool, cond, _||_}
 use mathlib.Core.List.{List, [], _∷_, _++_}
 use lib.ListN.{length}
 use lib.Dec.{eqb}
-use Rattle.sets.specs.Set.{digits, within, setBytes, sigBytes}
+use Rattle.numbers.specs.Number.{digits}
+use Rattle.sets.specs.Set.{within, setBytes, sigBytes}
 use Rattle.rules.specs.Scan.{stack}
 use Rattle.rules.specs.Rules.{Rule, verdict}
 use Rattle.list.specs.List.{listRules}

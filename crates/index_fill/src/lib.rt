@@ -6,7 +6,8 @@ ghost use mathlib.Core.Bool.{true, not, cond};
 ghost use Prim.Native.Nat.{ℕ, _+_, _*_, _^_, _≤_, _<_};
 ghost use lib.ListN.{length, getD, take, drop};
 ghost use lib.Dec.{eqb};
-ghost use Rattle.sets.specs.Set.{states, setSize, setOf, sigsOf, num, digits, within, placed};
+ghost use Rattle.numbers.specs.Number.{num, digits, placed};
+ghost use Rattle.sets.specs.Set.{states, setSize, setOf, sigsOf, within};
 ghost use Rattle.rules.specs.Scan.{every};
 ghost use Rattle.list.specs.Automaton.{step, accepted, accepting, named};
 ghost use Rattle.table.specs.Table.{table, byteValues, mostSplits, part, splitCount, splitSet, slots, takenSlots, inOrder};
@@ -14,8 +15,8 @@ ghost use Rattle.index.specs.Entry.{entrySize, entryPlace};
 ghost use Rattle.index_fill.specs.inner.Lows.{Led, lowIn};
 ghost use Rattle.index_fill.specs.Filled.{wordOf, wordsOf, costOf, noteOf, entryOf, indexOf, indexRefusal, FillsIndex};
 
-// A word from here on tells.
-const TELLING: u64 = 2147483648;
+// What a word has more that tells.
+const TELLS: u64 = index::TELLING as u64;
 
 // Bytes for the sets that the bytes lead to from a set.
 pub const WORK: usize = sets::BYTES * table::BYTE_VALUES;
@@ -38,7 +39,7 @@ fn word_of(list: &[u8], accepts: StateSet, splits: &[u8], f: StateSet) -> u64
 {
     let at = (sets::BYTES + index::ENTRY_SIZE * table::find_sorted(splits, f)) as u64;
     if tells(list, accepts, f) {
-        return at + TELLING;
+        return at + TELLS;
     }
     at
 }
@@ -62,17 +63,17 @@ fn fill_word(
 {
     let low = lows[c] as usize;
     if low < c {
-        let w = sets::whole_number(index, at + 4 * low, 4);
-        sets::put_number(index, at + 4 * c, 4, w);
+        let w = numbers::whole_number(index, at + 4 * low, 4);
+        numbers::put_number(index, at + 4 * c, 4, w);
         return;
     }
     let w = word_of(
         list,
         accepts,
         splits,
-        StateSet::whole(work, sets::BYTES * c),
+        StateSet::from_bytes(work, sets::BYTES * c),
     );
-    sets::put_number(index, at + 4 * c, 4, w);
+    numbers::put_number(index, at + 4 * c, 4, w);
 }
 
 // Writes the words of the bytes, which lead to the sets of `work`, into the entry at a place.

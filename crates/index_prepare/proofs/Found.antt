@@ -7,8 +7,8 @@ use native.Mathlib.Omega.{arith}
 use lib.ListN.{length, getD, take, drop, replicate, length-append, length-replicate}
 use lib.Seq.{take-at}
 use lib.Dec.{lit<}
-use Rattle.sets.specs.Set.{placed}
-use Rattle.sets.proofs.Placing.{placed-fits, length-placed}
+use Rattle.numbers.specs.Number.{placed}
+use Rattle.numbers.proofs.Placing.{placed-fits, length-placed}
 use Rattle.rules.specs.Scan.{every}
 use Rattle.rules.proofs.Scanning.{every-all}
 use Rattle.list.specs.Automaton.{start, step}

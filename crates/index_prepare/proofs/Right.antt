@@ -9,8 +9,9 @@ use lib.ListN.{length, getD, take, drop, replicate, length-append, length-replic
 use lib.Seq.{take-at, getD-append-add}
 use lib.Dec.{eqb, lit<}
 use borrow.Author.Tests.{eq-eqb, ne-eqb, le-ltb}
-use Rattle.sets.specs.Set.{states, setSize, setBytes, num, bytesAt, setAt}
-use Rattle.sets.proofs.Laws.{num-digits, length-digits, small-digits}
+use Rattle.numbers.specs.Number.{num}
+use Rattle.sets.specs.Set.{states, setSize, setBytes, bytesAt, setAt}
+use Rattle.numbers.proofs.Laws.{num-digits, length-digits, small-digits}
 use Rattle.rules.specs.Scan.{stack}
 use Rattle.rules.proofs.Scanning.{some-intro}
 use Rattle.rules.proofs.Stacks.{stack-length, stack-part, stack-at}

@@ -7,7 +7,8 @@ ghost use mathlib.Core.List.{List};
 ghost use Prim.Native.Nat.{ℕ, _+_, _*_, _^_, _<_, _≤_};
 ghost use lib.ListN.{length, getD};
 ghost use lib.Dec.{ltb};
-ghost use Rattle.sets.specs.Set.{states, setSize, setOf, placed};
+ghost use Rattle.numbers.specs.Number.{placed};
+ghost use Rattle.sets.specs.Set.{states, setSize, setOf};
 ghost use Rattle.list.specs.Automaton.{step};
 ghost use Rattle.table.specs.Table.{byteValues, mostSplits, splitSize, part};
 ghost use Rattle.table_build.specs.Build.{Reach, Reached, over};
@@ -56,7 +57,7 @@ fn add_set(
         parts,
         n,
         table::MOST_SPLITS,
-        StateSet::whole(work, sets::BYTES * c),
+        StateSet::from_bytes(work, sets::BYTES * c),
     )
 }
 
@@ -75,7 +76,7 @@ fn steps_of(
     ensures { λ r. ⌜ (length (now (work .exit)) ≡ length (now (work .entry)))
         × Grown mostSplits (step (now (list .entry))) (now (list .entry)) (now (queue .entry)) (now (parts .entry)) (now (queue .exit)) (now (parts .exit)) n (r .n) i byteValues (r .full) ⌝ }
 {
-    table_classes::fill_steps(list, StateSet::whole(queue, sets::BYTES * i), work);
+    table_classes::fill_steps(list, StateSet::from_bytes(queue, sets::BYTES * i), work);
     let mut m = n;
     for c in 0..table::BYTE_VALUES {
         let g = add_set(lows, work, queue, parts, m, c);
@@ -117,7 +118,7 @@ fn put_split(splits: &mut [u8], i: usize, f: StateSet)
 {
     let at = table::SPLIT_SIZE * i;
     f.store(splits, at);
-    sets::put_number(splits, at + sets::BYTES, 8, NO_SLOTS);
+    numbers::put_number(splits, at + sets::BYTES, 8, NO_SLOTS);
 }
 
 // Writes a split for each of the first n parts.
@@ -126,7 +127,7 @@ fn fill_splits(parts: &[u8], n: usize, splits: &mut [u8])
     ensures { λ r. ⌜ (length (now (splits .exit)) ≡ length (now (splits .entry))) × Laid (λ i. bareSplit (part (now (parts .entry)) i)) splitSize n (now (splits .exit)) ⌝ }
 {
     for i in 0..n {
-        put_split(splits, i, StateSet::whole(parts, sets::BYTES * i));
+        put_split(splits, i, StateSet::from_bytes(parts, sets::BYTES * i));
     }
 }
 

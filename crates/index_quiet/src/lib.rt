@@ -9,9 +9,6 @@ ghost use Rattle.index_blocks.specs.Block.{wordAt};
 ghost use Rattle.index.specs.Entry.{entrySize, limit, telling, costAt};
 ghost use Rattle.index_quiet.specs.inner.Moves.{Moves};
 
-// A place has a whole entry where one byte and so many more stand from it on.
-const REST: usize = index::ENTRY_SIZE - 1;
-
 // A block, a byte that leaves, and one that comes back.
 const ROUND: usize = index_blocks::BLOCK + 2;
 
@@ -66,7 +63,7 @@ fn turn(index: &[u8], piece: &[u8], i: usize, at: usize, stop: usize) -> Led
     ensures { λ r. ⌜ (i ≤ r .bytes) × (r .bytes ≤ stop) × (r .place < limit (now (index .entry))) × (r .rows + 255 * i ≤ 255 * r .bytes)
         × Moves (now (index .entry)) (now (piece .entry)) i at (r .bytes) (r .place) (r .rows) ⌝ }
 {
-    let end = index.len() - REST;
+    let end = index.len() - index::REST;
     if stop - i < 4 {
         return Led {
             bytes: i,
@@ -151,7 +148,7 @@ pub fn few(index: &[u8], piece: &[u8], place: usize) -> Led
     ensures { λ r. ⌜ (r .bytes ≤ length (now (piece .entry))) × (r .place < limit (now (index .entry))) × (r .rows ≤ 255 * r .bytes)
         × Moves (now (index .entry)) (now (piece .entry)) 0 place (r .bytes) (r .place) (r .rows) ⌝ }
 {
-    let end = index.len() - REST;
+    let end = index.len() - index::REST;
     let mut i = 0;
     let mut at = place;
     let mut rows = 0u64;
@@ -217,7 +214,7 @@ pub fn calm(index: &[u8], piece: &[u8], from: usize, place: usize, r: Ranges) ->
     ensures { λ l. ⌜ (from ≤ l .bytes) × (l .bytes ≤ length (now (piece .entry))) × (l .place ≡ place) × (l .rows + 255 * from ≤ 255 * l .bytes)
         × Moves (now (index .entry)) (now (piece .entry)) from place (l .bytes) place (l .rows) ⌝ }
 {
-    let end = index.len() - REST;
+    let end = index.len() - index::REST;
     let cost = cost_at(index, place);
     let mut i = from;
     let mut rows = 0u64;

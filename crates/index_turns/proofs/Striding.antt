@@ -11,12 +11,12 @@ use lib.ListN.{length, getD}
 use lib.Dec.{eqb}
 use borrow.Author.Tests.{lt-leb, le-leb, ne-eqb, leb-true}
 use Rattle.sets.specs.Set.{signatures, size, members}
-use Rattle.sets.proofs.Placing.{length-placed}
+use Rattle.numbers.proofs.Placing.{length-placed}
 use Rattle.feed.specs.Engine.{pairsAt}
 use Rattle.feed.proofs.Going.{stop, finish}
-use Rattle.list_flow.specs.declared.Told.{Told}
-use Rattle.list_flow.specs.inner.Told.{TellsAll}
-use Rattle.list_flow.proofs.Accepting.{all-none, goes-on, stops}
+use Rattle.feed.specs.declared.Told.{Told}
+use Rattle.feed.specs.inner.Told.{TellsAll}
+use Rattle.feed.proofs.Fitting.{all-none, goes-on, stops}
 use Rattle.index_blocks.specs.Block.{wordAt}
 use Rattle.index.specs.Entry.{limit, placeOf, toldOf, costAt}
 use Rattle.index.specs.Stand.{standAt, standsAt}

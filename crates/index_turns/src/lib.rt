@@ -1,18 +1,13 @@
 // The loops of a feed by places that tell: stretches of turns with the bytes that tell between them, and blocks of bytes skipped where a stretch stays at a place.
 use index_blocks::Ranges;
-use list_flow::Told;
 use sets::SigSet;
 ghost use mathlib.Core.Path.{_≡_};
 ghost use Prim.Native.Nat.{_+_, _≤_, _<_};
 ghost use lib.ListN.{length};
-ghost use Rattle.sets.specs.Set.{sigsOf};
 ghost use Rattle.feed.specs.Engine.{mostOffset};
-ghost use Rattle.list_flow.specs.inner.Told.{TellsAll};
+ghost use Rattle.feed.specs.inner.Told.{TellsAll};
 ghost use Rattle.index.specs.Entry.{entrySize, limit, telling, placeOf, toldOf};
 ghost use Rattle.index_turns.specs.inner.Goes.{Strides};
-
-// A place has a whole entry where one byte and so many more stand from it on.
-const REST: usize = index::ENTRY_SIZE - 1;
 
 // The bytes of a stretch: where it ends at the place where it began, blocks are tried.
 const STRETCH: usize = 64;
@@ -36,25 +31,6 @@ pub struct Stands {
     pub rows: u64,
 }
 
-// Tells a set of signatures behind the words that are written: all of it, or nothing where it does not fit.
-fn tell_set(g: SigSet, pairs: &mut [u32], words: usize, offset: u32) -> Told
-    requires { ⌜ words ≤ length (now pairs) ⌝ }
-    ensures { λ t. ⌜ TellsAll (sigsOf g) (now (pairs .entry)) words offset t (now (pairs .exit)) ⌝ }
-{
-    let n = g.count() as usize;
-    if (pairs.len() - words) / 2 < n {
-        return Told {
-            fits: false,
-            words: words,
-        };
-    }
-    feed::tell(pairs, words, g, offset);
-    Told {
-        fits: true,
-        words: words + 2 * n,
-    }
-}
-
 // Follows a word: tells what it says at an offset, behind the words that are written, where there is room for them.
 fn follow(index: &[u8], word: usize, pairs: &mut [u32], words: usize, offset: u32) -> Followed
     requires { ⌜ (words ≤ length (now pairs)) × (entrySize ≤ length (now index)) ⌝ }
@@ -68,17 +44,17 @@ fn follow(index: &[u8], word: usize, pairs: &mut [u32], words: usize, offset: u3
         };
     }
     let at = word - index::TELLING;
-    if index.len() - REST <= at {
+    if index.len() - index::REST <= at {
         return Followed {
             fits: true,
             place: at,
             words: words,
         };
     }
-    let t = tell_set(
-        SigSet::whole(index, at + index::SIGS_PLACE),
+    let t = feed::tell_all(
         pairs,
         words,
+        SigSet::from_bytes(index, at + index::SIGS_PLACE),
         offset,
     );
     Followed {
@@ -102,7 +78,7 @@ fn stretch(
     requires { ⌜ (from ≤ stop) × (stop ≤ length (now piece)) × (place < limit (now index)) × (length (now index) < telling) × (offset + length (now piece) ≤ mostOffset) × (told ≤ length (now pairs)) ⌝ }
     ensures { λ r. ⌜ Strides (now (index .entry)) (now (piece .entry)) offset from place (now (pairs .entry)) told stop r (now (pairs .exit)) ⌝ }
 {
-    let end = index.len() - REST;
+    let end = index.len() - index::REST;
     let mut i = from;
     let mut at = place;
     let mut words = told;

@@ -16,10 +16,9 @@ use Rattle.table_build.specs.Build.{Many, Building, tooShort, earlyRules, Build
 use Rattle.table_build.proofs.Reached.{not-both}
 use Rattle.table_build.specs.Words.{fronts}
 use Rattle.table_build.proofs.Outcomes.{build-accepted}
-use Rattle.table_build.specs.Words.{Nowhere, Untouched}
 use Rattle.table_build.proofs.Words.{keeps, empties, fills, short-exactly}
 use Rattle.rules.specs.Words.{Row, None, First, InWords}
-use Rattle.laws.specs.Words.{listWords, lentWords, earlyWords, buildWords}
+use Rattle.laws.specs.Words.{listWords, lentWords, buildWords}
 use Rattle.laws.specs.Drivers.{BuildKept}
 use Rattle.rules.proofs.Saying.{Says, says-append, tells}
 use Rattle.laws.proofs.Saying.{list-says}
@@ -85,11 +84,11 @@ words-none ws n A i b =
 
 -- ---- the builder's rows
 
-early-tells : (L : List ℕ) (T : Table) → InWords (earlyWords L T) (verdict (earlyRules L T))
-early-tells L T = tells (earlyRules L T) (earlyWords L T) refl (says-append (listRules L) ((17, tooShort T) ∷ []) (listWords L) (lentWords T) (list-says L) (refl, short-exactly T, tt))
+early-tells : (L : List ℕ) (T : Table) → InWords (listWords L ++ lentWords T) (verdict (earlyRules L T))
+early-tells L T = tells (earlyRules L T) (listWords L ++ lentWords T) refl (says-append (listRules L) ((17, tooShort T) ∷ []) (listWords L) (lentWords T) (list-says L) (refl, short-exactly T, tt))
 
 module _ (L : List ℕ) (T : Table) (o : Building) where
-  early-passes : verdict (earlyRules L T) ≡ 0 → InWords (earlyWords L T) 0
+  early-passes : verdict (earlyRules L T) ≡ 0 → InWords (listWords L ++ lentWords T) 0
   early-passes v = rw v at (early-tells L T)
 
   good : verdict (earlyRules L T) ≡ 0 → listRefusal L ≡ 0
@@ -102,16 +101,16 @@ module _ (L : List ℕ) (T : Table) (o : Building) where
   limit-back v m = choose m (λ a. inl a) (λ b. inr (needs-exactly L (good v) (suc mostClasses) .1 b))
 
   pub build-tells : Builds L T o → InWords (buildWords L T) (o .refusal)
-  build-tells (refuses n e) = rw e (words-refused (earlyWords L T) _ (verdict (earlyRules L T)) (early-tells L T) n)
-  build-tells (passesLimits v m e) = rw e (words-next (earlyWords L T) 16 _ (early-passes v) (λ z. omega arith) (limit v m))
-  build-tells (builds v c xs n a e) = rw e (words-none (earlyWords L T) 16 _ (early-passes v) (λ m. not-both L xs (limit-back v m) c n a))
+  build-tells (refuses n e) = rw e (words-refused (listWords L ++ lentWords T) _ (verdict (earlyRules L T)) (early-tells L T) n)
+  build-tells (passesLimits v m e) = rw e (words-next (listWords L ++ lentWords T) 16 _ (early-passes v) (λ z. omega arith) (limit v m))
+  build-tells (builds v c xs n a e) = rw e (words-none (listWords L ++ lentWords T) 16 _ (early-passes v) (λ m. not-both L xs (limit-back v m) c n a))
 
   -- what its driver promises
   pub build-kept : (checked : ℕ) → checked ≡ tableRefusal L 1 (fronts o) → Builds L T o → BuildKept L T o checked
   build-kept checked e b =
       record {
         refuses = build-tells b;
-        unchanged = λ z y. let u = keeps L T o b z y in (record { classes = u .classes; parts = u .parts; rows = u .rows; splits = u .splits }, u .lists);
+        unchanged = keeps L T o b;
         emptied = empties L T o b;
         made = fills L T o b;
         accepted = λ z. e ∙ build-accepted L T o b z;

@@ -4,8 +4,9 @@ use mathlib.Core.Path.{_≡_, refl, sym, ap, _∙_}
 use mathlib.Core.List.{List, _++_}
 use native.Mathlib.Omega.{arith}
 use lib.ListN.{length, getD, replicate}
-use Rattle.sets.specs.Set.{setBytes, digits}
-use Rattle.sets.proofs.Laws.{small-digits}
+use Rattle.numbers.specs.Number.{digits}
+use Rattle.sets.specs.Set.{setBytes}
+use Rattle.numbers.proofs.Laws.{small-digits}
 use Rattle.feed.specs.Calls.{Bytes}
 use Rattle.feed.proofs.Runs.{bytes-append}
 use Rattle.table.specs.Table.{Table, splitCount}

@@ -16,12 +16,12 @@ use Rattle.list.specs.List.{listRules}
 use Rattle.list.specs.Automaton.{start, accepted}
 use Rattle.list.proofs.Listed.{list-refuses}
 use Rattle.list_flow.specs.Flow.{flowLayout, feedRules}
+use Rattle.list_flow.specs.Opening.{openPairs, firstRules, openRules, opened, openFlow}
+use Rattle.list_flow.proofs.Opening.{openPairs-long}
 use Rattle.feed.specs.Demands.{OneOpening}
 use Rattle.feed.proofs.Halts.{by-rule}
 use Rattle.feed.proofs.Feeds.{each-feed}
 use Rattle.feed.proofs.Opening.{opening-refusal, one-opening}
-use Rattle.list_feed.specs.Plain.{openPairs, firstRules, openRules, opened, openFlow}
-use Rattle.list_feed.proofs.Opening.{openPairs-long}
 use Rattle.table.specs.Table.{Table, splitCount, inOrder, sizeRules, tableRules, tableRefusal}
 use Rattle.table.proofs.Checked.{table-exactly, in-order-first, in-order-exactly}
 use Rattle.table_feed.specs.Split.{split, splitRules, splitFeed}
@@ -40,7 +40,7 @@ use Rattle.table_build.proofs.Words.{keeps, empties, fills}
 use Rattle.rules.specs.Words.{InWords}
 use Rattle.laws.specs.Words.{tableWords, AllRise}
 use Rattle.laws.specs.Calls.{wayOf}
-use Rattle.laws.specs.Demands.{Demand1}
+use Rattle.laws.specs.Demands.{Demand1, DemandPrepared}
 use Rattle.index_prepare.proofs.Ends.{unique-prepare}
 use Rattle.laws.proofs.Engines.{lawful-of, said-of, ruled-of}
 use Rattle.laws.proofs.Saying.{list-tells, open-tells, table-tells, fill-tells, index-tells}
@@ -92,26 +92,23 @@ demand-1 =
             rises 0 (tableRules L b T) refl,
             rises 0 (fillRules L X) refl,
             rises 0 (indexRules L b T X) refl,
-            ruled-of (c .via) (c .list) R (c .at) (c .piece) .0,
+            ruled-of (c .by .via) (c .by .list) R (c .at) (c .piece) .0,
           );
       lists = list-refuses;
       lists-said = list-tells;
       opens = open-once;
       opens-said = λ L R out. rw (open-verdict L R out) (open-tells L R out);
       opens-length = λ L R Q out ws e f. rw (open-verdict L R out, open-verdict L Q ws, e, f);
-      feeds = λ R c. each-feed (wayOf (c .via) (c .list)) R (c .at) (c .piece) (c .out);
-      feeds-refuse = λ R c. ruled-of (c .via) (c .list) R (c .at) (c .piece) .1;
-      feeds-said = λ R c. said-of (c .via) (c .list) R (c .at) (c .piece);
-      feeds-low = λ R c. lawful-of (c .via) .below-14 (c .list) R (c .at) (c .piece);
-      feeds-cut = λ R c. lawful-of (c .via) .shorter (c .list) R (c .at) (c .piece);
+      feeds = λ R c. each-feed (wayOf (c .by)) R (c .at) (c .piece) (c .out);
+      feeds-refuse = λ R c. ruled-of (c .by .via) (c .by .list) R (c .at) (c .piece) .1;
+      feeds-said = λ R c. said-of (c .by .via) (c .by .list) R (c .at) (c .piece);
+      feeds-low = λ R c. lawful-of (c .by .via) .below-14 (c .by .list) R (c .at) (c .piece);
+      feeds-cut = λ R c. lawful-of (c .by .via) .shorter (c .by .list) R (c .at) (c .piece);
       stuck-said = stuck-exactly;
       lost-said = λ S X x. index-moves S X x 0 .halts;
       splits-rising = λ L b T R at piece out r. rising-as-before L b T (all-rise (T .splits) r) R at piece out;
       matrices-plain = matrix-is-plain;
       prepares-split = λ L b T h R at piece out e s hb. index.stand-exact L b T e s h R at piece out hb;
-      hints-kept = hint-kept;
-      stands-said = λ L S X r h R at piece out hr hb v. stands L S X r h R hr at piece out hb v;
-      hints-alike = λ L S X r h k R at piece out. (feed-hints L S X r h k R at piece out, stood-hints L S X r h k R at piece out);
       tables = table-exactly;
       tables-said = table-said;
       fills-said = λ L X n left w. rw (w .refuses) (fill-tells L X);
@@ -125,6 +122,15 @@ demand-1 =
       builds-not = keeps;
       builds-16 = empties;
       builds-passes = λ L T o b z. let f = fills L T o b z in (f .0, build-accepted L T o b z, f .1);
+    }
+
+-- of the calls that came later
+pub demand-prepared : DemandPrepared
+demand-prepared =
+    record {
+      hints-kept = hint-kept;
+      stands-said = λ L S X r h R at piece out hr hb v. stands L S X r h R hr at piece out hb v;
+      hints-alike = λ L S X r h k R at piece out. (feed-hints L S X r h k R at piece out, stood-hints L S X r h k R at piece out);
       prepares-one = unique-prepare;
       prepares-said = prepare-tells;
       prepares-not = prepare-keeps;

@@ -10,11 +10,11 @@ use lib.ListN.{length, getD, set, take, drop, length-append}
 use lib.Seq.{length-take-le, take-append-add, take-append-le, take-take, take-add, take-at, getD-drop}
 use lib.Dec.{eqb}
 use borrow.Rule.Slice.PartMut.{midOf, postOf, putMid, same-len-mid, mid-len}
-use Rattle.sets.specs.Set.{placed}
-use Rattle.sets.proofs.Placing.{placed-fits, placed-none, placed-one}
+use Rattle.numbers.specs.Number.{placed}
+use Rattle.numbers.proofs.Placing.{placed-fits, placed-none, placed-one}
 use Rattle.rules.specs.Rules.{verdict}
 use Rattle.list.specs.List.{listRefusal}
-use Rattle.feed.specs.Calls.{Bytes, recordAfter, allTold, allBytes}
+use Rattle.feed.specs.Calls.{Bytes, recordAfter, allTold, allBytes, outcome, ruled, asked, Along}
 use Rattle.feed.specs.Fed.{Answers}
 use Rattle.feed.specs.Made.{Made, made, callsOf, AsDefined}
 use Rattle.feed.specs.declared.Fed.{Fed}
@@ -26,15 +26,16 @@ use Rattle.feed.proofs.Feeds.{each-feed}
 use Rattle.feed.proofs.Calls.{along-more, pieces-more, after-more, eaten-more, told-more}
 use Rattle.feed.proofs.Made.{as-defined, pieces-calls}
 use Rattle.list_flow.specs.Flow.{frontierOf, offsetOf}
-use Rattle.list_feed.specs.Plain.{plain, openFlow}
+use Rattle.list_flow.specs.Opening.{openFlow}
+use Rattle.list_feed.specs.Plain.{plain}
 use Rattle.list.specs.Automaton.{start}
-use Rattle.feed.specs.Engine.{run}
+use Rattle.feed.specs.Engine.{Outcome, run}
 use Rattle.table.specs.Table.{Table, tableRefusal}
 use Rattle.matrix.specs.Matrix.{filled, Fills}
 use Rattle.matrix.proofs.Exact.{filled-left}
 use Rattle.index_fill.specs.Filled.{filledIndex, FillsIndex}
 use Rattle.index_fill.proofs.Made.{filled-checked}
-use Rattle.laws.specs.Calls.{Via, byList, byTable, byMatrix, byIndex, bySlots, Checked, Call, wayOf, outcome, ruled, asked, Each}
+use Rattle.laws.specs.Calls.{Via, byList, byTable, byMatrix, byIndex, bySlots, Checked, Call, wayOf}
 use Rattle.laws.specs.Demands.{Swaps, Swapped, Due}
 use Rattle.laws.specs.Drivers.{viaBy, callOf, pieceOf, does, nearest, Plan, planned, Turn, Meant, AsMeant, answer, answers, Came, Driven}
 use Rattle.laws.proofs.Demand1.{demand-1}
@@ -129,19 +130,19 @@ module _ (L : List ℕ) (P : Plan) where
 
 -- ---- a feed of parts of the stream and of the words is such a turn
 
-bytes-most : (R : List ℕ) (c : Call) → outcome R c .bytes ≤ length (c .piece)
+bytes-most : (R : List ℕ) (c : Call) → outcome wayOf R c .bytes ≤ length (c .piece)
 bytes-most R c =
-    let f = each-feed (wayOf (c .via) (c .list)) R (c .at) (c .piece) (c .out) in
-    elim (ℕ-discrete (verdict (ruled R c)) 0) [ yes v ↦ f .longest v .front | no n ↦ omega (arith, f .refused n .1 .bytes) ]
+    let f = each-feed (wayOf (c .by)) R (c .at) (c .piece) (c .out) in
+    elim (ℕ-discrete (verdict (ruled wayOf R c)) 0) [ yes v ↦ f .longest v .front | no n ↦ omega (arith, ap (λ (o : Outcome). o .bytes) (f .refused n .1)) ]
 
 pub turned : (L : List ℕ) (via : Via) (at : ℕ) (R stream : List ℕ) (n e : ℕ) (out : List ℕ) (w v : ℕ) (f : Fed) (ys Q : List ℕ)
     → e ≤ length stream → w ≤ v → v ≤ length out → n ≤ e → Bytes stream → length ys ≡ length (midOf w (v - w) out)
-    → Answers (outcome R (callOf L via at (midOf n (e - n) stream) (midOf w (v - w) out))) f ys Q
+    → Answers (outcome wayOf R (callOf L via at (midOf n (e - n) stream) (midOf w (v - w) out))) f ys Q
     → Turn L via at R stream n e out w v f (putMid w (v - w) out ys) Q
 turned L via at R stream n e out w v f ys Q he hw hv hn hb hl a =
     let c = callOf L via at (midOf n (e - n) stream) (midOf w (v - w) out) in
     let few : f .bytes ≤ e - n = omega (arith, a .bytes, bytes-most R c, mid-len n e stream he) in
-    let fit : 2 * f .pairs ≤ length ys = omega (arith, a .pairs, each-feed (wayOf via L) R at (c .piece) (c .out) .pairs-fit, hl) in
+    let fit : 2 * f .pairs ≤ length ys = omega (arith, a .pairs, each-feed (wayOf (record { list = L; via = via })) R at (c .piece) (c .out) .pairs-fit, hl) in
     let long : length ys ≡ v - w = hl ∙ mid-len w v out hv in
     let before : length (take w out) ≡ w = length-take-le w out (omega (arith, hw, hv)) in
     record {
@@ -173,10 +174,10 @@ checked-by L b T X Y ok x y h k = go (eqb k 0) (eqb k 1) (eqb k 2)
     go false false false = rw y (filled-checked L b T ok h (k - 3))
 
 -- so the calls change between what is checked
-meant-swaps : (L : List ℕ) (P : Plan) → ((i : ℕ) → Checked L (P .via i)) → (R : List ℕ) (k n w : ℕ) (ms : List (Made Call)) (e v : ℕ) → AsMeant L P k n w ms e v → Each (Swaps L) R (callsOf ms)
+meant-swaps : (L : List ℕ) (P : Plan) → ((i : ℕ) → Checked L (P .via i)) → (R : List ℕ) (k n w : ℕ) (ms : List (Made Call)) (e v : ℕ) → AsMeant L P k n w ms e v → Along (asked wayOf) (Swaps L) R (callsOf ms)
 meant-swaps L P ok R k n w [] e v h = tt
 meant-swaps L P ok R k n w (m ∷ ms) e v h =
-    (λ z. (h .0 .list, rw (h .0 .via) (ok k)), meant-swaps L P ok (outcome R (m .call) .saved) (suc k) (n + m .fed .bytes) (w + 2 * m .fed .pairs) ms e v (h .1))
+    (λ z. (h .0 .list, rw (h .0 .via) (ok k)), meant-swaps L P ok (outcome wayOf R (m .call) .saved) (suc k) (n + m .fed .bytes) (w + 2 * m .fed .pairs) ms e v (h .1))
 
 module _ (L : List ℕ) (b : ℕ) (T : Table) (R out X₀ X Y₀ Y kinds starts cuts rooms stream : List ℕ) (many listed checked written indexed : ℕ) (f : Opened) (vs B : List ℕ) (n w : ℕ) (ws notes Q : List ℕ)
     (lists : listed ≡ listRefusal L) (tables : checked ≡ tableRefusal L b T) (matrices : Fills L X₀ written X) (indexes : FillsIndex L b T Y₀ indexed Y)
@@ -195,7 +196,7 @@ module _ (L : List ℕ) (b : ℕ) (T : Table) (R out X₀ X Y₀ Y kinds starts 
       (meant-swaps L plan (λ i. checked-by L b T X Y (sym tables ∙ y) (filled-left L X₀ written X matrices x) (demand-1 .indexes-passes L b T Y₀ indexed Y indexes u .1) bytes (getD kinds i 0))
       (openFlow L R out .saved) 0 0 (2 * openFlow L R out .pairs) (came-so .feeds) n w (came-so .meant))
 
-  eaten : AsDefined pieceOf does (openFlow L R out .saved) (came-so .feeds) → allBytes asked (openFlow L R out .saved) (callsOf (came-so .feeds)) ≡ take n stream
+  eaten : AsDefined pieceOf does (openFlow L R out .saved) (came-so .feeds) → allBytes (asked wayOf) (openFlow L R out .saved) (callsOf (came-so .feeds)) ≡ take n stream
   eaten a = sym (a .bytes) ∙ came-so .eaten
 
   pub driven : Driven L b T R out X₀ X Y₀ Y kinds starts cuts rooms stream many listed checked written indexed f n w ws notes Q

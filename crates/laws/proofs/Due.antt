@@ -16,13 +16,14 @@ use Rattle.feed.specs.Pairs.{Pair}
 use Rattle.feed.specs.Engine.{run, told}
 use Rattle.feed.specs.Opening.{Opening}
 use Rattle.feed.proofs.Runs.{run-more}
-use Rattle.feed.proofs.Told.{told-exactly}
+use Rattle.feed.proofs.Due.{told-exactly}
 use Rattle.feed.proofs.Opening.{opens, opening-refusal, opening-tells}
 use Rattle.feed.proofs.Opening as flow
 use Rattle.list_flow.specs.Flow.{frontierOf, offsetOf, rowsOf}
 use Rattle.list_flow.proofs.Records.{frontier-flow, offset-flow, rows-flow}
-use Rattle.list_feed.specs.Plain.{plain, opened, openPairs, openRules, openFlow}
-use Rattle.list_feed.proofs.Opening.{openPairs-long}
+use Rattle.list_flow.specs.Opening.{opened, openPairs, openRules, openFlow}
+use Rattle.list_flow.proofs.Opening.{openPairs-long}
+use Rattle.list_feed.specs.Plain.{plain}
 use Rattle.feed.specs.Demands.{openTold}
 use Rattle.laws.specs.Demands.{Due, DueSaid}
 

@@ -12,7 +12,7 @@ use Rattle.rules.specs.Rules.{verdict, Rises, Refuses}
 use Rattle.rules.proofs.Rules.{rises, refuses}
 use Rattle.list.specs.Automaton.{step}
 use Rattle.feed.specs.Engine.{feed}
-use Rattle.feed.specs.Calls.{Bytes, fedBy, allBytes}
+use Rattle.feed.specs.Calls.{Bytes, fedBy, allBytes, outcome, ruled, asked, Pieces}
 use Rattle.feed.specs.Lawful.{Lawful}
 use Rattle.feed.proofs.Going.{unfed}
 use Rattle.feed.proofs.Whole.{Kind, Acts, all-fed}
@@ -27,8 +27,8 @@ use Rattle.matrix.proofs.Lawful as matrix
 use Rattle.table_feed.proofs.Stepping.{split-cheap}
 use Rattle.index.proofs.Lawful as index
 use Rattle.rules.specs.Words.{InWords}
-use Rattle.laws.specs.Calls.{Via, byList, byTable, byMatrix, byIndex, Counting, bySlots, byOne, countBy, meansOf, wordsBy, Lent, Call, wayOf, outcome, ruled, bytesOf, InBytes}
-use Rattle.laws.specs.Demands.{spends, counted}
+use Rattle.laws.specs.Calls.{Via, byList, byTable, byMatrix, byIndex, Counting, bySlots, byOne, countBy, meansOf, wordsBy, Call, wayOf}
+use Rattle.laws.specs.Demands.{counted}
 use Rattle.laws.proofs.Saying.{feed-tells, split-tells, matrix-tells, prepared-tells}
 
 -- a byte counts at most a row for each state
@@ -58,14 +58,14 @@ ruled-of (byIndex b n S X h) L R at piece = let rs = meansOf (byIndex b n S X h)
 -- ---- of any of them
 
 -- the record keeps what 4 asks but for foreign states
-pub call-good : (v : Via) (L R : List ℕ) (at : ℕ) (piece out : List ℕ) → Bytes piece → Lent v → badFlow R ≡ false → badFlow (fedBy (wayOf v L) R at piece out .saved) ≡ false
+pub call-good : (v : Via) (L R : List ℕ) (at : ℕ) (piece out : List ℕ) → Bytes piece → meansOf v .Lent → badFlow R ≡ false → badFlow (fedBy (wayOf (record { list = L; via = v })) R at piece out .saved) ≡ false
 call-good v L R at piece out h l g =
     let M = meansOf v in
     good-feed (M .engine L) (λ Q. M .stands (frontierOf Q)) (M .frontier) (M .rules L R at piece) R piece out (lawful-of v .cheap l L) (λ z. lawful-of v .passes L R at piece z .2) h g
 
 -- calls whose pieces are bytes consume bytes
-pub calls-bytes : (R : List ℕ) (cs : List Call) → InBytes cs → Bytes (bytesOf R cs)
-calls-bytes R cs h = all-fed (λ (c : Call). c .piece) (λ (c : Call) (Q : List ℕ). outcome Q c) R cs h
+pub calls-bytes : (R : List ℕ) (cs : List Call) → Pieces (asked wayOf) cs → Bytes (allBytes (asked wayOf) R cs)
+calls-bytes R cs h = all-fed (λ (c : Call). c .piece) (λ (c : Call) (Q : List ℕ). outcome wayOf Q c) R cs h
 
 -- ---- as calls in a row, on frontiers of a kind that the automaton of L keeps: one that no rule refuses has to be a feed by that, at costs of its own
 
@@ -74,29 +74,29 @@ listKind L Good small kept =
     record {
       piece = λ c. c .piece;
       out = λ c. c .out;
-      does = λ c R. outcome R c;
+      does = λ c R. outcome wayOf R c;
       layout = flowLayout;
       engine = plain L;
       Good = Good;
       most = states;
-      rules = ruled;
-      cost = λ c. spends (c .via);
+      rules = ruled wayOf;
+      cost = λ c. meansOf (c .by .via) .spends;
       sound = flow-sound Good small;
       stays = kept;
     }
 
 module _ (L : List ℕ) (Good : ℕ → Type 0) (small : (F : ℕ) → Good F → F < 2 ^ states) (kept : (F c : ℕ) → c < 256 → Good F → Good (step L F c)) where
-  pub acts-so : (R : List ℕ) (c : Call) → (verdict (ruled R c) ≡ 0 → outcome R c ≡ feed (ruled R c) (counted (c .via) L) flowLayout R (c .piece) (c .out))
+  pub acts-so : (R : List ℕ) (c : Call) → (verdict (ruled wayOf R c) ≡ 0 → outcome wayOf R c ≡ feed (ruled wayOf R c) (counted (c .by .via) L) flowLayout R (c .piece) (c .out))
       → Acts (listKind L Good small kept) R c
   acts-so R c f =
       record {
         is =
-            elim (ℕ-discrete (verdict (ruled R c)) 0) [
+            elim (ℕ-discrete (verdict (ruled wayOf R c)) 0) [
               | yes v ↦ f v
-              | no n ↦ unfed (wayOf (c .via) (c .list) .engine) (wayOf (c .via) (c .list) .layout) R (c .piece) (c .out) (ruled R c) n
-                  ∙ sym (unfed (counted (c .via) L) flowLayout R (c .piece) (c .out) (ruled R c) n)
+              | no n ↦ unfed (wayOf (c .by) .engine) (wayOf (c .by) .layout) R (c .piece) (c .out) (ruled wayOf R c) n
+                  ∙ sym (unfed (counted (c .by .via) L) flowLayout R (c .piece) (c .out) (ruled wayOf R c) n)
             ];
-        cheap = λ v F g. lawful-of (c .via) .counts F;
-        rows-few = λ v. rows-few R (lawful-of (c .via) .passes (c .list) R (c .at) (c .piece) v .0);
-        short = λ v. lawful-of (c .via) .passes (c .list) R (c .at) (c .piece) v .2;
+        cheap = λ v F g. lawful-of (c .by .via) .counts F;
+        rows-few = λ v. rows-few R (lawful-of (c .by .via) .passes (c .by .list) R (c .at) (c .piece) v .0);
+        short = λ v. lawful-of (c .by .via) .passes (c .by .list) R (c .at) (c .piece) v .2;
       }

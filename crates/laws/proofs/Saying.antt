@@ -19,14 +19,15 @@ use Rattle.rules.proofs.Saying.{Says, says-append, tells}
 use Rattle.list.specs.List.{records, isStart, goodRecord, badLength, badRecord, noStart, listRules}
 use Rattle.list.specs.Words.{Edge-bytes, Start-bytes, Accept-bytes}
 use Rattle.list.proofs.Listed.{bad-length, bad-record, record-exactly, no-start, kind-start}
-use Rattle.list_flow.specs.Flow.{frontierOf, badFlow, otherStart, tooLong, wrongSize, flowRules, feedRules}
-use Rattle.list_flow.proofs.Refused.{wrong-size, bad-flow, other-start, too-long}
+use Rattle.list_flow.specs.Flow.{frontierOf, offsetOf, badFlow, wrongSize, flowRules, feedRules}
+use Rattle.list_flow.proofs.Refused.{wrong-size, bad-flow}
+use Rattle.list_flow.specs.Opening.{openPairs, openRules}
+use Rattle.list_flow.proofs.Opening.{openPairs-long}
 use Rattle.list.specs.Automaton.{start, accepted, named, highest}
 use Rattle.list.proofs.Named.{names-bytes, named-bytes, outside-exactly}
 use Rattle.feed.specs.Engine.{room}
 use Rattle.feed.specs.Opening.{noRoom}
-use Rattle.list_feed.specs.Plain.{openPairs, openRules}
-use Rattle.list_feed.proofs.Opening.{openPairs-long}
+use Rattle.feed.proofs.Piece.{other-start, too-long, piece-says}
 use Rattle.table.specs.Table.{Table, mostSplits, mostBound, splitSize, partCount, splitCount, splitSet, slots, usedSlots, takenSlots, goodSlots, inOrder, unordered, badBound, badClasses, badCount, badLengths, badSplits, badRows, badUnion, noStartSplit, notClosed, sizeRules, risingRules, tableRules}
 use Rattle.table.proofs.Accepted.{Slots-good}
 use Rattle.table.proofs.Joined.{below-exactly}
@@ -38,7 +39,7 @@ use Rattle.index.specs.Entry.{entryPlace, flagAt, knownIn, wrongIndex, badIndex
 use Rattle.index.specs.Stand.{holdsAt, namedBy, standRules}
 use Rattle.index.proofs.Hints.{holds-said}
 use Rattle.index_fill.specs.Filled.{indexRules}
-use Rattle.laws.specs.Words.{listWords, openingRows, openWords, Foreign, flowWords, feedWords, Highest, lengthWords, fillWords, matrixWords, Miscounted, Misclassed, Mislisted, SlotsGood, Rises, sizeWords, entryWords, tableWords, orderWords, splitWords, Misindexed, indexWords, Misfit, Hinted, Outside, Unnamed, preparedWords}
+use Rattle.laws.specs.Words.{listWords, openingRows, openWords, Foreign, flowWords, feedWords, Highest, lengthWords, fillWords, matrixWords, Miscounted, Misclassed, Mislisted, SlotsGood, Rises, sizeWords, entryWords, tableWords, Unordered, splitWords, Misindexed, indexWords, Misfit, Hinted, Outside, Unnamed, preparedWords}
 
 -- ---- the rows
 
@@ -104,7 +105,7 @@ module _ (L : List ℕ) where
   pub feed-says : (R : List ℕ) (at : ℕ) (piece : List ℕ) → Says (feedRules L R at piece) (feedWords L R at piece)
   feed-says R at piece =
       says-append (listRules L) (flowRules (within (frontierOf R) (named L)) R at piece) (listWords L) (flowWords (Foreign L R) R at piece) list-says
-      (refl, either-words _ (Foreign L R) (badFlow R) (not (within (frontierOf R) (named L))) (bad-flow R) (foreign R), (refl, other-start R at, (refl, too-long R piece, tt)))
+      (refl, either-words _ (Foreign L R) (badFlow R) (not (within (frontierOf R) (named L))) (bad-flow R) (foreign R), piece-says (offsetOf R) at piece)
 
   -- the highest state is one number, and it is the definition's
   highest-words : Highest L (highest L)
@@ -212,11 +213,11 @@ module _ (b : ℕ) (T : Table) where
       says-append (listRules L) (sizeRules b T ++ entryRules L) (listWords L) (sizeWords b T ++ entryWords L b T) (list-says L)
       (says-append (sizeRules b T) (entryRules L) (sizeWords b T) (entryWords L b T) size-says (entry-says L))
 
-  rising-says : Says (risingRules b T) (sizeWords b T ++ orderWords T)
-  rising-says = says-append (sizeRules b T) ((9, unordered (T .splits)) ∷ []) (sizeWords b T) (orderWords T) size-says (refl, order-words (T .splits), tt)
+  rising-says : Says (risingRules b T) (sizeWords b T ++ ((9, Unordered (T .splits)) ∷ []))
+  rising-says = says-append (sizeRules b T) ((9, unordered (T .splits)) ∷ []) (sizeWords b T) ((9, Unordered (T .splits)) ∷ []) size-says (refl, order-words (T .splits), tt)
 
   split-says : (L R : List ℕ) (at : ℕ) (piece : List ℕ) → Says (splitRules L b T R at piece) (splitWords L b T R at piece)
-  split-says L R at piece = says-append (feedRules L R at piece) (risingRules b T) (feedWords L R at piece) (sizeWords b T ++ orderWords T) (feed-says L R at piece) rising-says
+  split-says L R at piece = says-append (feedRules L R at piece) (risingRules b T) (feedWords L R at piece) (sizeWords b T ++ ((9, Unordered (T .splits)) ∷ [])) (feed-says L R at piece) rising-says
 
   index-says : (L X : List ℕ) → Says (indexRules L b T X) (indexWords L b T X)
   index-says L X =
@@ -274,7 +275,7 @@ module _ (S X : List ℕ) (h : ℕ) where
   prepared-says R at piece = (
     refl,
     either-words _ (Unnamed S X h R) (badFlow R) (not (namedBy S X h (frontierOf R))) (bad-flow R) (unnamed R),
-    (refl, other-start R at, (refl, too-long R piece, (refl, index-lists, tt))),
+    (refl, other-start (offsetOf R) at, (refl, too-long (offsetOf R) piece, (refl, index-lists, tt))),
   )
 
 -- ---- each entry point

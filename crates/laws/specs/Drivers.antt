@@ -8,23 +8,24 @@ use lib.Dec.{eqb, ltb}
 use Rattle.list.specs.List.{listRefusal}
 use Rattle.list.specs.Automaton.{start}
 use Rattle.feed.specs.Engine.{Outcome, run}
-use Rattle.feed.specs.Calls.{Bytes, recordAfter, allTold, allBytes, Pieces}
+use Rattle.feed.specs.Calls.{Bytes, recordAfter, allTold, allBytes, Pieces, outcome}
 use Rattle.feed.specs.Fed.{Answers}
 use Rattle.feed.specs.Made.{Made, made, Promised, callsOf}
 use Rattle.feed.specs.declared.Fed.{Fed}
 use Rattle.feed.specs.declared.Opened.{Opened}
 use Rattle.feed.specs.Demands.{openTold}
 use Rattle.list_flow.specs.Flow.{frontierOf, offsetOf}
-use Rattle.list_feed.specs.Plain.{plain, openFlow}
+use Rattle.list_flow.specs.Opening.{openFlow}
+use Rattle.list_feed.specs.Plain.{plain}
 use Rattle.table.specs.Table.{Table, tableRefusal}
 use Rattle.matrix.specs.Matrix.{Fills}
 use Rattle.index_fill.specs.Filled.{FillsIndex}
 use Rattle.table_build.specs.declared.Built.{Built}
-use Rattle.table_build.specs.Words.{Tabled, fronts, Nowhere, ZerosBehind}
+use Rattle.table_build.specs.Words.{Tabled, fronts, unbuilt, ZerosBehind}
 use Rattle.table_build.specs.Build.{Building}
 use Rattle.rules.specs.Words.{InWords}
 use Rattle.laws.specs.Words.{buildWords}
-use Rattle.laws.specs.Calls.{Via, byList, byTable, byMatrix, byIndex, bySlots, Call, outcome}
+use Rattle.laws.specs.Calls.{Via, byList, byTable, byMatrix, byIndex, bySlots, Call, wayOf}
 use Rattle.laws.specs.Demands.{Due, Swapped}
 
 -- ---- any number of feeds of any kind
@@ -34,13 +35,13 @@ abbrev pub viaBy : ℕ → Table → List ℕ → List ℕ → ℕ → Via
 viaBy b T X Y k = cond (eqb k 0) byList (cond (eqb k 1) (byTable b T) (cond (eqb k 2) (byMatrix X) (byIndex b (bySlots T) (T .splits) Y (k - 3))))
 
 abbrev pub callOf : List ℕ → Via → ℕ → List ℕ → List ℕ → Call
-callOf L via at piece out = record { list = L; via = via; at = at; piece = piece; out = out }
+callOf L via at piece out = record { by = record { list = L; via = via }; at = at; piece = piece; out = out }
 
 abbrev pub pieceOf : Call → List ℕ
 pieceOf c = c .piece
 
 abbrev pub does : Call → List ℕ → Outcome
-does c R = outcome R c
+does c R = outcome wayOf R c
 
 -- the number, or the nearest to it of those from `low` to `high`
 abbrev pub nearest : ℕ → ℕ → ℕ → ℕ
@@ -70,7 +71,7 @@ planned b T X Y kinds starts cuts rooms stream words =
 -- one feed by the record R, of the bytes n to e of the stream, with the words w to v of `out`: what is consumed and told goes behind what was, and Q is left
 pub record Turn (L : List ℕ) (via : Via) (at : ℕ) (R stream : List ℕ) (n e : ℕ) (out : List ℕ) (w v : ℕ) (f : Fed) (words Q : List ℕ) : Type 0 where
   pub left : List ℕ
-  pub answers : Answers (outcome R (callOf L via at (take (e - n) (drop n stream)) (take (v - w) (drop w out)))) f left Q
+  pub answers : Answers (outcome wayOf R (callOf L via at (take (e - n) (drop n stream)) (take (v - w) (drop w out)))) f left Q
   pub in-bytes : Bytes (take (e - n) (drop n stream))
   pub room : length (take (v - w) (drop w out)) ≡ v - w
   pub eats : take (n + f .bytes) stream ≡ take n stream ++ take (f .bytes) (take (e - n) (drop n stream))
@@ -80,8 +81,8 @@ pub record Turn (L : List ℕ) (via : Via) (at : ℕ) (R stream : List ℕ) (n e
 
 -- a call is the one planned for place k, where the bytes before n are consumed and the words before w told
 pub record Meant (L : List ℕ) (P : Plan) (k n w : ℕ) (c : Call) : Type 0 where
-  pub list : c .list ≡ L
-  pub via : c .via ≡ P .via k
+  pub list : c .by .list ≡ L
+  pub via : c .by .via ≡ P .via k
   pub at : c .at ≡ P .at k
   pub piece : c .piece ≡ take (nearest n (P .cut k) (length (P .stream)) - n) (drop n (P .stream))
   pub room : length (c .out) ≡ nearest w (P .room k) (P .words) - w
@@ -136,7 +137,7 @@ built r T = record { refusal = r .refusal; classes = r .classes; parts = r .part
 -- it was lent T; its refusal is given exactly when the words say; one but 16 changes nothing, 16 leaves zeros, and without one the check of the fronts at 1 answered 0
 pub record BuildKept (L : List ℕ) (T : Table) (o : Building) (checked : ℕ) : Type 0 where
   pub refuses : InWords (buildWords L T) (o .refusal)
-  pub unchanged : (o .refusal ≡ 0 → ⊥) → (o .refusal ≡ 16 → ⊥) → Nowhere o × (o .lists ≡ T)
-  pub emptied : o .refusal ≡ 16 → Nowhere o × ZerosBehind T o
+  pub unchanged : (o .refusal ≡ 0 → ⊥) → (o .refusal ≡ 16 → ⊥) → o ≡ unbuilt (o .refusal) T
+  pub emptied : o .refusal ≡ 16 → (o ≡ unbuilt 16 (o .lists)) × ZerosBehind T o
   pub made : o .refusal ≡ 0 → Tabled L (fronts o) × ZerosBehind T o
   pub accepted : o .refusal ≡ 0 → checked ≡ 0

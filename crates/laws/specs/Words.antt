@@ -10,8 +10,8 @@ use Rattle.rules.specs.Words.{Row}
 use Rattle.list.specs.List.{recordSize, mostRecords, records}
 use Rattle.list.specs.Automaton.{start, step, accepted}
 use Rattle.list.specs.Words.{Edge-bytes, Start-bytes, Accept-bytes, Names-bytes}
-use Rattle.sets.specs.Order.{Smaller}
-use Rattle.feed.specs.Engine.{mostOffset}
+use Rattle.numbers.specs.Order.{Smaller}
+use Rattle.feed.specs.Piece.{pieceWords}
 use Rattle.list_flow.specs.Flow.{flowSize, frontierOf, offsetOf, reservedOf, rowsOf}
 use Rattle.table.specs.Table.{Table, byteValues, mostClass, mostParts, mostSplits, mostBound, splitSize, classCount, partCount, splitCount}
 use Rattle.table.specs.Table.{part, row, splitSet, slots, usedSlots, takenSlots, joined}
@@ -49,9 +49,7 @@ Foreign L R = (s : ℕ) × (holds (frontierOf R) s ≡ true) × ((s < states) ×
 abbrev pub flowWords : Type 0 → List ℕ → ℕ → List ℕ → List Row
 flowWords foreign R k piece =
     (4, (((length R ≡ flowSize → ⊥) ⊎ (reservedOf R ≡ 0 → ⊥)) ⊎ (states * offsetOf R < rowsOf R)) ⊎ foreign)
-    ∷ (5, k ≡ offsetOf R → ⊥)
-    ∷ (6, mostOffset < offsetOf R + length piece)
-    ∷ []
+    ∷ pieceWords (offsetOf R) k piece
 
 abbrev pub feedWords : List ℕ → List ℕ → ℕ → List ℕ → List Row
 feedWords L R k piece = listWords L ++ flowWords (Foreign L R) R k piece
@@ -111,11 +109,15 @@ Mislisted T =
 abbrev pub sizeWords : ℕ → Table → List Row
 sizeWords b T = (7, (b ≡ 0) ⊎ (mostBound < b)) ∷ (8, Mislisted T) ∷ []
 
+-- the sets of the splits do not rise
+abbrev pub Unordered : List ℕ → Type 0
+Unordered S = (i : ℕ) × (suc i < splitCount S) × (Rises S i → ⊥)
+
 abbrev pub entryWords : List ℕ → ℕ → Table → List Row
 entryWords L b T = (
   9,
   ((i : ℕ) × (i < splitCount (T .splits)) × (SlotsGood (partCount (T .parts)) b (slots (T .splits) i) → ⊥))
-      ⊎ ((i : ℕ) × (suc i < splitCount (T .splits)) × (Rises (T .splits) i → ⊥)),
+      ⊎ Unordered (T .splits),
 )
     ∷ (10, (p : ℕ) × (p < partCount (T .parts)) × ((c : ℕ) × (c < byteValues) × (row (T .classes) (T .rows) p c ≡ step L (part (T .parts) p) c → ⊥)))
     ∷ (11, (i : ℕ) × (i < splitCount (T .splits)) × (splitSet (T .splits) i ≡ joined (part (T .parts)) (usedSlots (slots (T .splits) i)) → ⊥))
@@ -128,11 +130,8 @@ tableWords L b T = listWords L ++ (sizeWords b T ++ entryWords L b T)
 
 -- ---- the split feed: 1 to 9, 9 for the sets alone; and 14 at a frontier
 
-abbrev pub orderWords : Table → List Row
-orderWords T = (9, (i : ℕ) × (suc i < splitCount (T .splits)) × (Rises (T .splits) i → ⊥)) ∷ []
-
 abbrev pub splitWords : List ℕ → ℕ → Table → List ℕ → ℕ → List ℕ → List Row
-splitWords L b T R k piece = feedWords L R k piece ++ (sizeWords b T ++ orderWords T)
+splitWords L b T R k piece = feedWords L R k piece ++ (sizeWords b T ++ ((9, Unordered (T .splits)) ∷ []))
 
 -- no split has the set F, or a slot taken names no part, or more than b are taken
 abbrev pub Stuck : ℕ → Table → ℕ → Type 0
@@ -179,12 +178,9 @@ lentWords T = (
 )
     ∷ []
 
-abbrev pub earlyWords : List ℕ → Table → List Row
-earlyWords L T = listWords L ++ lentWords T
-
 -- 16: one set more can be reached than a table may have parts, or one class more is needed than it may have
 abbrev pub buildWords : List ℕ → Table → List Row
-buildWords L T = earlyWords L T ++ ((16, Many L (suc mostParts) ⊎ Needs L (suc mostClasses)) ∷ [])
+buildWords L T = (listWords L ++ lentWords T) ++ ((16, Many L (suc mostParts) ⊎ Needs L (suc mostClasses)) ∷ [])
 
 -- ---- splits and an index straight from a list: 1 to 3, then 17, then 16
 

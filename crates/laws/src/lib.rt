@@ -6,10 +6,11 @@ ghost use Prim.Native.Nat.{_≤_, _+_, _*_, _/_};
 ghost use mathlib.Core.Bool.{cond};
 ghost use mathlib.Core.Path.{_≡_};
 ghost use lib.ListN.{length, getD, take};
-ghost use Rattle.sets.specs.Set.{placed};
+ghost use Rattle.numbers.specs.Number.{placed};
 ghost use Rattle.table.specs.Table.{table};
 ghost use Rattle.feed.specs.Fed.{Answers};
-ghost use Rattle.laws.specs.Calls.{outcome};
+ghost use Rattle.feed.specs.Calls.{outcome};
+ghost use Rattle.laws.specs.Calls.{wayOf};
 ghost use Rattle.laws.specs.Drivers.{viaBy, callOf, nearest, planned, answer, Turn, Came, Driven, built, BuildKept};
 
 // The number at a place; past the end that is 0.
@@ -69,7 +70,7 @@ pub fn feed_by(
     piece: &[u8],
     pairs: &mut [u32],
 ) -> Fed
-    ensures { λ r. ⌜ Answers (outcome (now (flow .entry)) (callOf (now (list .entry))
+    ensures { λ r. ⌜ Answers (outcome wayOf (now (flow .entry)) (callOf (now (list .entry))
         (viaBy bound (table (now (classes .entry)) (now (parts .entry)) (now (rows .entry)) (now (splits .entry)))
         (now (matrix .entry)) (now (index .entry)) kind)
         start (now (piece .entry)) (now (pairs .entry)))) r (now (pairs .exit)) (now (flow .exit)) ⌝ }
@@ -251,7 +252,7 @@ fn drive(
     let checked = table::check_table(list, bound, classes, parts, rows, splits);
     let filled = matrix::fill(list, matrix);
     let indexed = index_fill::fill(list, bound, classes, parts, rows, splits, index);
-    let opened = list_feed::open_flow(list, flow, pairs);
+    let opened = list_flow::open_flow(list, flow, pairs);
     let told = 2 * opened.pairs;
     let fed = feed_all(
         list,

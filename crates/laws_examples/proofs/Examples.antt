@@ -5,7 +5,8 @@ use mathlib.Core.Bool.{Bool, true, false, _&&_}
 use mathlib.Core.List.{List, [], _∷_, _++_}
 use lib.Count.{onesIn}
 use lib.Dec.{T, eqb, eqb→eq}
-use Rattle.sets.specs.Set.{num, digits, holds, join, within, insert, size, members, setAt, sigsAt, before}
+use Rattle.numbers.specs.Number.{num, digits, before}
+use Rattle.sets.specs.Set.{holds, join, within, insert, size, members, setAt, sigsAt}
 use Rattle.rules.specs.Scan.{some, every, first, gather, rising, stack}
 use Rattle.rules.specs.Rules.{verdict}
 use Rattle.list.specs.List.{goodRecord, badLength, badRecord, noStart}
@@ -14,7 +15,7 @@ use Rattle.feed.specs.Engine.{run, costs, due, pairsAt, told, consumed, ended, 
 use Rattle.feed.specs.Opening.{opening}
 use Rattle.feed.specs.Calls.{recordAfter, allTold}
 use Rattle.list_flow.specs.Flow.{flowBytes, badFlow}
-use Rattle.list_feed.specs.Plain.{openPairs}
+use Rattle.list_flow.specs.Opening.{openPairs}
 use Rattle.table.specs.Table.{largest, part, row, splitSet, slots, usedSlots, takenSlots, allBelow, joined, badClasses, badCount, badRowsLength, badLengths, goodSlots, inOrder, unordered, badSplits, badRows, badUnion, noStartSplit, notClosed, tableRefusal, splitOf}
 use Rattle.table_feed.specs.Split.{taken, stuck, splitStep}
 use Rattle.index.specs.Entry.{toldOf, splitAt, knownIn, badIndex}

@@ -6,14 +6,15 @@ use mathlib.Core.Logic.{inl, inr}
 use native.Mathlib.Omega.{arith}
 use lib.ListN.{replicate}
 use lib.Dec.{lit<}
-use Rattle.sets.specs.Set.{digits, setBytes}
-use Rattle.sets.proofs.Laws.{small-digits}
+use Rattle.numbers.specs.Number.{digits}
+use Rattle.sets.specs.Set.{setBytes}
+use Rattle.numbers.proofs.Laws.{small-digits}
 use Rattle.list.specs.List.{badLength}
 use Rattle.rules.specs.Rules.{Rule, verdict}
 use Rattle.rules.proofs.Rules.{stop}
-use Rattle.feed.specs.Calls.{Bytes}
+use Rattle.feed.specs.Calls.{Bytes, asked, Pieces}
 use Rattle.feed.proofs.Runs.{bytes-append}
-use Rattle.list_feed.specs.Plain.{openFlow}
+use Rattle.list_flow.specs.Opening.{openFlow}
 use Rattle.table.specs.Table.{Table, tableRefusal}
 use Rattle.matrix.specs.Matrix.{filled}
 use Rattle.index.specs.Stand.{standRules}
@@ -21,7 +22,7 @@ use Rattle.index.proofs.Sizes.{lists-said}
 use Rattle.index.proofs.Lawful.{stand-passes}
 use Rattle.index_fill.specs.Filled.{filledIndex}
 use Rattle.index_fill.proofs.Made.{filled-checked}
-use Rattle.laws.specs.Calls.{Via, byList, byTable, byMatrix, byIndex, bySlots, Call, InBytes}
+use Rattle.laws.specs.Calls.{Via, byList, byTable, byMatrix, byIndex, bySlots, Call, wayOf}
 use Rattle.laws.specs.Demands.{Flows, Demand2, Demand3, Swapped}
 use Rattle.laws_examples.specs.Examples.{L, L₀, splitOf₂, s0, s01, s02, T₃, T₁, a, b, room, full, begin, swaps}
 use Rattle.laws_examples.proofs.Examples.{open-agrees, opened-agrees, accepted-agrees, accepted-agrees₁, accepted-agrees₀}
@@ -29,7 +30,7 @@ use Rattle.laws.proofs.Swapping.{demand-2-opened, demand-3, swapped}
 
 -- four calls: "aba"; start 0 again, which is refused with 5; an empty list, which is refused with 1; then "b" from 3
 abbrev fed : Via → List ℕ → ℕ → List ℕ → Call
-fed via list at piece = record { list = list; via = via; at = at; piece = piece; out = room 3 }
+fed via list at piece = record { by = record { list = list; via = via }; at = at; piece = piece; out = room 3 }
 
 abbrev calls : Via → List Call
 calls via = fed via L₀ 0 (a ∷ b ∷ a ∷ []) ∷ fed via L₀ 0 (b ∷ []) ∷ fed via [] 3 (b ∷ []) ∷ fed via L₀ 3 (b ∷ []) ∷ []
@@ -44,7 +45,7 @@ three (suc zero) = lit< tt
 three (suc (suc zero)) = lit< tt
 three (suc (suc (suc i))) = lit< tt
 
-in-bytes : (via : Via) → InBytes (calls via)
+in-bytes : (via : Via) → Pieces (asked wayOf) (calls via)
 in-bytes via = (three, (one b (lit< tt), (one b (lit< tt), (one b (lit< tt), tt))))
 
 -- the start state accepts, the table is accepted, and the opening passes: rows of the table of examples
@@ -106,7 +107,7 @@ mixed-applies =
 -- five calls of "abab": "a" plain; "b" by the index of T, from the split where the flow stands; an index of no bytes, which is refused with 8; "a" by the index of the table of bound 1,
 -- from a hint that names no split, and "b" by the list's matrix
 abbrev along : Via → ℕ → List ℕ → Call
-along via at piece = record { list = L; via = via; at = at; piece = piece; out = room 1 }
+along via at piece = record { by = record { list = L; via = via }; at = at; piece = piece; out = room 1 }
 
 abbrev indexed : List Call
 indexed =

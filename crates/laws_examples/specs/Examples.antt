@@ -4,13 +4,15 @@ use mathlib.Core.Bool.{cond}
 use mathlib.Core.List.{List, [], _∷_, _++_}
 use mathlib.Core.Path.{_≡_}
 use lib.ListN.{replicate}
-use Rattle.sets.specs.Set.{states, signatures, setSize, digits, setBytes}
+use Rattle.numbers.specs.Number.{digits}
+use Rattle.sets.specs.Set.{states, signatures, setSize, setBytes}
 use Rattle.list.specs.List.{mostRecords, listRefusal}
 use Rattle.list.specs.Automaton.{start, edge, step}
 use Rattle.feed.specs.Engine.{Outcome, mostOffset, run}
 use Rattle.feed.specs.Opening.{Opening}
 use Rattle.list_flow.specs.Flow.{flowSize, flowBytes, rowsOf}
-use Rattle.list_feed.specs.Plain.{plain, opened, openFlow, pairsOf}
+use Rattle.list_flow.specs.Opening.{opened, openFlow}
+use Rattle.list_feed.specs.Plain.{plain, pairsOf}
 use Rattle.table.specs.Table.{Table, table, splitSize, mostClass, mostParts, mostSplits, mostBound, tableRefusal}
 use Rattle.matrix.specs.Matrix.{matrixLength, cellAt}
 use Rattle.index.specs.Entry.{entrySize, sigsPlace, costPlace, flagPlace, entryPlace, telling}
@@ -18,7 +20,8 @@ use Rattle.index.specs.Stand.{standFeed, stoodAt}
 use Rattle.index_fill.specs.Filled.{filledIndex}
 use Rattle.table_classes.specs.Classes.{mostClasses, alike}
 use Rattle.table_build.specs.Build.{mostRows, lower, partsOf, splitsOf}
-use Rattle.laws.specs.Calls.{Via, byList, byTable, byMatrix, Call, outcome, wordsOf, after}
+use Rattle.feed.specs.Calls.{outcome, asked, allTold, recordAfter}
+use Rattle.laws.specs.Calls.{Via, byList, byTable, byMatrix, Call, wayOf}
 
 -- a row: what a definition gives, and what the example says
 abbrev pub Row : Type 0
@@ -125,7 +128,7 @@ abbrev pub room : ℕ → List ℕ
 room n = replicate (2 * n) 0
 
 abbrev pub fed : Via → List ℕ → ℕ → List ℕ → ℕ → Outcome
-fed via R at piece n = outcome R (record { list = L; via = via; at = at; piece = piece; out = room n })
+fed via R at piece n = outcome wayOf R (record { by = record { list = L; via = via }; at = at; piece = piece; out = room n })
 
 -- an answer as numbers: refusal, bytes, pairs, all
 abbrev pub answered : Outcome → List ℕ
@@ -154,12 +157,12 @@ lone = 0x02 ∷ 0x00 ∷ 0x00 ∷ 0x00 ∷ 0x00 ∷ 0x00 ∷ 0x04 ∷ 0x00 ∷ 0
 -- the refusal of a piece from a start, plain and with T at 2, on a list, for a frontier at offset 0
 abbrev pub refusedAt : List ℕ → ℕ → ℕ → List ℕ → List ℕ
 refusedAt M F at piece =
-    outcome (flowBytes F 0 0) (record { list = M; via = byList; at = at; piece = piece; out = room 2 }) .refusal
-    ∷ outcome (flowBytes F 0 0) (record { list = M; via = byTable 2 T₃; at = at; piece = piece; out = room 2 }) .refusal ∷ []
+    outcome wayOf (flowBytes F 0 0) (record { by = record { list = M; via = byList }; at = at; piece = piece; out = room 2 }) .refusal
+    ∷ outcome wayOf (flowBytes F 0 0) (record { by = record { list = M; via = byTable 2 T₃ }; at = at; piece = piece; out = room 2 }) .refusal ∷ []
 
 -- "abab" plain with three words, each 9
 abbrev pub odd : Outcome
-odd = outcome (opened L) (record { list = L; via = byList; at = 0; piece = a ∷ b ∷ a ∷ b ∷ []; out = 9 ∷ 9 ∷ 9 ∷ [] })
+odd = outcome wayOf (opened L) (record { by = record { list = L; via = byList }; at = 0; piece = a ∷ b ∷ a ∷ b ∷ []; out = 9 ∷ 9 ∷ 9 ∷ [] })
 
 -- after "a", and after "bab" from there
 abbrev pub afterA : List ℕ
@@ -171,9 +174,9 @@ afterBAB = fed byList afterA 1 (b ∷ a ∷ b ∷ []) 2 .saved
 -- "abab" on L: "a" plain, "b" through T at 2, "ab" through the table of bound 1
 abbrev pub swaps : List Call
 swaps =
-    record { list = L; via = byList; at = 0; piece = a ∷ []; out = room 1 }
-    ∷ record { list = L; via = byTable 2 T₃; at = 1; piece = b ∷ []; out = room 1 }
-    ∷ record { list = L; via = byTable 1 T₁; at = 2; piece = a ∷ b ∷ []; out = room 1 } ∷ []
+    record { by = record { list = L; via = byList }; at = 0; piece = a ∷ []; out = room 1 }
+    ∷ record { by = record { list = L; via = byTable 2 T₃ }; at = 1; piece = b ∷ []; out = room 1 }
+    ∷ record { by = record { list = L; via = byTable 1 T₁ }; at = 2; piece = a ∷ b ∷ []; out = room 1 } ∷ []
 
 -- ---- the rows
 
@@ -237,7 +240,7 @@ feedRows =
     ∷ (listRefusal (L ++ edgeOf 0x62 0x61 1) ∷ [], 2 ∷ [])
     ∷ (listRefusal (L ++ (2 ∷ 0 ∷ 0 ∷ 1 ∷ 0 ∷ 0 ∷ 0 ∷ 0 ∷ [])) ∷ listRefusal (L ++ (3 ∷ 0 ∷ 0 ∷ 1 ∷ 0 ∷ 0 ∷ 0 ∷ 0 ∷ [])) ∷ [], 2 ∷ 2 ∷ [])
     -- "AbaB" on the loud list: one pair, since its "b" is for one case
-    ∷ (outcome (opened loud) (record { list = loud; via = byList; at = 0; piece = 0x41 ∷ b ∷ a ∷ 0x42 ∷ []; out = room 2 }) .words, 7 ∷ 2 ∷ 0 ∷ 0 ∷ [])
+    ∷ (outcome wayOf (opened loud) (record { by = record { list = loud; via = byList }; at = 0; piece = 0x41 ∷ b ∷ a ∷ 0x42 ∷ []; out = room 2 }) .words, 7 ∷ 2 ∷ 0 ∷ 0 ∷ [])
     -- L without its start record: 3
     ∷ (listRefusal (edges ++ accepts) ∷ [], 3 ∷ [])
     -- T without its split {0,2}, fed "abab": 14 at the third byte, after the pair (7, 2); with room 0 the pause comes first
@@ -254,8 +257,8 @@ feedRows =
     ∷ (refusedAt lone 80 0 [] ++ refusedAt lone (2 ^ 200) 0 [] ++ refusedAt lone 32 0 [], 0 ∷ 0 ∷ 4 ∷ 4 ∷ 4 ∷ 4 ∷ [])
     ∷ (openAnswered (openFlow lone (flowBytes (2 ^ 200) 0 0) []), 0 ∷ 0 ∷ [])
     -- "abab" with the engine swapped twice: the same words, and 1 + 2 + 1 + 1 rows
-    ∷ (wordsOf (opened L) swaps, 7 ∷ 2 ∷ 7 ∷ 4 ∷ [])
-    ∷ (rowsOf (after (opened L) swaps) ∷ [], 5 ∷ [])
+    ∷ (allTold (asked wayOf) (opened L) swaps, 7 ∷ 2 ∷ 7 ∷ 4 ∷ [])
+    ∷ (rowsOf (recordAfter (asked wayOf) (opened L) swaps) ∷ [], 5 ∷ [])
     -- the matrix of L has 3 × 256 sets, and that of `lone` 7 × 256; state 1 and byte "b" have index 354, and 128 bytes a set
     ∷ (matrixLength L ∷ matrixLength lone ∷ cellAt 1 b ∷ [], 98304 ∷ 229376 ∷ 45312 ∷ [])
     -- what the filler writes there for 0 and "a", 1 and "b", 2 and "b": {0,1}, {2}, {}

@@ -6,9 +6,9 @@ use native.Mathlib.Omega.{arith}
 use lib.ListN.{length, getD, take, drop, length-append, length-drop}
 use lib.Seq.{drop-cons, length-take-le}
 use lib.Dec.{eqb}
-use Rattle.sets.specs.Set.{num, digits, placed}
-use Rattle.sets.proofs.Laws.{Small, small-take, small-drop, length-digits, digits-num}
-use Rattle.sets.proofs.Placing.{placed-after}
+use Rattle.numbers.specs.Number.{num, digits, placed}
+use Rattle.numbers.proofs.Laws.{Small, small-take, small-drop, length-digits, digits-num}
+use Rattle.numbers.proofs.Placing.{placed-after}
 use Rattle.list.specs.List.{records, byteOf, isEdge, isStart, isAccept, from, target, recordWith}
 use Rattle.list.specs.Automaton.{edge}
 use Rattle.list.proofs.Listed.{from-bytes, target-bytes}

@@ -11,7 +11,7 @@ use lib.ListN.{length, getD}
 use lib.Dec.{lit<}
 use borrow.Author.Tests.{not-false}
 use Rattle.sets.specs.Set.{states, holds}
-use Rattle.sets.proofs.Laws.{Small}
+use Rattle.numbers.proofs.Laws.{Small}
 use Rattle.rules.specs.Scan.{some}
 use Rattle.rules.proofs.Scanning.{below-suc, choose, or-true, or-cases, some-elim}
 use Rattle.rules.proofs.Rules.{passes}

@@ -12,7 +12,8 @@ use lib.ListN.{length, getD}
 use lib.Dec.{ltb, eqb}
 use lib.Bits.{bitOr, or-lt}
 use borrow.Author.Tests.{eqb-true, eq-eqb, ne-eqb, not-true}
-use Rattle.sets.specs.Set.{states, num, setOf, holds, join, within, insert}
+use Rattle.numbers.specs.Number.{num}
+use Rattle.sets.specs.Set.{states, setOf, holds, join, within, insert}
 use Rattle.sets.proofs.Sets.{or-false, holds-join, holds-insert, holds-empty, holds-past, lt-pow, set-ext}
 use Rattle.sets.proofs.Within.{within-exactly, within-le}
 use Rattle.rules.specs.Scan.{every, gather}

@@ -9,7 +9,8 @@ use native.Mathlib.Decide.{decLt}
 use lib.ListN.{length, getD}
 use lib.Dec.{leb, ltb, eqb}
 use borrow.Author.Tests.{le-leb, lt-leb, lt-ltb, le-ltb}
-use Rattle.sets.specs.Set.{num, bit, holds}
+use Rattle.numbers.specs.Number.{num, bit}
+use Rattle.sets.specs.Set.{holds}
 use Rattle.sets.proofs.Sets.{Words, word-holds}
 use Rattle.rules.specs.Scan.{some}
 use Rattle.rules.proofs.Scanning.{and-false, some-intro}

@@ -6,7 +6,8 @@ ghost use mathlib.Core.Bool.{true, _&&_, _||_, cond};
 ghost use Prim.Native.Nat.{ℕ, suc, max, _+_, _-_, _*_, _%_, _<_, _≤_};
 ghost use lib.ListN.{length, getD};
 ghost use lib.Dec.{leb};
-ghost use Rattle.sets.specs.Set.{setWords, setSize, num, setOf, sigsOf, holds, insert, setAt, placed};
+ghost use Rattle.numbers.specs.Number.{num, placed};
+ghost use Rattle.sets.specs.Set.{setWords, setSize, setOf, sigsOf, holds, insert, setAt};
 ghost use Rattle.rules.specs.Scan.{some, every};
 ghost use Rattle.list.specs.List.{recordSize, records, word, byteOf, wordOf, isEdge, isStart, isAccept, low, high, eitherCase, from, recordWith};
 ghost use Rattle.list.specs.List.{target, zeros, goodEdge, goodStart, goodAccept, goodRecord, badLength, badRecord, noStart, listRefusal};
@@ -70,7 +71,7 @@ fn word_of(list: &[u8], i: usize, k: usize) -> usize
     requires { ⌜ (i < records (now list)) × (k + 1 < recordSize) ⌝ }
     ensures { λ r. ⌜ r ≡ wordOf (now (list .entry)) i k ⌝ }
 {
-    sets::whole_number(list, RECORD_SIZE * i + k, 2) as usize
+    numbers::whole_number(list, RECORD_SIZE * i + k, 2) as usize
 }
 
 // Says whether record i is an edge.
@@ -566,12 +567,12 @@ pub fn copy_record(list: &mut [u8], at: usize, from: &[u8], i: usize, f: usize, 
     requires { ⌜ (i < records (now from)) × (at + recordSize ≤ length (now list)) ⌝ }
     ensures { λ _. ⌜ now (list .exit) ≡ placed (now (list .entry)) at (recordWith (now (from .entry)) i f t) ⌝ }
 {
-    sets::put_number(
+    numbers::put_number(
         list,
         at,
         FROM,
-        sets::whole_number(from, RECORD_SIZE * i, FROM),
+        numbers::whole_number(from, RECORD_SIZE * i, FROM),
     );
-    sets::put_number(list, at + FROM, 2, f as u64);
-    sets::put_number(list, at + TARGET, 2, t as u64);
+    numbers::put_number(list, at + FROM, 2, f as u64);
+    numbers::put_number(list, at + TARGET, 2, t as u64);
 }

@@ -16,8 +16,10 @@ use Rattle.feed.specs.Engine.{mostOffset}
 use Rattle.feed.specs.Calls.{Bytes}
 use Rattle.feed.specs.Lawful.{Reached, Fit, Lawful}
 use Rattle.feed.proofs.Lawful.{reached-has}
-use Rattle.list_flow.specs.Flow.{offsetOf, frontierOf, badFlow, otherStart, feedRules}
-use Rattle.list_flow.proofs.Passing.{feed-passes, cut-passes}
+use Rattle.feed.specs.Piece.{otherStart}
+use Rattle.feed.proofs.Piece.{cut-passes}
+use Rattle.list_flow.specs.Flow.{offsetOf, frontierOf, badFlow, feedRules}
+use Rattle.list_flow.proofs.Passing.{feed-passes}
 use Rattle.list_flow.proofs.Kept.{good-feed, fit-feed}
 use Rattle.list_feed.specs.Plain.{plain}
 use Rattle.list_feed.specs.Means.{listAutomata, listMeans}
@@ -35,7 +37,7 @@ list-passes L R at piece v = let p = feed-passes L R at piece v in (p .0, p .1, 
 -- they take a front of each piece that they take, whatever is tested behind them
 pub list-shorter : (rest : List Rule) (L R : List ℕ) (at : ℕ) (piece : List ℕ) (n : ℕ) → verdict (feedRules L R at piece ++ rest) ≡ 0 → verdict (feedRules L R at (take n piece) ++ rest) ≡ 0
 list-shorter rest L R at piece n v =
-    cut-passes ((1, badLength L) ∷ (2, badRecord L) ∷ (3, noStart L) ∷ (4, badFlow R || not (within (frontierOf R) (named L))) ∷ (5, otherStart R at) ∷ []) rest R piece n
+    cut-passes (offsetOf R) ((1, badLength L) ∷ (2, badRecord L) ∷ (3, noStart L) ∷ (4, badFlow R || not (within (frontierOf R) (named L))) ∷ (5, otherStart (offsetOf R) at) ∷ []) rest piece n
     (list-passes L R at piece (passes-front (feedRules L R at piece) rest v) .2) v
 
 pub lawful : Lawful listAutomata listMeans

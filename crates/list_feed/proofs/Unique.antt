@@ -4,15 +4,8 @@ use mathlib.Core.Path.{_≡_}
 use mathlib.Core.List.{List}
 use Rattle.feed.specs.declared.Fed.{Fed}
 use Rattle.feed.specs.Fed.{Answers}
-use Rattle.feed.specs.declared.Opened.{Opened}
-use Rattle.feed.specs.Opening.{Opens}
-use Rattle.feed.proofs.Unique.{unique-opens, unique-answers}
-use Rattle.list_feed.specs.Plain.{openFlow, plainFeed}
-
--- opening gives one answer and leaves the same words and the same record
-pub unique-open : (L R out : List ℕ) (f g : Opened) (ws vs sv tv : List ℕ)
-    → Opens (openFlow L R out) f ws sv → Opens (openFlow L R out) g vs tv → (f ≡ g) × (ws ≡ vs) × (sv ≡ tv)
-unique-open L R out f g ws vs sv tv a b = unique-opens (openFlow L R out) f g ws vs sv tv a b
+use Rattle.feed.proofs.Unique.{unique-answers}
+use Rattle.list_feed.specs.Plain.{plainFeed}
 
 -- the feed gives one answer and leaves the same words and the same record
 pub unique-feed : (L R : List ℕ) (at : ℕ) (piece out : List ℕ) (f g : Fed) (ws vs sv tv : List ℕ)

@@ -5,7 +5,7 @@ use mathlib.Core.List.{List}
 use mathlib.Core.Path.{_≡_}
 use Rattle.sets.specs.Set.{states, size, within}
 use Rattle.list.specs.Automaton.{start, named}
-use Rattle.feed.specs.Lawful.{Automata, Means}
+use Rattle.feed.specs.Lawful.{Automata, Means, ownMeans}
 use Rattle.list_flow.specs.Flow.{flowLayout, badFlow, feedRules}
 use Rattle.list_feed.specs.Plain.{plain}
 
@@ -24,16 +24,4 @@ listAutomata =
 
 -- the plain feed: nothing has to be checked, and a byte counts the states of the frontier
 abbrev pub listMeans : Means (List ℕ) ℕ
-listMeans =
-    record {
-      Config = ℕ;
-      rules = feedRules;
-      engine = plain;
-      stands = λ F. F;
-      frontier = λ F. F;
-      spends = size states;
-      bound = states;
-      Checked = λ L. Unit {0};
-      Names = λ L. Unit {0};
-      Lent = Unit {0};
-    }
+listMeans = ownMeans feedRules plain (size states) states (λ L. Unit {0})

@@ -1,60 +1,16 @@
-// Opening a flow, and the plain feed: the automaton runs over a piece, byte by byte.
+// The plain feed: the automaton runs over a piece, byte by byte.
 use feed::Fed;
-use feed::Opened;
+use feed::Told;
 use list_flow::Ran;
-use list_flow::Told;
 use sets::StateSet;
 ghost use mathlib.Core.Path.{_≡_};
 ghost use Prim.Native.Nat.{_+_, _≤_};
 ghost use lib.ListN.{length};
 ghost use Rattle.sets.specs.Set.{setOf};
-ghost use Rattle.rules.specs.Rules.{verdict};
 ghost use Rattle.feed.specs.Engine.{mostOffset};
 ghost use Rattle.feed.specs.Fed.{Answers};
 ghost use Rattle.list_flow.specs.inner.Leaves.{Leaves};
-ghost use Rattle.feed.specs.Opening.{Opens};
-ghost use Rattle.list_feed.specs.Plain.{plain, firstRules, openFlow, plainFeed};
-
-// The check of opening before the room: the number of the first of the rules 1 to 4 that refuses it, 0 where none does.
-fn open_refusal(list: &[u8], flow: &[u8]) -> u32
-    ensures { λ r. ⌜ r ≡ verdict (firstRules (now (list .entry)) (now (flow .entry))) ⌝ }
-{
-    let listed = list::check_list(list);
-    if listed != rules::PASSED {
-        return listed;
-    }
-    if flow.len() != list_flow::FLOW_SIZE {
-        return rules::FLOW_RECORD;
-    }
-    rules::PASSED
-}
-
-// Opens a flow: its record then has the start states, offset 0 and no rows read, and the pairs of offset 0 are told. A refusal changes nothing.
-pub fn open_flow(list: &[u8], flow: &mut [u8], pairs: &mut [u32]) -> Opened
-    ensures { λ r. ⌜ Opens (openFlow (now (list .entry)) (now (flow .entry)) (now (pairs .entry))) r (now (pairs .exit)) (now (flow .exit)) ⌝ }
-{
-    let refusal = open_refusal(list, flow);
-    if refusal != rules::PASSED {
-        return Opened {
-            refusal: refusal,
-            pairs: 0,
-        };
-    }
-    let first = list::start_set(list);
-    let told = list_flow::tell_accepted(list, first, pairs, 0, 0);
-    let fits = told.fits;
-    if !fits {
-        return Opened {
-            refusal: rules::NO_ROOM,
-            pairs: 0,
-        };
-    }
-    list_flow::save(flow, first, 0, 0);
-    Opened {
-        refusal: rules::PASSED,
-        pairs: told.words / 2,
-    }
-}
+ghost use Rattle.list_feed.specs.Plain.{plain, plainFeed};
 
 // Runs the automaton from a frontier at an offset over the bytes whose pairs all fit the words.
 fn feed_bytes(list: &[u8], first: StateSet, offset: u64, piece: &[u8], pairs: &mut [u32]) -> Ran
@@ -106,6 +62,6 @@ pub fn feed(list: &[u8], flow: &mut [u8], start: u64, piece: &[u8], pairs: &mut 
     if refusal != rules::PASSED {
         return feed::refused(refusal);
     }
-    let ran = feed_bytes(list, StateSet::load(flow, 0), start, piece, pairs);
+    let ran = feed_bytes(list, StateSet::from_bytes(flow, 0), start, piece, pairs);
     list_flow::finish(flow, ran, piece.len())
 }

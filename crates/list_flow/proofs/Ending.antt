@@ -37,4 +37,4 @@ module _ (R piece : List ℕ) (good : badFlow R ≡ false) (ran : Ran) where
       → Leaves E (frontierOf R) (offsetOf R) piece out₀ ran out → Finishes ran (length piece) R f sv → Answers (feed rules E flowLayout R piece out₀) f out sv
   finishes E out₀ rules out f sv v l e =
       answers-fed E flowLayout R piece out₀ rules f (setOf (ran .frontier)) out (ran .bytes) (ran .words) (ran .rows) (l .going) v (l .longest)
-      (rw (e .refusal) (l .refusal)) (e .bytes) (e .pairs) (e .all) sv (rw (eq-eqb (length R) flowSize (good-flow R good .0)) at (e .saved))
+      (rw (e .fed .refusal) (l .refusal)) (e .fed .bytes) (e .fed .pairs) (e .fed .all) sv (rw (eq-eqb (length R) flowSize (good-flow R good .0)) at (e .saved))

@@ -4,5 +4,6 @@ pub mod Passing
 pub mod Saved
 pub mod Ending
 pub mod Accepting
+pub mod Opening
 pub mod Unique
 pub mod Kept

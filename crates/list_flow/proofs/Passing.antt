@@ -3,30 +3,28 @@ use Prim.Native.Nat.{ℕ, _+_, _≤_}
 use mathlib.Core.Path.{_≡_, refl, sym, _∙_}
 use mathlib.Core.Bool.{Bool, true, false, _||_, not}
 use mathlib.Core.List.{List, [], _∷_, _++_}
-use native.Mathlib.Omega.{arith}
 use native.Mathlib.Decide.{ℕ-discrete}
-use lib.ListN.{length, take}
-use lib.Dec.{eqb}
-use borrow.Author.Tests.{eqb-true, ne-eqb, ltb-false, le-ltb, not-false}
-use Rattle.rules.specs.Rules.{Rule, verdict}
-use Rattle.rules.proofs.Rules.{stop, passes, passes-front, passes-changed, verdict-then, verdict-refused}
+use lib.ListN.{length}
+use borrow.Author.Tests.{ne-eqb, not-false}
+use Rattle.rules.specs.Rules.{verdict}
+use Rattle.rules.proofs.Rules.{stop, passes, passes-front, verdict-then, verdict-refused}
 use Rattle.rules.proofs.Scanning.{neither}
 use Rattle.sets.specs.Set.{within}
 use Rattle.list.specs.List.{listRules}
 use Rattle.list.specs.Automaton.{named}
 use Rattle.feed.specs.Engine.{mostOffset}
-use Rattle.feed.proofs.Runs.{length-take-most}
-use Rattle.list_flow.specs.Flow.{flowSize, frontierOf, offsetOf, badFlow, otherStart, tooLong, flowRules, feedRules}
+use Rattle.feed.specs.Piece.{pieceRules}
+use Rattle.feed.proofs.Piece.{piece-passes}
+use Rattle.list_flow.specs.Flow.{flowSize, frontierOf, offsetOf, badFlow, flowRules, feedRules}
 
 -- what a feed knows that no rule of its flow refuses
 pub flow-passes : (known : Bool) (R : List ℕ) (at : ℕ) (piece : List ℕ) → verdict (flowRules known R at piece) ≡ 0
     → (badFlow R ≡ false) × (at ≡ offsetOf R) × (offsetOf R + length piece ≤ mostOffset) × (known ≡ true)
 flow-passes known R at piece v =
-    let a = passes 3 (badFlow R || not known) ((5, otherStart R at) ∷ (6, tooLong R piece) ∷ []) v in
-    let b = passes 4 (otherStart R at) ((6, tooLong R piece) ∷ []) (a .1) in
-    let c = passes 5 (tooLong R piece) [] (b .1) in
+    let a = passes 3 (badFlow R || not known) (pieceRules (offsetOf R) at piece) v in
+    let p = piece-passes (offsetOf R) at piece (a .1) in
     let g = neither (badFlow R) (not known) (a .0) in
-    (g .0, eqb-true at (offsetOf R) (not-false (eqb at (offsetOf R)) (b .0)), ltb-false mostOffset (offsetOf R + length piece) (c .0), not-false known (g .1))
+    (g .0, p .0, p .1, not-false known (g .1))
 
 pub feed-passes : (L R : List ℕ) (at : ℕ) (piece : List ℕ) → verdict (feedRules L R at piece) ≡ 0
     → (badFlow R ≡ false) × (at ≡ offsetOf R) × (offsetOf R + length piece ≤ mostOffset) × (within (frontierOf R) (named L) ≡ true)
@@ -43,9 +41,3 @@ sizeless L R at piece n =
       | yes v ↦ verdict-then (listRules L) ((4, true) ∷ []) refl v ∙ stop 4 [] refl ∙ sym (verdict-then (listRules L) fed refl v ∙ stop 4 _ (rw (ne-eqb (length R) flowSize n)))
       | no w ↦ verdict-refused (listRules L) ((4, true) ∷ []) w ∙ sym (verdict-refused (listRules L) fed w)
     ]
-
--- a front of a piece passes 6 where the piece does, whatever is tested before and behind it
-pub cut-passes : (early rest : List Rule) (R piece : List ℕ) (n : ℕ) → offsetOf R + length piece ≤ mostOffset → verdict (early ++ ((6, tooLong R piece) ∷ rest)) ≡ 0
-    → verdict (early ++ ((6, tooLong R (take n piece)) ∷ rest)) ≡ 0
-cut-passes early rest R piece n h v =
-    passes-changed early 5 (tooLong R piece) (tooLong R (take n piece)) rest v (le-ltb mostOffset (offsetOf R + length (take n piece)) (omega (arith, length-take-most n piece)))

@@ -9,9 +9,10 @@ use lib.Seq.{take-at, drop-at, drop-drop, take-all, length-take-le}
 use lib.Dec.{eqb, ltb}
 use lib.Pow.{pow-pos}
 use borrow.Author.Tests.{eqb-true, eq-eqb, ltb-false, le-ltb, not-false}
-use Rattle.sets.specs.Set.{states, setSize, num, digits, setBytes, setAt, placed}
-use Rattle.sets.proofs.Placing.{placed-after, placed-all}
-use Rattle.sets.proofs.Laws.{num-digits, length-digits, digits-num, num-take-lt}
+use Rattle.numbers.specs.Number.{num, digits, placed}
+use Rattle.sets.specs.Set.{states, setSize, setBytes, setAt}
+use Rattle.numbers.proofs.Placing.{placed-after, placed-all}
+use Rattle.numbers.proofs.Laws.{num-digits, length-digits, digits-num, num-take-lt}
 use Rattle.sets.proofs.Sets.{set-at-lt}
 use Rattle.rules.proofs.Scanning.{neither}
 use Rattle.feed.specs.Engine.{mostOffset}

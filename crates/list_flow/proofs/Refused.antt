@@ -1,5 +1,5 @@
--- Rules 4 to 6 in a reader's words: what each row refuses. Assumes nothing.
-use Prim.Native.Nat.{ℕ, _+_, _*_, _<_}
+-- Rule 4 in a reader's words: what it refuses. Assumes nothing.
+use Prim.Native.Nat.{ℕ, _*_, _<_}
 use mathlib.Core.Path.{_≡_}
 use mathlib.Core.Bool.{true, _||_, not}
 use mathlib.Core.List.{List}
@@ -8,8 +8,7 @@ use lib.ListN.{length}
 use lib.Dec.{eqb, ltb}
 use Rattle.sets.specs.Set.{states}
 use Rattle.rules.proofs.Scanning.{either-words, differ-words, over-words}
-use Rattle.feed.specs.Engine.{mostOffset}
-use Rattle.list_flow.specs.Flow.{flowSize, offsetOf, reservedOf, rowsOf, wrongSize, badFlow, otherStart, tooLong}
+use Rattle.list_flow.specs.Flow.{flowSize, offsetOf, reservedOf, rowsOf, wrongSize, badFlow}
 
 module _ (R : List ℕ) where
   -- 4, at opening: the record has not the size of one
@@ -23,11 +22,3 @@ module _ (R : List ℕ) where
       either-words ((length R ≡ flowSize → ⊥) ⊎ (reservedOf R ≡ 0 → ⊥)) (states * offsetOf R < rowsOf R) (wrongSize R || not (eqb (reservedOf R) 0)) (ltb (states * offsetOf R) (rowsOf R))
       (either-words (length R ≡ flowSize → ⊥) (reservedOf R ≡ 0 → ⊥) (wrongSize R) (not (eqb (reservedOf R) 0)) wrong-size (differ-words (reservedOf R) 0))
       (over-words (states * offsetOf R) (rowsOf R))
-
-  -- 5: the stated start is not the offset
-  pub other-start : (at : ℕ) → otherStart R at ≡ true ↔ (at ≡ offsetOf R → ⊥)
-  other-start at = differ-words at (offsetOf R)
-
-  -- 6: the whole piece ends past the largest offset
-  pub too-long : (piece : List ℕ) → tooLong R piece ≡ true ↔ (mostOffset < offsetOf R + length piece)
-  too-long piece = over-words mostOffset (offsetOf R + length piece)

@@ -4,11 +4,13 @@ use mathlib.Core.Bool.{Bool, _||_, not}
 use mathlib.Core.List.{List, [], _∷_, _++_}
 use lib.ListN.{length, take, drop}
 use lib.Dec.{ltb, eqb}
-use Rattle.sets.specs.Set.{states, setSize, num, digits, setBytes, setAt, within}
+use Rattle.numbers.specs.Number.{num, digits}
+use Rattle.sets.specs.Set.{states, setSize, setBytes, setAt, within}
 use Rattle.rules.specs.Rules.{Rule}
 use Rattle.list.specs.List.{listRules}
 use Rattle.list.specs.Automaton.{named}
-use Rattle.feed.specs.Engine.{Layout, mostOffset}
+use Rattle.feed.specs.Engine.{Layout}
+use Rattle.feed.specs.Piece.{pieceRules}
 
 -- bytes of a record
 abbrev pub flowSize : ℕ
@@ -46,17 +48,9 @@ wrongSize R = not (eqb (length R) flowSize)
 unfoldable pub badFlow : List ℕ → Bool
 badFlow R = wrongSize R || not (eqb (reservedOf R) 0) || ltb (states * offsetOf R) (rowsOf R)
 
--- 5: the piece's stated start differs from the flow's offset
-abbrev pub otherStart : List ℕ → ℕ → Bool
-otherStart R at = not (eqb at (offsetOf R))
-
--- 6: offset + piece length is over the largest offset
-abbrev pub tooLong : List ℕ → List ℕ → Bool
-tooLong R piece = ltb mostOffset (offsetOf R + length piece)
-
 -- 4 to 6, in this order; 4 is given as well where it is not `known` that every state of the frontier is one that is named
 abbrev pub flowRules : Bool → List ℕ → ℕ → List ℕ → List Rule
-flowRules known R at piece = (4, badFlow R || not known) ∷ (5, otherStart R at) ∷ (6, tooLong R piece) ∷ []
+flowRules known R at piece = (4, badFlow R || not known) ∷ pieceRules (offsetOf R) at piece
 
 -- every feed over a list: 1 to 6; 4 also where the frontier holds a state that no record of the list names
 abbrev pub feedRules : List ℕ → List ℕ → ℕ → List ℕ → List Rule

@@ -1,2 +1,3 @@
 pub mod Flow
+pub mod Opening
 pub mod inner

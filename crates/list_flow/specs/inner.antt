@@ -1,3 +1,2 @@
 pub mod Ran
-pub mod Told
 pub mod Leaves

@@ -1,5 +1,7 @@
-// The record of a list's flow, read, checked and written.
+// The record of a list's flow: opened, read, checked and written.
 use feed::Fed;
+use feed::Opened;
+use feed::Told;
 use sets::StateSet;
 ghost use mathlib.Core.Path.{_≡_};
 ghost use mathlib.Core.Bool.{true, cond};
@@ -10,20 +12,22 @@ ghost use lib.Dec.{eqb};
 ghost use Rattle.sets.specs.Set.{setOf};
 ghost use Rattle.rules.specs.Rules.{verdict};
 ghost use Rattle.list_flow.specs.Flow.{flowSize, offsetOf, reservedOf, rowsOf, flowBytes, badFlow, flowRules, feedRules};
+ghost use Rattle.list_flow.specs.Opening.{firstRules, openFlow};
+ghost use Rattle.feed.specs.Opening.{Opens};
 ghost use Rattle.list.specs.List.{listRules};
 ghost use Rattle.list.specs.Automaton.{accepted};
 ghost use Rattle.list_flow.specs.inner.Ran.{Finishes};
-ghost use Rattle.list_flow.specs.inner.Told.{TellsAll};
+ghost use Rattle.feed.specs.inner.Told.{TellsAll};
 
 // Bytes in a flow record.
 pub const FLOW_SIZE: usize = sets::BYTES + 16;
 
 // The places of the offset, the reserved bytes and the rows read in a record.
-const OFFSET_AT: usize = sets::BYTES;
+pub const OFFSET_AT: usize = sets::BYTES;
 
-const RESERVED_AT: usize = sets::BYTES + 4;
+pub const RESERVED_AT: usize = sets::BYTES + 4;
 
-const ROWS_AT: usize = sets::BYTES + 8;
+pub const ROWS_AT: usize = sets::BYTES + 8;
 
 // The most rows that a byte reads.
 const MOST_ROWS: u64 = sets::STATES as u64;
@@ -37,31 +41,25 @@ pub struct Ran {
     pub rows: u64,
 }
 
-// What telling a byte's pairs leaves: whether they all fit, and how many words are written.
-pub struct Told {
-    pub fits: bool,
-    pub words: usize,
-}
-
 // The offset of a record.
-fn offset_of(flow: &[u8]) -> u64
+pub fn offset_of(flow: &[u8]) -> u64
     ensures { λ r. ⌜ r ≡ offsetOf (now (flow .entry)) ⌝ }
 {
-    sets::number_at(flow, OFFSET_AT, 4)
+    numbers::number_at(flow, OFFSET_AT, 4)
 }
 
 // The reserved bytes of a record, as a number.
 fn reserved_of(flow: &[u8]) -> u64
     ensures { λ r. ⌜ r ≡ reservedOf (now (flow .entry)) ⌝ }
 {
-    sets::number_at(flow, RESERVED_AT, 4)
+    numbers::number_at(flow, RESERVED_AT, 4)
 }
 
 // The rows read of a record.
 fn rows_of(flow: &[u8]) -> u64
     ensures { λ r. ⌜ r ≡ rowsOf (now (flow .entry)) ⌝ }
 {
-    sets::number_at(flow, ROWS_AT, 8)
+    numbers::number_at(flow, ROWS_AT, 8)
 }
 
 // Says whether rule 4 refuses the record.
@@ -82,14 +80,7 @@ pub fn flow_refusal(known: bool, flow: &[u8], start: u64, piece: &[u8]) -> u32
     if bad_flow(flow) | !known {
         return rules::FLOW_RECORD;
     }
-    let offset = offset_of(flow);
-    if start != offset {
-        return rules::OTHER_START;
-    }
-    if piece.len() as u64 > feed::MOST_OFFSET - offset {
-        return rules::TOO_LONG;
-    }
-    rules::PASSED
+    feed::piece_refusal(offset_of(flow), start, piece)
 }
 
 // The check of a feed over a list whose record has not the size of one: the number of the first of the rules 1 to 4 that refuses it.
@@ -123,9 +114,9 @@ pub fn save(flow: &mut [u8], f: StateSet, offset: u64, rows: u64)
 {
     if flow.len() == FLOW_SIZE {
         f.store(flow, 0);
-        sets::put_number(flow, OFFSET_AT, 4, offset);
-        sets::put_number(flow, RESERVED_AT, 4, 0);
-        sets::put_number(flow, ROWS_AT, 8, rows);
+        numbers::put_number(flow, OFFSET_AT, 4, offset);
+        numbers::put_number(flow, RESERVED_AT, 4, 0);
+        numbers::put_number(flow, ROWS_AT, 8, rows);
     }
 }
 
@@ -134,19 +125,7 @@ pub fn tell_accepted(list: &[u8], f: StateSet, pairs: &mut [u32], words: usize, 
     requires { ⌜ words ≤ length (now pairs) ⌝ }
     ensures { λ t. ⌜ TellsAll (accepted (now (list .entry)) (setOf f)) (now (pairs .entry)) words offset t (now (pairs .exit)) ⌝ }
 {
-    let g = list::accepted(list, f);
-    let n = g.count() as usize;
-    if (pairs.len() - words) / 2 < n {
-        return Told {
-            fits: false,
-            words: words,
-        };
-    }
-    feed::tell(pairs, words, g, offset);
-    Told {
-        fits: true,
-        words: words + 2 * n,
-    }
+    feed::tell_all(pairs, words, list::accepted(list, f), offset)
 }
 
 // The end of a feed of a piece of `len` bytes: what its loop leaves is saved and answered.
@@ -158,10 +137,46 @@ pub fn finish(flow: &mut [u8], ran: Ran, len: usize) -> Fed
     let rows = rows_of(flow) + ran.rows;
     let frontier = ran.frontier;
     save(flow, frontier, offset, rows);
-    Fed {
-        refusal: ran.refusal,
-        bytes: ran.bytes,
-        pairs: ran.words / 2,
-        all: ran.bytes == len,
+    feed::ended(ran.refusal, ran.bytes, ran.words, len)
+}
+
+// The check of opening before the room: the number of the first of the rules 1 to 4 that refuses it, 0 where none does.
+fn open_refusal(list: &[u8], flow: &[u8]) -> u32
+    ensures { λ r. ⌜ r ≡ verdict (firstRules (now (list .entry)) (now (flow .entry))) ⌝ }
+{
+    let listed = list::check_list(list);
+    if listed != rules::PASSED {
+        return listed;
+    }
+    if flow.len() != FLOW_SIZE {
+        return rules::FLOW_RECORD;
+    }
+    rules::PASSED
+}
+
+// Opens a flow: its record then has the start states, offset 0 and no rows read, and the pairs of offset 0 are told. A refusal changes nothing.
+pub fn open_flow(list: &[u8], flow: &mut [u8], pairs: &mut [u32]) -> Opened
+    ensures { λ r. ⌜ Opens (openFlow (now (list .entry)) (now (flow .entry)) (now (pairs .entry))) r (now (pairs .exit)) (now (flow .exit)) ⌝ }
+{
+    let refusal = open_refusal(list, flow);
+    if refusal != rules::PASSED {
+        return Opened {
+            refusal: refusal,
+            pairs: 0,
+        };
+    }
+    let first = list::start_set(list);
+    let told = tell_accepted(list, first, pairs, 0, 0);
+    let fits = told.fits;
+    if !fits {
+        return Opened {
+            refusal: rules::NO_ROOM,
+            pairs: 0,
+        };
+    }
+    save(flow, first, 0, 0);
+    Opened {
+        refusal: rules::PASSED,
+        pairs: told.words / 2,
     }
 }

@@ -7,8 +7,9 @@ use native.Mathlib.Omega.{arith}
 use lib.ListN.{length, drop}
 use lib.Dec.{eqb}
 use borrow.Author.Tests.{eq-eqb, ne-eqb, lt-ltb, le-ltb}
-use Rattle.sets.specs.Set.{states, placed}
-use Rattle.sets.proofs.Placing.{placed-fits}
+use Rattle.numbers.specs.Number.{placed}
+use Rattle.sets.specs.Set.{states}
+use Rattle.numbers.proofs.Placing.{placed-fits}
 use Rattle.rules.specs.Rules.{verdict}
 use Rattle.rules.proofs.Rules.{verdict-refused, verdict-then, stop, last}
 use Rattle.list.specs.List.{records, listRules, listRefusal}

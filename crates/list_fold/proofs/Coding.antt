@@ -9,7 +9,8 @@ use lib.ListN.{length, getD, set, take, length-append, length-set, List·getD-ap
 use lib.Seq.{getD-append-add, getD-take, length-take-le, take-suc, getD-set-same, getD-set-other}
 use lib.Dec.{eqb}
 use borrow.Author.Tests.{eq-eqb, ne-eqb, eqb-true, eqb-false}
-use Rattle.sets.specs.Set.{states, holds, placed}
+use Rattle.numbers.specs.Number.{placed}
+use Rattle.sets.specs.Set.{states, holds}
 use Rattle.rules.specs.Scan.{some, first, stack}
 use Rattle.list.specs.List.{records, byteOf, isEdge, isStart, isAccept, from, target}
 use Rattle.list.specs.Automaton.{start, highest}
@@ -19,7 +20,7 @@ use Rattle.list_fold.specs.inner.Known.{gives, Numbered}
 use Rattle.list_fold.specs.Fold.{counted, same, chief, mark, past, agree, alike, follows, chiefs, chiefOf, leading, renumbered, newRecord, picked, foldedBy, stays, Folds}
 use Rattle.list_fold.proofs.Picks.{counted-in, counted-out, counted-mono, picked-length}
 use Rattle.list_fold.proofs.Folding.{record-long}
-use Rattle.sets.proofs.Placing.{placed-after}
+use Rattle.numbers.proofs.Placing.{placed-after}
 
 -- past the end alone the default counts
 pub getD-any : (xs : List ℕ) (i d e : ℕ) → i < length xs → getD xs i d ≡ getD xs i e

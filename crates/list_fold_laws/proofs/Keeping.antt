@@ -16,7 +16,8 @@ use Rattle.rules.proofs.Scanning.{over-words}
 use Rattle.list.specs.List.{listRules, listRefusal}
 use Rattle.list.specs.Automaton.{start, step, accepted}
 use Rattle.feed.specs.Engine.{due, pairsAt, told}
-use Rattle.list_feed.specs.Plain.{plain, openPairs, pairsOf}
+use Rattle.list_flow.specs.Opening.{openPairs}
+use Rattle.list_feed.specs.Plain.{plain, pairsOf}
 use Rattle.laws.specs.Words.{listWords}
 use Rattle.rules.proofs.Saying.{Says, says-append, tells}
 use Rattle.laws.proofs.Saying.{list-says}

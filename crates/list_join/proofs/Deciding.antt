@@ -1,16 +1,16 @@
 -- What the code knows before it writes, and while it writes. Assumes nothing.
 use Prim.Native.Nat.{ℕ, zero, suc, _+_, _-_, _*_, _≤_, _<_}
 use mathlib.Core.Path.{_≡_, refl, sym, ap, _∙_}
-use mathlib.Core.Bool.{Bool, true, false, _&&_, _||_, cond, not}
+use mathlib.Core.Bool.{Bool, true, false, _&&_, _||_, not}
 use mathlib.Core.List.{List, [], _∷_, _++_}
 use mathlib.Core.Logic.{_⊎_}
 use native.Mathlib.Omega.{arith}
 use lib.ListN.{length, take, drop, length-append}
 use lib.Seq.{take-all, length-take-le}
 use lib.Dec.{eqb, ltb, leb}
-use borrow.Author.Tests.{eq-eqb, ne-eqb, ltb-true, ltb-false, eqb-true, not-false, le-leb, lt-leb, le-ltb}
-use Rattle.sets.specs.Set.{placed}
-use Rattle.sets.proofs.Placing.{placed-fits, placed-after}
+use borrow.Author.Tests.{eq-eqb, ne-eqb, ltb-true, ltb-false, eqb-true, not-false, le-leb, lt-leb}
+use Rattle.numbers.specs.Number.{placed}
+use Rattle.numbers.proofs.Placing.{placed-fits, placed-after}
 use Rattle.rules.specs.Scan.{every, stack}
 use Rattle.rules.proofs.Scanning.{neither, choose}
 use Rattle.rules.specs.Rules.{verdict}
@@ -186,9 +186,3 @@ module _ (A : List ℕ) (used lent : ℕ) (B : List ℕ) (a : listRefusal A ≡ 
       code-as : (ltb lent used || l || not f)
           ≡ (ltb lent used || (ltb lent (length A + 8 * kept (naming A B) B (records B)) || ltb mostRecords (records A + kept (naming A B) B (records B))) || not (every (records B) (fits (naming A B) B)))
       code-as = rw (u, v, e)
-
--- where k records have room, fewer have
-pub less-room : (A : List ℕ) (lent k j : ℕ) → j ≤ k → overfull A lent k ≡ false → overfull A lent j ≡ false
-less-room A lent k j h e =
-    let t = neither (ltb lent (length A + 8 * k)) (ltb mostRecords (records A + k)) e in
-    rw (le-ltb lent (length A + 8 * j) (omega (arith, ltb-false lent (length A + 8 * k) (t .0))), le-ltb mostRecords (records A + j) (omega (arith, ltb-false mostRecords (records A + k) (t .1))))

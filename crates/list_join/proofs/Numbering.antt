@@ -11,21 +11,21 @@ use lib.ListN.{length, getD, set}
 use lib.Seq.{getD-set-same, getD-set-other}
 use lib.Dec.{ltb, leb}
 use borrow.Author.Tests.{eqb-true, lt-ltb, le-ltb, ltb-true, ltb-false, leb-true, leb-false}
-use Rattle.sets.specs.Set.{states, setOf}
+use Rattle.sets.specs.Set.{states}
 use Rattle.rules.specs.Scan.{every}
-use Rattle.rules.proofs.Scanning.{both, choose, below-suc, or-true, and-false, every-all, every-fails}
+use Rattle.rules.proofs.Scanning.{both, neither, choose, below-suc, or-true, and-false, every-all, every-fails}
 use Rattle.list.specs.List.{records, byteOf, isEdge, isStart, isAccept, from, target, goodRecord, listRefusal}
 use Rattle.list.specs.Automaton.{namesFrom, namesTarget, named, highest}
 use Rattle.list.proofs.Listed.{not-so, kinds, good-start, start-good, from-bytes}
 use Rattle.list.proofs.Steps.{good-at, accept-states}
 use Rattle.list.proofs.Named.{Names, named-exactly}
 use Rattle.list.proofs.Highest.{names-low, highest-state}
-use Rattle.list_join.specs.inner.Found.{loopBoth, onceBoth, fits, Marked, Ends, Outlines, Fitted, Narrow}
-use Rattle.list_join.specs.Join.{lowest, everAt, onceAt, nameBy, naming, renamed, newFrom, newTarget, spare}
+use Rattle.list_join.specs.inner.Found.{loopBoth, onceBoth, fits, Marked, ever, once, Ends, Outlines, Fitted, Narrow}
+use Rattle.list_join.specs.Join.{everAt, onceAt, nameBy, naming, renamed, newFrom, newTarget, spare}
 use Rattle.list_join.specs.declared.Naming.{Naming}
 use Rattle.list_join.specs.declared.Outline.{Outline}
 use Rattle.list_join.proofs.Renames.{Way, alone, shared, under, above, way, spare-is}
-use Rattle.list_join.proofs.Marking.{mark-in, mark-out}
+use Rattle.list_join.proofs.Marking.{mark-in, mark-out, ever-as, once-as}
 use Rattle.list_join.proofs.Staying.{shares}
 
 -- ---- the table of new numbers
@@ -146,7 +146,7 @@ module _ (n : Naming) (top : ℕ) (v : Narrow n top) (w : List ℕ) (z : getD w 
         found zero e h = absurd (omega (arith, e, h, v .next))
         found (suc t) e h =
             let l : t < n .own = omega (arith, e, x .most) in
-            (t, omega (arith, l, v .own a), x .last t e, λ _ q. absurd (omega (arith, q, l)), high t l (omega (arith, e, h)) (renamed n t) (way n t))
+            (t, omega (arith, l, v .own), x .last t e, λ _ q. absurd (omega (arith, q, l)), high t l (omega (arith, e, h)) (renamed n t) (way n t))
 
 -- ---- so each record fits, or some record does not
 
@@ -224,9 +224,15 @@ module _ (n : Naming) (B : List ℕ) (b : listRefusal B ≡ 0) (w : List ℕ) (m
 
 module _ (A B : List ℕ) (a : listRefusal A ≡ 0) (b : listRefusal B ≡ 0) where
   pub named-as : (x y : Outline) → Outlines A x → Outlines B y
-      → nameBy (suc (x .top)) (lowest (setOf (x .starts)) (setOf (x .staying)) true) (lowest (setOf (y .starts)) (setOf (y .staying)) true)
-      (lowest (setOf (x .starts)) (setOf (x .reached)) false) (lowest (setOf (y .starts)) (setOf (y .reached)) false) ≡ naming A B
-  named-as x y p q = rw (p .top a, p .starts a, p .staying a, p .reached a, q .starts b, q .staying b, q .reached b)
+      → nameBy (suc (x .top)) (ever (x .marks) (x .staying)) (ever (y .marks) (y .staying)) (once (x .marks)) (once (y .marks)) ≡ naming A B
+  named-as x y p q = rw (p .top a, ever-as A _ _ _ (p .seen a), once-as A _ _ _ (p .seen a), ever-as B _ _ _ (q .seen b), once-as B _ _ _ (q .seen b))
+
+  own-low : naming A B .own ≤ highest B
+  own-low = go (naming A B .shared) refl
+    where
+      go : (t : Bool) → naming A B .shared ≡ t → naming A B .own ≤ highest B
+      go true e = shares A B e .lowish-B
+      go false e = let t = neither (loopBoth A B) (onceBoth A B) e in rw (t .0, t .1) (omega arith)
 
   same-state : naming A B .same < states
   same-state = go (loopBoth A B) refl (onceBoth A B) refl
@@ -242,6 +248,6 @@ module _ (A B : List ℕ) (a : listRefusal A ≡ 0) (b : listRefusal B ≡ 0) wh
         next = omega (arith, highest-state A a);
         same = same-state;
         low = λ e. omega (arith, shares A B e .lowish);
-        own = λ e. shares A B e .lowish-B;
+        own = own-low;
         below = highest-state B b;
       }

@@ -1,16 +1,18 @@
 // Two signature lists joined into one: the second's states are renamed, and its records come behind the first's. Where both have a state that every
 // frontier holds, or one that the start set alone holds, the two become one. One walk over each list checks it and finds all that the naming needs;
 // then what the second adds is measured, and only then is anything written, by a table of the new numbers.
-use sets::StateSet;
 ghost use mathlib.Core.Path.{_≡_};
-ghost use mathlib.Core.Bool.{true, false, _&&_, not, cond};
+ghost use mathlib.Core.Bool.{true, false, _&&_, cond};
+ghost use lib.Dec.{eqb};
 ghost use Prim.Native.Nat.{ℕ, suc, _+_, _*_, _<_, _≤_};
-ghost use lib.ListN.{length, getD, set};
-ghost use Rattle.sets.specs.Set.{states, setOf, num, holds, insert, placed};
-ghost use Rattle.list.specs.List.{mostRecords, records, isStart, target, goodRecord, listRefusal};
+ghost use lib.ListN.{length, take, drop, getD, set};
+ghost use Rattle.numbers.specs.Number.{num, placed};
+ghost use Rattle.sets.specs.Set.{states, holds};
+ghost use Rattle.rules.specs.Scan.{some};
+ghost use Rattle.list.specs.List.{mostRecords, records, isEdge, isStart, low, high, from, target, goodRecord, listRefusal};
 ghost use Rattle.list.specs.Automaton.{highest};
-ghost use Rattle.list_join.specs.inner.Found.{overfull, moves, marksWith, Ends, Outlines, Fitted, Narrow, Numbers, Plans};
-ghost use Rattle.list_join.specs.Join.{stays, lowest, nameBy, renamed, spare, adds, added, kept};
+ghost use Rattle.list_join.specs.inner.Found.{overfull, spareBy, flag, bump, ever, once, Ends, Seen, Outlines, Fitted, Narrow, Numbers, Plans};
+ghost use Rattle.list_join.specs.Join.{nameBy, renamed, spare, adds, added, kept};
 ghost use Rattle.list_join.specs.Join.{Joins};
 
 // How the states of the second list are named in the joined one: `next` is the first number that is free; where a state is shared, the second list's
@@ -22,15 +24,15 @@ pub struct Naming {
     pub same: usize,
 }
 
-// What one walk over a list finds: a refusal's number or 0, and then the highest state that it names, a byte for each state that is not 0 where it is
-// named, the states that start, those with a loop that every byte takes, and those that an edge leads to.
+// What one walk over a list finds: a refusal's number or 0, and then the highest state that it names, a mark for each state that is not 0 where it is
+// named, with a bit where it starts and one where an edge leads to it, the states with a loop that every byte takes, and for each state how many records
+// are spare where it is the shared one.
 pub struct Outline {
     pub refusal: u32,
     pub top: usize,
-    pub named: [u8; 1024],
-    pub starts: StateSet,
-    pub staying: StateSet,
-    pub reached: StateSet,
+    pub marks: [u8; 1024],
+    pub staying: [u8; 1024],
+    pub spares: [u16; 1024],
 }
 
 // What is decided before anything is written: a refusal's number or 0, and then the naming, and the highest state of the second list.
@@ -46,20 +48,25 @@ pub struct Joined {
     pub length: usize,
 }
 
+// The bits of a mark: an edge or an accept names the state that it leaves, a start its state, an edge the state that it leads to.
+const LEFT: u8 = 1;
+
+const STARTS: u8 = 2;
+
+const REACHED: u8 = 4;
+
+// Bytes 0 to 3 of a good start record as one number.
+const START_HEAD: u64 = 2;
+
 // Bytes 1 and 2 of a record that every byte takes, as one number: 0 and 255.
 const EVERY_BYTE: u64 = 65280;
 
-// Says whether record i is a loop that every byte takes.
-fn stays(list: &[u8], i: usize) -> bool
-    requires { ⌜ i < records (now list) ⌝ }
-    ensures { λ r. ⌜ r ≡ stays (now (list .entry)) i ⌝ }
+// Puts the bits of k into the mark of state s.
+fn put_flag(marks: &mut [u8], s: usize, k: u8)
+    requires { ⌜ s < length (now marks) ⌝ }
+    ensures { λ _. ⌜ now (marks .exit) ≡ flag (now (marks .entry)) s k ⌝ }
 {
-    if list::is_edge(list, i) {
-        (sets::whole_number(list, list::RECORD_SIZE * i + 1, 2) == EVERY_BYTE)
-            & (list::from(list, i) == list::target(list, i))
-    } else {
-        false
-    }
+    marks[s] = marks[s] | k;
 }
 
 // Makes byte s of the marks 1, where a test holds.
@@ -72,37 +79,120 @@ fn put_mark(marks: &mut [u8], s: usize, test: bool)
     }
 }
 
-// Marks the states that a good record i names, and takes it into the words of three sets: of states that start, that stay, and that other edges lead to.
-fn note(
-    list: &[u8],
-    i: usize,
-    named: &mut [u8],
-    starts: &mut [u64],
-    staying: &mut [u64],
-    reached: &mut [u64],
-)
-    requires { ⌜ (i < records (now list)) × (goodRecord (now list) i ≡ true) × (length (now named) ≡ states) ⌝ }
-    ensures { λ _. ⌜ (now (named .exit) ≡ marksWith (now (list .entry)) i (now (named .entry)))
-        × (num 64 (now (starts .exit)) ≡ cond (isStart (now (list .entry)) i) (insert (64 * length (now (starts .entry))) (num 64 (now (starts .entry))) (target (now (list .entry)) i)) (num 64 (now (starts .entry))))
-        × (num 64 (now (staying .exit)) ≡ cond (stays (now (list .entry)) i) (insert (64 * length (now (staying .entry))) (num 64 (now (staying .entry))) (target (now (list .entry)) i)) (num 64 (now (staying .entry))))
-        × (num 64 (now (reached .exit)) ≡ cond (moves (now (list .entry)) i) (insert (64 * length (now (reached .entry))) (num 64 (now (reached .entry))) (target (now (list .entry)) i)) (num 64 (now (reached .entry)))) ⌝ }
+// Counts one record more that is spare where s is the shared state.
+fn put_spare(spares: &mut [u16], s: usize)
+    requires { ⌜ (s < length (now spares)) × (getD (now spares) s 0 < 65535) ⌝ }
+    ensures { λ _. ⌜ now (spares .exit) ≡ bump (now (spares .entry)) s ⌝ }
 {
-    let linked = list::is_edge(list, i);
-    let starting = list::is_start(list, i);
-    put_mark(
-        named,
-        list::from(list, i),
-        linked | list::is_accept(list, i),
-    );
-    put_mark(named, list::target(list, i), linked | starting);
-    list::put_word(list, i, list::TARGET, starting, starts);
-    let full = stays(list, i);
-    list::put_word(list, i, list::TARGET, full, staying);
-    list::put_word(list, i, list::TARGET, linked & !full, reached);
+    spares[s] = spares[s] + 1;
 }
 
-// One past the highest place below m whose mark is not 0; 0 where there is none.
-fn end_below(marks: &[u8], m: usize) -> usize
+// Says whether every byte is in the range of record i.
+fn full(list: &[u8], i: usize) -> bool
+    requires { ⌜ i < records (now list) ⌝ }
+    ensures { λ r. ⌜ r ≡ (eqb (low (now (list .entry)) i) 0 && eqb (high (now (list .entry)) i) 255) ⌝ }
+{
+    numbers::whole_number(list, list::RECORD_SIZE * i + 1, 2) == EVERY_BYTE
+}
+
+// Takes in a good edge that leads from a state to itself.
+fn note_loop(list: &[u8], i: usize, marks: &mut [u8], staying: &mut [u8], spares: &mut [u16])
+    requires { ⌜ (i < records (now list)) × (i < mostRecords) × (isEdge (now list) i ≡ true) × (target (now list) i < states) × (from (now list) i ≡ target (now list) i)
+        × Seen (now list) i (now marks) (now staying) (now spares) ⌝ }
+    ensures { λ _. ⌜ Seen (now (list .entry)) (suc i) (now (marks .exit)) (now (staying .exit)) (now (spares .exit)) ⌝ }
+{
+    let t = list::target(list, i);
+    put_spare(spares, t);
+    put_flag(marks, t, REACHED);
+    put_mark(staying, t, full(list, i));
+}
+
+// Takes in record i, which is an edge, where it is good; says whether it is.
+fn note_edge(
+    list: &[u8],
+    i: usize,
+    marks: &mut [u8],
+    staying: &mut [u8],
+    spares: &mut [u16],
+) -> bool
+    requires { ⌜ (i < records (now list)) × (i < mostRecords) × (isEdge (now list) i ≡ true) × Seen (now list) i (now marks) (now staying) (now spares) ⌝ }
+    ensures { λ r. ⌜ (r ≡ goodRecord (now (list .entry)) i)
+        × (r ≡ true → Seen (now (list .entry)) (suc i) (now (marks .exit)) (now (staying .exit)) (now (spares .exit))) ⌝ }
+{
+    let f = list::from(list, i);
+    let t = list::target(list, i);
+    let good = (list::byte_of(list, i, 1) <= list::byte_of(list, i, 2))
+        & (list::byte_of(list, i, 3) <= 1)
+        & (f < sets::STATES)
+        & (t < sets::STATES);
+    if !good {
+        return false;
+    }
+    if f == t {
+        note_loop(list, i, marks, staying, spares);
+        return true;
+    }
+    put_flag(marks, f, LEFT);
+    put_flag(marks, t, REACHED);
+    true
+}
+
+// Bytes 0 to 3 of record i as one number.
+fn head(list: &[u8], i: usize) -> u64
+    requires { ⌜ i < records (now list) ⌝ }
+    ensures { λ r. ⌜ r ≡ num 8 (take 4 (drop (8 * i) (now (list .entry)))) ⌝ }
+{
+    numbers::whole_number(list, list::RECORD_SIZE * i, 4)
+}
+
+// Takes in record i, which is a start, where it is good; says whether it is.
+fn note_start(list: &[u8], i: usize, marks: &mut [u8], spares: &mut [u16]) -> bool
+    requires { ⌜ (i < records (now list)) × (isStart (now list) i ≡ true) × (length (now marks) ≡ states) × (length (now spares) ≡ states)
+        × ((s : ℕ) → s < states → getD (now spares) s 0 < 65535) ⌝ }
+    ensures { λ r. ⌜ (r ≡ goodRecord (now (list .entry)) i)
+        × (r ≡ true → (target (now (list .entry)) i < states) × (now (marks .exit) ≡ flag (now (marks .entry)) (target (now (list .entry)) i) 2)
+        × (now (spares .exit) ≡ bump (now (spares .entry)) (target (now (list .entry)) i))) ⌝ }
+{
+    let t = list::target(list, i);
+    let good = (head(list, i) == START_HEAD) & (list::from(list, i) == 0) & (t < sets::STATES);
+    if !good {
+        return false;
+    }
+    put_flag(marks, t, STARTS);
+    put_spare(spares, t);
+    true
+}
+
+// Takes in record i, which is neither, where it is good; says whether it is.
+fn note_accept(list: &[u8], i: usize, marks: &mut [u8]) -> bool
+    requires { ⌜ (i < records (now list)) × (isEdge (now list) i ≡ false) × (isStart (now list) i ≡ false) × (length (now marks) ≡ states) ⌝ }
+    ensures { λ r. ⌜ (r ≡ goodRecord (now (list .entry)) i)
+        × (r ≡ true → (from (now (list .entry)) i < states) × (now (marks .exit) ≡ flag (now (marks .entry)) (from (now (list .entry)) i) 1)) ⌝ }
+{
+    if !list::good_record(list, i) {
+        return false;
+    }
+    put_flag(marks, list::from(list, i), LEFT);
+    true
+}
+
+// Takes in record i, where it is good; says whether it is. The test for a start comes first: so the compiler tests for an edge first.
+fn note(list: &[u8], i: usize, marks: &mut [u8], staying: &mut [u8], spares: &mut [u16]) -> bool
+    requires { ⌜ (i < records (now list)) × (i < mostRecords) × Seen (now list) i (now marks) (now staying) (now spares) ⌝ }
+    ensures { λ r. ⌜ (r ≡ goodRecord (now (list .entry)) i)
+        × (r ≡ true → Seen (now (list .entry)) (suc i) (now (marks .exit)) (now (staying .exit)) (now (spares .exit))) ⌝ }
+{
+    if list::is_start(list, i) {
+        return note_start(list, i, marks, spares);
+    }
+    if list::is_edge(list, i) {
+        return note_edge(list, i, marks, staying, spares);
+    }
+    note_accept(list, i, marks)
+}
+
+// One past the highest place below m whose mark is not 0; 0 where there is none. It goes down one by one.
+fn end_near(marks: &[u8], m: usize) -> usize
     requires { ⌜ m ≤ length (now marks) ⌝ }
     ensures { λ r. ⌜ Ends (now (marks .entry)) m r ⌝ }
 {
@@ -116,18 +206,43 @@ fn end_below(marks: &[u8], m: usize) -> usize
     s
 }
 
+// The same, eight marks at a time as long as they are all 0.
+fn end_below(marks: &[u8], m: usize) -> usize
+    requires { ⌜ m ≤ length (now marks) ⌝ }
+    ensures { λ r. ⌜ Ends (now (marks .entry)) m r ⌝ }
+{
+    let mut s = m;
+    while 8 <= s {
+        if numbers::whole_number(marks, s - 8, 8) != 0 {
+            return end_near(marks, s);
+        }
+        s = s - 8;
+    }
+    end_near(marks, s)
+}
+
+// Says whether some mark has the bit of a start. All of them are laid over one another, which the compiler does many at a time.
+fn some_start(marks: &[u8]) -> bool
+    requires { ⌜ length (now marks) ≡ states ⌝ }
+    ensures { λ r. ⌜ r ≡ some states (λ s. holds (getD (now (marks .entry)) s 0) 1) ⌝ }
+{
+    let mut all = 0u8;
+    for s in 0..sets::STATES {
+        all = all | marks[s];
+    }
+    all / 2 % 2 == 1
+}
+
 // The outline of a list that is refused.
 fn refused(refusal: u32) -> Outline
     ensures { λ r. ⌜ r .refusal ≡ refusal ⌝ }
 {
-    let none = StateSet::EMPTY;
     Outline {
         refusal: refusal,
         top: 0,
-        named: [0u8; 1024],
-        starts: none,
-        staying: none,
-        reached: none,
+        marks: [0u8; 1024],
+        staying: [0u8; 1024],
+        spares: [0u16; 1024],
     }
 }
 
@@ -139,66 +254,51 @@ fn find_outline(list: &[u8]) -> Outline
         return refused(1);
     }
     let n = list::records(list);
-    let none = StateSet::EMPTY;
-    let mut starts = none.words;
-    let mut staying = none.words;
-    let mut reached = none.words;
-    let mut named = [0u8; 1024];
-    let mut started = false;
+    let mut marks = [0u8; 1024];
+    let mut staying = [0u8; 1024];
+    let mut spares = [0u16; 1024];
     for i in 0..n {
-        if !list::good_record(list, i) {
+        if !note(list, i, &mut marks, &mut staying, &mut spares) {
             return refused(2);
         }
-        started = started | list::is_start(list, i);
-        note(list, i, &mut named, &mut starts, &mut staying, &mut reached);
     }
-    if !started {
+    if !some_start(&marks) {
         return refused(3);
     }
-    let end = end_below(&named, sets::STATES);
-    let stay = StateSet::of_words(staying);
-    let lead = StateSet::of_words(reached);
+    let end = end_below(&marks, sets::STATES);
     Outline {
         refusal: rules::PASSED,
         top: end - 1,
-        named: named,
-        starts: StateSet::of_words(starts),
-        staying: stay,
-        reached: lead.union(stay),
+        marks: marks,
+        staying: staying,
+        spares: spares,
     }
 }
 
-// A word of ones.
-const ALL: u64 = 18446744073709551615;
-
-// The bits of a word that another has, or that it has not, as is asked.
-fn agree(x: u64, y: u64, inside: bool) -> u64
-    ensures { λ r. ⌜ ((s : ℕ) → s < 64 → holds r s ≡ (holds x s && cond inside (holds y s) (not (holds y s)))) ⌝ }
+// The lowest state that starts and stays, by the marks; the number of states where there is none.
+fn ever_at<'a>(marks: &'a [u8], staying: &'a [u8]) -> usize
+    requires { ⌜ (length (now marks) ≡ states) × (length (now staying) ≡ states) ⌝ }
+    ensures { λ r. ⌜ r ≡ ever (now (marks .entry)) (now (staying .entry)) ⌝ }
 {
-    if inside {
-        return x & y;
+    for s in 0..sets::STATES {
+        if (marks[s] / 2 % 2 == 1) & (staying[s] != 0) {
+            return s;
+        }
     }
-    x & (y ^ ALL)
+    sets::STATES
 }
 
-// The states of the first set that are in the second, or that are not, as is asked.
-fn agreeing(x: StateSet, y: StateSet, inside: bool) -> StateSet
-    ensures { λ r. ⌜ ((s : ℕ) → s < states → holds (setOf r) s ≡ (holds (setOf x) s && cond inside (holds (setOf y) s) (not (holds (setOf y) s)))) ⌝ }
+// The lowest state that starts and that no edge leads to, by the marks; the number of states where there is none.
+fn once_at(marks: &[u8]) -> usize
+    requires { ⌜ length (now marks) ≡ states ⌝ }
+    ensures { λ r. ⌜ r ≡ once (now (marks .entry)) ⌝ }
 {
-    let a = x.words;
-    let b = y.words;
-    let mut w = a;
-    for i in 0..sets::WORDS {
-        w[i] = agree(a[i], b[i], inside);
+    for s in 0..sets::STATES {
+        if (marks[s] / 2 % 2 == 1) & (marks[s] / 4 % 2 != 1) {
+            return s;
+        }
     }
-    StateSet::of_words(w)
-}
-
-// The lowest state of the first set that is in the second, or that is not, as is asked; the number of states where there is none.
-fn lowest(x: StateSet, y: StateSet, inside: bool) -> usize
-    ensures { λ r. ⌜ r ≡ lowest (setOf x) (setOf y) inside ⌝ }
-{
-    sets_words::next_state(agreeing(x, y, inside), 0, sets::STATES)
+    sets::STATES
 }
 
 // The naming, by the first new number, two states that are always there and two that are there once.
@@ -229,18 +329,19 @@ fn name_by(next: usize, i: usize, j: usize, k: usize, l: usize) -> Naming
     }
 }
 
-// How the states of the second list are named, by what the walks over both found.
+// How the states of the second list are named, by what the walks over both found. States that are there once are sought where two that are always there
+// are not.
 fn name_states(a: Outline, b: Outline) -> Naming
     requires { ⌜ a .top < states ⌝ }
-    ensures { λ r. ⌜ r ≡ nameBy (suc (a .top)) (lowest (setOf (a .starts)) (setOf (a .staying)) true) (lowest (setOf (b .starts)) (setOf (b .staying)) true)
-        (lowest (setOf (a .starts)) (setOf (a .reached)) false) (lowest (setOf (b .starts)) (setOf (b .reached)) false) ⌝ }
+    ensures { λ r. ⌜ r ≡ nameBy (suc (a .top)) (ever (a .marks) (a .staying)) (ever (b .marks) (b .staying)) (once (a .marks)) (once (b .marks)) ⌝ }
 {
-    let x = a.starts;
-    let y = b.starts;
-    let i = lowest(x, a.staying, true);
-    let j = lowest(y, b.staying, true);
-    let k = lowest(x, a.reached, false);
-    let l = lowest(y, b.reached, false);
+    let i = ever_at(&a.marks, &a.staying);
+    let j = ever_at(&b.marks, &b.staying);
+    if (i < sets::STATES) & (j < sets::STATES) {
+        return name_by(a.top + 1, i, j, i, j);
+    }
+    let k = once_at(&a.marks);
+    let l = once_at(&b.marks);
     name_by(a.top + 1, i, j, k, l)
 }
 
@@ -261,16 +362,26 @@ fn rename(n: Naming, t: usize) -> usize
     n.next + t
 }
 
-// Says whether the first list has all that record i says.
+// Bytes 4 to 7 of record i as one number: its first number, and 65,536 times its second.
+fn tail(list: &[u8], i: usize) -> u64
+    requires { ⌜ i < records (now list) ⌝ }
+    ensures { λ r. ⌜ r ≡ num 8 (take 4 (drop (8 * i + 4) (now (list .entry)))) ⌝ }
+{
+    numbers::whole_number(list, list::RECORD_SIZE * i + 4, 4)
+}
+
+// That number where both are 1.
+const TWICE: u64 = 65537;
+
+// Says whether the first list has all that record i says. Bytes 4 to 7 are read at once: an edge is spare where they have the shared state twice.
 fn spare(n: Naming, b: &[u8], i: usize) -> bool
-    requires { ⌜ i < records (now b) ⌝ }
+    requires { ⌜ (i < records (now b)) × (n .own < states) ⌝ }
     ensures { λ r. ⌜ r ≡ spare n (now (b .entry)) i ⌝ }
 {
-    if list::target(b, i) == n.own {
-        n.shared & (list::is_start(b, i) | list::is_edge(b, i) & (list::from(b, i) == n.own))
-    } else {
-        false
+    if list::is_edge(b, i) {
+        return n.shared & (tail(b, i) == TWICE * n.own as u64);
     }
+    n.shared & list::is_start(b, i) & (list::target(b, i) == n.own)
 }
 
 // Says whether k records more behind a pass the lent list, or are more than a list may have.
@@ -281,53 +392,18 @@ fn overfull(a: &[u8], lent: usize, k: usize) -> bool
     (lent < a.len() + list::RECORD_SIZE * k) | (list::MOST_RECORDS < list::records(a) + k)
 }
 
-// The next record from i on that leads to the shared state, four looked at in a turn; it may stop at one that does not, but passes none that is spare.
-fn next_spare(n: Naming, b: &[u8], from: usize) -> usize
-    requires { ⌜ (listRefusal (now b) ≡ 0) × (from ≤ records (now b)) ⌝ }
-    ensures { λ r. ⌜ (from ≤ r) × (r ≤ records (now (b .entry))) × (kept n (now (b .entry)) r + from ≡ kept n (now (b .entry)) from + r) ⌝ }
-{
-    let m = list::records(b);
-    let mut i = from;
-    while i + 3 < m {
-        if list::target(b, i) == n.own {
-            return i;
-        }
-        if list::target(b, i + 1) == n.own {
-            return i + 1;
-        }
-        if list::target(b, i + 2) == n.own {
-            return i + 2;
-        }
-        if list::target(b, i + 3) == n.own {
-            return i + 3;
-        }
-        i = i + 4;
-    }
-    i
-}
-
-// Says whether what b adds behind a passes the lent list, or makes more records than a list may have. Of all of b's records the spare ones are taken off
-// until the others have room, so that where all of b has room nothing is read.
-fn too_long(a: &[u8], lent: usize, n: Naming, b: &[u8]) -> bool
-    requires { ⌜ (listRefusal (now a) ≡ 0) × (listRefusal (now b) ≡ 0) ⌝ }
+// Says whether what b adds behind a passes the lent list, or makes more records than a list may have: all of b's records but those that are spare.
+fn too_long(a: &[u8], lent: usize, n: Naming, b: &[u8], spares: &[u16]) -> bool
+    requires { ⌜ (listRefusal (now a) ≡ 0) × (listRefusal (now b) ≡ 0) × (n .shared ≡ true → n .own < states) × (length (now spares) ≡ states)
+        × ((s : ℕ) → s < states → getD (now spares) s 0 ≡ spareBy (now b) s (records (now b))) ⌝ }
     ensures { λ r. ⌜ r ≡ overfull (now (a .entry)) lent (kept n (now (b .entry)) (records (now (b .entry)))) ⌝ }
 {
     let m = list::records(b);
-    if !overfull(a, lent, m) {
-        return false;
+    if n.shared {
+        let own = n.own;
+        return overfull(a, lent, m - wide(spares[own]));
     }
-    let mut left = m;
-    let mut i = next_spare(n, b, 0);
-    while i < m {
-        if spare(n, b, i) {
-            left = left - 1;
-            if !overfull(a, lent, left) {
-                return false;
-            }
-        }
-        i = next_spare(n, b, i + 1);
-    }
-    true
+    overfull(a, lent, m)
 }
 
 // Says whether each state that is marked gets the number of a state. The shared one does; so the highest of the others decides.
@@ -365,7 +441,7 @@ fn wide(x: u16) -> usize
 
 // Writes what record i adds at a place; answers the place behind it.
 fn add_record(list: &mut [u8], at: usize, n: Naming, new: &[u16], b: &[u8], i: usize) -> usize
-    requires { ⌜ Numbers n (highest (now b)) (now new) × (i < records (now b)) × (goodRecord (now b) i ≡ true) × (at + length (adds n (now b) i) ≤ length (now list)) ⌝ }
+    requires { ⌜ Numbers n (highest (now b)) (now new) × (i < records (now b)) × (goodRecord (now b) i ≡ true) × (at + length (adds n (now b) i) ≤ length (now list)) × (n .own < states) ⌝ }
     ensures { λ r. ⌜ (r ≡ at + length (adds n (now (b .entry)) i)) × (now (list .exit) ≡ placed (now (list .entry)) at (adds n (now (b .entry)) i)) ⌝ }
 {
     if spare(n, b, i) {
@@ -423,7 +499,7 @@ fn decide(a: &[u8], used: usize, lent: usize, b: &[u8]) -> Plan
         return stopped(rules::OTHER_LIST);
     }
     let n = name_states(x, y);
-    if (lent < used) | too_long(a, lent, n, b) | !all_fit(n, y.top, &y.named) {
+    if (lent < used) | too_long(a, lent, n, b, &y.spares) | !all_fit(n, y.top, &y.marks) {
         return stopped(rules::LIST_ROOM);
     }
     Plan {

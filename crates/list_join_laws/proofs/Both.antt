@@ -15,10 +15,11 @@ use Rattle.list.specs.List.{listRefusal}
 use Rattle.list.specs.Automaton.{start, accepted}
 use Rattle.feed.specs.Pairs.{Pair}
 use Rattle.feed.specs.Engine.{told}
-use Rattle.feed.specs.Calls.{Bytes}
+use Rattle.feed.specs.Calls.{Bytes, asked, allBytes}
 use Rattle.feed.proofs.Runs.{bytes-take}
-use Rattle.list_feed.specs.Plain.{plain, openPairs, openFlow, pairsOf}
-use Rattle.laws.specs.Calls.{bytesOf}
+use Rattle.list_flow.specs.Opening.{openPairs, openFlow}
+use Rattle.list_feed.specs.Plain.{plain, pairsOf}
+use Rattle.laws.specs.Calls.{wayOf}
 use Rattle.laws.proofs.Engines.{calls-bytes}
 use Rattle.laws.proofs.Due.{due-all, due-said}
 use Rattle.laws.proofs.Swapping.{swapped}
@@ -101,5 +102,5 @@ pub signs-flows : SignsFlow
 unfolding openPairs
 signs-flows L P s R out z cs hb h =
     let d = swapped L R out z cs hb h .flows .due in
-    let eaten : Bytes (bytesOf (openFlow L R out .saved) cs) = calls-bytes (openFlow L R out .saved) cs hb in
-    record { told = λ g k. rw (d .tells) (s .pairs (bytesOf (openFlow L R out .saved) cs) eaten g k); ordered = d .ordered }
+    let eaten : Bytes (allBytes (asked wayOf) (openFlow L R out .saved) cs) = calls-bytes (openFlow L R out .saved) cs hb in
+    record { told = λ g k. rw (d .tells) (s .pairs (allBytes (asked wayOf) (openFlow L R out .saved) cs) eaten g k); ordered = d .ordered }

@@ -10,10 +10,11 @@ use Rattle.list.specs.List.{listRefusal}
 use Rattle.list.specs.Automaton.{start}
 use Rattle.feed.specs.Pairs.{Pair, Before}
 use Rattle.feed.specs.Engine.{run}
-use Rattle.feed.specs.Calls.{Bytes}
-use Rattle.list_feed.specs.Plain.{plain, openFlow, pairsOf}
+use Rattle.feed.specs.Calls.{Bytes, asked, allBytes, allTold, Pieces, Along}
+use Rattle.list_flow.specs.Opening.{openFlow}
+use Rattle.list_feed.specs.Plain.{plain, pairsOf}
 use Rattle.feed.specs.Demands.{openTold}
-use Rattle.laws.specs.Calls.{Call, bytesOf, wordsOf, InBytes, Each}
+use Rattle.laws.specs.Calls.{Call, wayOf}
 use Rattle.laws.specs.Demands.{Swaps}
 use Rattle.list_join.specs.declared.Joined.{Joined}
 use Rattle.list_join.specs.Join.{naming, renamed, joined, front, Joins}
@@ -67,8 +68,8 @@ pub record TellsOf (P : Sense) (bs ws : List ℕ) : Type 0 where
 -- a flow opened on L and fed by any calls, cut anywhere: plain, through tables that the check accepts, by the filler's matrix or index, with refused calls between
 abbrev pub FlowsTell : List ℕ → Sense → Type 0
 FlowsTell L P =
-    (R out : List ℕ) → openFlow L R out .refusal ≡ 0 → (cs : List Call) → InBytes cs → Each (Swaps L) (openFlow L R out .saved) cs
-    → TellsOf P (bytesOf (openFlow L R out .saved) cs) (openTold (openFlow L R out) ++ wordsOf (openFlow L R out .saved) cs)
+    (R out : List ℕ) → openFlow L R out .refusal ≡ 0 → (cs : List Call) → Pieces (asked wayOf) cs → Along (asked wayOf) (Swaps L) (openFlow L R out .saved) cs
+    → TellsOf P (allBytes (asked wayOf) (openFlow L R out .saved) cs) (openTold (openFlow L R out) ++ allTold (asked wayOf) (openFlow L R out .saved) cs)
 
 -- the list of two that are joined tells what either is to tell, and a flow of any calls tells it
 abbrev pub UnionSigns : Type 1

@@ -86,6 +86,10 @@ module _ (R : List ℕ) where
 
   -- ---- the code: what it answers and leaves, where the check answers r
 
+  -- then the record has its size
+  pub renews-long : (r : ℕ) → r ≡ verdict (renewRules R) → r ≡ 0 → length R ≡ flowSize
+  renews-long r e z = good-flow R (renews-whole (said ∙ sym e ∙ z)) .0
+
   pub renewed-by : (r F : ℕ) (Q : List ℕ) → r ≡ verdict (renewRules R) → r ≡ 0 → F ≡ frontierOf R → Q ≡ cond (eqb (length R) flowSize) (flowBytes F 0 0) R → Renews R r Q
   renewed-by r F Q e z f q =
       let v : renewal R .refusal ≡ 0 = said ∙ sym e ∙ z in

@@ -1,33 +1,17 @@
 // Renewing a flow's record, so that it goes on past the largest offset: the frontier stays, offset and rows become 0. And the offset of a record of either kind.
 use sets::StateSet;
 ghost use mathlib.Core.Path.{_≡_};
-ghost use Rattle.list_flow.specs.Flow as list;
 ghost use Rattle.rules.specs.Rules.{verdict};
 ghost use Rattle.list_renew.specs.Renewal.{renewRules, Renews, offsetSaid};
 
-// The places of the offset in a list's record, and in that of an automaton with bits and counters.
-const OFFSET_AT: usize = sets::BYTES;
-
-const X_OFFSET_AT: usize = 4;
-
-// Bytes in a record of an automaton with bits and counters.
-const X_FLOW_SIZE: usize = 80;
-
 // What is answered of bytes that have the size of no record.
 const NO_OFFSET: u64 = 18446744073709551615;
-
-// The offset of a list's record.
-fn offset_of(flow: &[u8]) -> u64
-    ensures { λ r. ⌜ r ≡ list.offsetOf (now (flow .entry)) ⌝ }
-{
-    sets::number_at(flow, OFFSET_AT, 4)
-}
 
 // The check of a renewal: 4 where a feed of no bytes, of whatever list, would give it; else 0.
 fn renew_refusal(flow: &[u8]) -> u32
     ensures { λ r. ⌜ r ≡ verdict (renewRules (now (flow .entry))) ⌝ }
 {
-    list_flow::flow_refusal(true, flow, offset_of(flow), &flow[0..0])
+    list_flow::flow_refusal(true, flow, list_flow::offset_of(flow), &flow[0..0])
 }
 
 // Renews a list's record: its frontier stays, offset and rows become 0. A refusal changes nothing.
@@ -36,7 +20,7 @@ pub fn renew(flow: &mut [u8]) -> u32
 {
     let refusal = renew_refusal(flow);
     if refusal == rules::PASSED {
-        list_flow::save(flow, StateSet::load(flow, 0), 0, 0);
+        list_flow::save(flow, StateSet::from_bytes(flow, 0), 0, 0);
     }
     refusal
 }
@@ -46,10 +30,10 @@ pub fn offset(flow: &[u8]) -> u64
     ensures { λ r. ⌜ r ≡ offsetSaid (now (flow .entry)) ⌝ }
 {
     if flow.len() == list_flow::FLOW_SIZE {
-        return offset_of(flow);
+        return list_flow::offset_of(flow);
     }
-    if flow.len() == X_FLOW_SIZE {
-        return sets::number_at(flow, X_OFFSET_AT, 4);
+    if flow.len() == machine::X_FLOW_SIZE {
+        return machine::offset_of(flow);
     }
     NO_OFFSET
 }

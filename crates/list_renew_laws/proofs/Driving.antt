@@ -6,7 +6,7 @@ use native.Mathlib.Omega.{arith}
 use lib.ListN.{length, take, length-append}
 use lib.Dec.{lit<}
 use borrow.Author.Tests.{eq-eqb}
-use Rattle.feed.specs.Calls.{Bytes, recordAfter, allTold, allBytes}
+use Rattle.feed.specs.Calls.{Bytes, recordAfter, allTold, allBytes, outcome}
 use Rattle.feed.specs.Demands.{openTold}
 use Rattle.feed.specs.Fed.{Answers}
 use Rattle.feed.specs.Opening.{Opening, Opens}
@@ -14,10 +14,11 @@ use Rattle.feed.specs.declared.Fed.{Fed}
 use Rattle.feed.specs.declared.Opened.{Opened}
 use Rattle.list_flow.specs.Flow.{offsetOf}
 use Rattle.list_flow.proofs.Records.{good-flow}
-use Rattle.list_feed.specs.Plain.{openFlow, plainFeed}
+use Rattle.list_flow.specs.Opening.{openFlow}
+use Rattle.list_feed.specs.Plain.{plainFeed}
 use Rattle.list_renew.specs.Renewal.{renewal, Renews, offsetSaid}
 use Rattle.list_renew.proofs.Renewing.{renews-whole, offset-list}
-use Rattle.laws.specs.Calls.{byList, Call, outcome}
+use Rattle.laws.specs.Calls.{byList, Call, wayOf}
 use Rattle.list_renew_laws.specs.Renewed.{raised, Act, feeding, renewing, acts, begun, Renewed}
 use Rattle.list_renew_laws.specs.Drivers.{fedBytes, toldWords, RenewedKept}
 use Rattle.list_renew_laws.proofs.Renewed.{list-renews}
@@ -35,13 +36,13 @@ module _ (L R₀ out₀ piece pairs₀ rest later₀ : List ℕ) (z : openFlow L
   o = openFlow L R₀ out₀
 
   abbrev first : Call
-  first = record { list = L; via = byList; at = 0; piece = piece; out = pairs₀ }
+  first = record { by = record { list = L; via = byList }; at = 0; piece = piece; out = pairs₀ }
 
   abbrev second : Call
-  second = record { list = L; via = byList; at = 0; piece = rest; out = later₀ }
+  second = record { by = record { list = L; via = byList }; at = 0; piece = rest; out = later₀ }
 
   abbrev fedOnce : List ℕ
-  fedOnce = outcome (o .saved) first .saved
+  fedOnce = outcome wayOf (o .saved) first .saved
 
   abbrev three : List Act
   three = feeding first ∷ renewing ∷ feeding second ∷ []
@@ -56,10 +57,10 @@ module _ (L R₀ out₀ piece pairs₀ rest later₀ : List ℕ) (z : openFlow L
   renews-0 : renewal fedOnce .refusal ≡ 0
   renews-0 = all .passes .1 .0
 
-  reads-offset : offsetSaid fedOnce ≡ length (take (outcome (o .saved) first .bytes) piece)
+  reads-offset : offsetSaid fedOnce ≡ length (take (outcome wayOf (o .saved) first .bytes) piece)
   unfolding allBytes recordAfter
   reads-offset =
-      let bs = take (outcome (o .saved) first .bytes) piece in
+      let bs = take (outcome wayOf (o .saved) first .bytes) piece in
       offset-list fedOnce (good-flow fedOnce (renews-whole fedOnce renews-0) .0) ∙ omega (arith, one .offset, ap length (append-nil bs))
 
   module _ (f : Opened) (ws : List ℕ) (a : Fed) (vs S₁ : List ℕ) (before renewed : ℕ) (S₂ : List ℕ) (b : Fed) (us S₃ : List ℕ)
@@ -67,7 +68,7 @@ module _ (L R₀ out₀ piece pairs₀ rest later₀ : List ℕ) (z : openFlow L
       (e : before ≡ offsetSaid fedOnce) (B : Answers (plainFeed L (renewal fedOnce .saved) 0 rest later₀) b us S₃) where
     bytes : allBytes acts (begun o) three ≡ fedBytes piece rest a b
     unfolding allBytes
-    bytes = rw (A .bytes, B .bytes, append-nil (take (outcome (renewal fedOnce .saved) second .bytes) rest))
+    bytes = rw (A .bytes, B .bytes, append-nil (take (outcome wayOf (renewal fedOnce .saved) second .bytes) rest))
 
     words : openTold o ++ allTold acts (begun o) three ≡ toldWords (f .pairs) a before b ws vs us
     unfolding allTold
@@ -77,8 +78,8 @@ module _ (L R₀ out₀ piece pairs₀ rest later₀ : List ℕ) (z : openFlow L
         rw (
           eq-eqb (renewal fedOnce .refusal) 0 renews-0,
           ← same,
-          raised-0 (take (2 * outcome (o .saved) first .pairs) (outcome (o .saved) first .words)),
-          append-nil (raised before (take (2 * outcome (renewal fedOnce .saved) second .pairs) (outcome (renewal fedOnce .saved) second .words))),
+          raised-0 (take (2 * outcome wayOf (o .saved) first .pairs) (outcome wayOf (o .saved) first .words)),
+          append-nil (raised before (take (2 * outcome wayOf (renewal fedOnce .saved) second .pairs) (outcome wayOf (renewal fedOnce .saved) second .words))),
           p,
           pw,
           A .pairs,

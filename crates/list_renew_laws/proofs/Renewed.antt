@@ -9,19 +9,20 @@ use borrow.Author.Tests.{eq-eqb}
 use Rattle.rules.specs.Rules.{verdict}
 use Rattle.list.specs.Automaton.{start}
 use Rattle.feed.specs.Engine.{Engine, run, due, pairsAt, told}
-use Rattle.feed.specs.Calls.{Bytes, recordAfter, allTold, allBytes, Along, Pieces}
+use Rattle.feed.specs.Calls.{Bytes, recordAfter, allTold, allBytes, Along, Pieces, outcome, ruled, asked}
 use Rattle.feed.proofs.Runs.{bytes-take, run-append, told-append}
 use Rattle.feed.proofs.Lawful.{reached-start, reached-next}
 use Rattle.feed.proofs.Going.{unfed}
 use Rattle.feed.proofs.Whole.{Kind, Met, runs, run-good, call-refusal}
 use Rattle.list_flow.specs.Flow.{frontierOf, offsetOf}
 use Rattle.list_flow.proofs.Records.{frontier-flow, flow-good}
-use Rattle.list_feed.specs.Plain.{plain, opened, openFlow}
+use Rattle.list_flow.specs.Opening.{opened, openFlow}
+use Rattle.list_feed.specs.Plain.{plain}
 use Rattle.list_feed.specs.Means.{listAutomata}
 use Rattle.list_feed.proofs.Lawful.{reached-lt}
 use Rattle.list_renew.specs.Renewal.{renewed, renewal}
 use Rattle.list_renew.proofs.Renewing.{renews, whole-renews, renewed-offset, renewed-good}
-use Rattle.laws.specs.Calls.{Call, wayOf, outcome, ruled, asked}
+use Rattle.laws.specs.Calls.{Call, wayOf}
 use Rattle.laws.specs.Demands.{Fit, Swaps}
 use Rattle.laws.proofs.Engines.{lawful-of, listKind, acts-so}
 use Rattle.laws.proofs.Swapping.{Reached, reached-named}
@@ -71,17 +72,17 @@ module _ (L : List ℕ) where
           bytes = h;
           acts =
               acts-so L (Reached L) (reached-lt L) (reached-next listAutomata L) (S .saved) c
-              (λ v. rw (f v .0) (lawful-of (c .via) .goes L (f v .1) (S .saved) (c .at) (c .piece) (c .out) h (g .reached)));
+              (λ v. rw (f v .0) (lawful-of (c .by .via) .goes L (f v .1) (S .saved) (c .at) (c .piece) (c .out) h (g .reached)));
         }
 
-    refusal : outcome (S .saved) c .refusal ≡ verdict (ruled (S .saved) c)
+    refusal : outcome wayOf (S .saved) c .refusal ≡ verdict (ruled wayOf (S .saved) c)
     refusal = call-refusal kind (λ F. refl) (S .saved) c meets
 
-    stays-fit : Fit L (outcome (S .saved) c .saved)
+    stays-fit : Fit L (outcome wayOf (S .saved) c .saved)
     stays-fit =
-        elim (ℕ-discrete (verdict (ruled (S .saved) c)) 0) [
-          | yes v ↦ rw (f v .0) (lawful-of (c .via) .fits L (f v .1) (S .saved) (c .at) (c .piece) (c .out) h (g .fit))
-          | no n ↦ rw (unfed (wayOf (c .via) (c .list) .engine) (wayOf (c .via) (c .list) .layout) (S .saved) (c .piece) (c .out) (ruled (S .saved) c) n) (g .fit)
+        elim (ℕ-discrete (verdict (ruled wayOf (S .saved) c)) 0) [
+          | yes v ↦ rw (f v .0) (lawful-of (c .by .via) .fits L (f v .1) (S .saved) (c .at) (c .piece) (c .out) h (g .fit))
+          | no n ↦ rw (unfed (wayOf (c .by) .engine) (wayOf (c .by) .layout) (S .saved) (c .piece) (c .out) (ruled wayOf (S .saved) c) n) (g .fit)
         ]
 
     feed-done : Done S (feeding c)
@@ -89,21 +90,21 @@ module _ (L : List ℕ) where
     feed-done =
         let R = S .saved in
         let r = runs kind R (c ∷ []) (meets, tt) in
-        let bs = asked c .eaten R in
-        let e : asked c .spoken R ≡ told (plain L) (frontierOf R) (offsetOf R) bs =
-        sym (append-nil (asked c .spoken R)) ∙ r .tells ∙ ap (told (plain L) (frontierOf R) (offsetOf R)) (append-nil bs) in
-        let to : frontierOf (outcome R c .saved) ≡ run (plain L) (frontierOf R) bs = r .config ∙ ap (run (plain L) (frontierOf R)) (append-nil bs) in
+        let bs = asked wayOf c .eaten R in
+        let e : asked wayOf c .spoken R ≡ told (plain L) (frontierOf R) (offsetOf R) bs =
+        sym (append-nil (asked wayOf c .spoken R)) ∙ r .tells ∙ ap (told (plain L) (frontierOf R) (offsetOf R)) (append-nil bs) in
+        let to : frontierOf (outcome wayOf R c .saved) ≡ run (plain L) (frontierOf R) bs = r .config ∙ ap (run (plain L) (frontierOf R)) (append-nil bs) in
         record {
           tells = ap (raised (S .before)) e ∙ raised-told (plain L) (S .before) (frontierOf R) (offsetOf R) bs;
           frontier = to;
           moved = omega (arith, r .offset, ap length (append-nil bs));
           passes = (
-            λ y. omega (arith, lawful-of (c .via) .below-14 (c .list) R (c .at) (c .piece), sym refusal ∙ y),
-            λ l n y. lawful-of (c .via) .not-4 (c .list) R (c .at) (c .piece) (rw l n) (rw l (g .fit)) (sym refusal ∙ y),
+            λ y. omega (arith, lawful-of (c .by .via) .below-14 (c .by .list) R (c .at) (c .piece), sym refusal ∙ y),
+            λ l n y. lawful-of (c .by .via) .not-4 (c .by .list) R (c .at) (c .piece) (rw l n) (rw l (g .fit)) (sym refusal ∙ y),
           );
           at =
               record {
-                reached = rw to (run-good (plain L) (Reached L) (reached-next listAutomata L) (frontierOf R) bs (bytes-take (outcome R c .bytes) (c .piece) h) (g .reached));
+                reached = rw to (run-good (plain L) (Reached L) (reached-next listAutomata L) (frontierOf R) bs (bytes-take (outcome wayOf R c .bytes) (c .piece) h) (g .reached));
                 fit = stays-fit;
               };
         }
@@ -135,10 +136,11 @@ module _ (L : List ℕ) where
     frontier : frontierOf (recordAfter acts S cs .saved) ≡ run (plain L) (frontierOf (S .saved)) (allBytes acts S cs)
     moved : recordAfter acts S cs .before + offsetOf (recordAfter acts S cs .saved) ≡ S .before + offsetOf (S .saved) + length (allBytes acts S cs)
     passes : Along acts (Passes L) S cs
+    at : At (recordAfter acts S cs)
 
   whole : (S : Flow) (cs : List Act) → Pieces acts cs → Along acts (Meant L) S cs → At S → All S cs
   unfolding recordAfter allTold allBytes run told
-  whole S [] h f g = record { tells = refl; frontier = refl; moved = omega arith; passes = tt }
+  whole S [] h f g = record { tells = refl; frontier = refl; moved = omega arith; passes = tt; at = g }
   whole S (a ∷ cs) h f g =
       let d = act-done S a (h .0) (f .0) g in
       let front = acts a .eaten S in
@@ -150,6 +152,7 @@ module _ (L : List ℕ) where
         frontier = rw (run-append (plain L) (frontierOf (S .saved)) front bs, ← d .frontier) (ih .frontier);
         moved = rw (ih .moved, d .moved, length-append) (omega arith);
         passes = (d .passes, ih .passes);
+        at = ih .at;
       }
 
   pub at-start : At (record { before = 0; saved = opened L })
@@ -170,3 +173,10 @@ list-renews L R out z cs h f =
       offset = rw (q .1) (w .moved ∙ rw k (omega arith));
       passes = rw (q .1) (w .passes);
     }
+
+-- and what holds of it there
+pub list-at : (L R out : List ℕ) → openFlow L R out .refusal ≡ 0 → (cs : List Act) → Pieces acts cs → Along acts (Meant L) (begun (openFlow L R out)) cs
+    → At L (recordAfter acts (begun (openFlow L R out)) cs)
+list-at L R out z cs h f =
+    let q = begins L R out z in
+    rw (q .1) (whole L (record { before = 0; saved = opened L }) cs h (rw (q .1) at f) (at-start L) .at)

@@ -11,7 +11,7 @@ use Rattle.list_renew_laws.specs.Renewed.{Flow, Act, feeding, renewing, 
 
 -- a feed of the barn's list, whose signature 7 is told after any "ab"
 abbrev pub piece : ℕ → List ℕ → Act
-piece at bs = feeding (record { list = L; via = byList; at = at; piece = bs; out = replicate 4 0 })
+piece at bs = feeding (record { by = record { list = L; via = byList }; at = at; piece = bs; out = replicate 4 0 })
 
 -- a flow that has just been opened, and one that is one byte before its end
 abbrev pub fresh : Flow

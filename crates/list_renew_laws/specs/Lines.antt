@@ -9,15 +9,15 @@ use Rattle.feed.specs.Calls.{Bytes, Asked, recordAfter, allTold, allBytes, Alon
 use Rattle.feed.specs.Opening.{Opening}
 use Rattle.feed.specs.Demands.{openTold}
 use Rattle.list_flow.specs.Flow.{frontierOf, offsetOf}
-use Rattle.list_feed.specs.Plain.{plain, openFlow}
+use Rattle.list_flow.specs.Opening.{openFlow}
+use Rattle.list_feed.specs.Plain.{plain}
 use Rattle.segment.specs.Resend.{circle}
 use Rattle.segment.specs.Stream as stream
 use Rattle.segment_feed.specs.Segment.{Kept, Heard}
-use Rattle.segment_feed.specs.Calls.{hears, looksAt, Fits}
+use Rattle.segment_feed.specs.Calls.{hears, looksAt, Fits, doorOf}
 use Rattle.segment_feed.specs.Streamed.{fresh, allSeen}
-use Rattle.segment_laws.specs.Streams.{listCalls, OnList}
 use Rattle.list_renew.specs.Renewal.{renewal}
-use Rattle.laws.specs.Calls.{Call}
+use Rattle.laws.specs.Calls.{Call, wayOf, OnList}
 use Rattle.laws.specs.Demands.{Due}
 use Rattle.list_renew_laws.specs.Renewed.{raised, Flow, renewOn}
 use Rattle.list_renew_laws.specs.Segments.{keptOn}
@@ -42,7 +42,7 @@ firstOf s Z = (s + Z .before) % circle
 
 -- what a segment hears
 abbrev pub hearsOn : ℕ → Lasting → Call → Heard
-hearsOn s Z c = hears listCalls (firstOf s Z) (Z .kept) c
+hearsOn s Z c = hears wayOf (firstOf s Z) (Z .kept) c
 
 -- each as a call: a segment tells its pairs with the bytes before the last renewal added; a renewal passes down and tells nothing
 abbrev pub deeds : ℕ → Deed → Asked Lasting
@@ -57,12 +57,12 @@ deeds s renewing = record { piece = []; eaten = λ Z. []; spoken = λ Z. []; lef
 
 -- the looks that it comes to
 abbrev pub seenBy : ℕ → Lasting → Deed → List stream.Look
-seenBy s Z (handing c) = looksAt listCalls (firstOf s Z) (Z .kept) c
+seenBy s Z (handing c) = looksAt wayOf (firstOf s Z) (Z .kept) c
 seenBy s Z renewing = []
 
 -- a segment's number and bytes are some, and one that is looked at is on L, by what is checked
 abbrev pub Handed : List ℕ → ℕ → Lasting → Deed → Type 0
-Handed L s Z (handing c) = Fits listCalls (OnList L) (firstOf s Z) (Z .kept) c
+Handed L s Z (handing c) = Fits (doorOf wayOf (firstOf s Z) (Z .kept) c ≡ 0 → OnList L (c .by)) c
 Handed L s Z renewing = Unit {0}
 
 -- no renewal is refused

@@ -7,13 +7,14 @@ use lib.ListN.{length}
 use lib.Dec.{eqb}
 use Rattle.list.specs.Automaton.{start}
 use Rattle.feed.specs.Engine.{run}
-use Rattle.feed.specs.Calls.{Asked, recordAfter, allTold, allBytes, Along, Pieces}
+use Rattle.feed.specs.Calls.{Asked, recordAfter, allTold, allBytes, Along, Pieces, outcome, asked}
 use Rattle.feed.specs.Opening.{Opening}
 use Rattle.feed.specs.Demands.{openTold}
 use Rattle.list_flow.specs.Flow.{frontierOf, offsetOf}
-use Rattle.list_feed.specs.Plain.{plain, openFlow}
+use Rattle.list_flow.specs.Opening.{openFlow}
+use Rattle.list_feed.specs.Plain.{plain}
 use Rattle.list_renew.specs.Renewal.{renewal}
-use Rattle.laws.specs.Calls.{Call, Names, outcome, asked}
+use Rattle.laws.specs.Calls.{Call, Names, wayOf}
 use Rattle.laws.specs.Demands.{Due, Swaps}
 
 -- words with n added to the offset of each pair; an odd last word stays
@@ -42,9 +43,9 @@ abbrev pub acts : Act → Asked Flow
 acts (feeding c) =
     record {
       piece = c .piece;
-      eaten = λ S. asked c .eaten (S .saved);
-      spoken = λ S. raised (S .before) (asked c .spoken (S .saved));
-      left = λ S. record { before = S .before; saved = outcome (S .saved) c .saved };
+      eaten = λ S. asked wayOf c .eaten (S .saved);
+      spoken = λ S. raised (S .before) (asked wayOf c .spoken (S .saved));
+      left = λ S. record { before = S .before; saved = outcome wayOf (S .saved) c .saved };
     }
 acts renewing = record { piece = []; eaten = λ S. []; spoken = λ S. []; left = renewOn }
 
@@ -59,7 +60,7 @@ Meant L S renewing = Unit {0}
 
 -- no renewal is refused; no feed ends in 14, and none on L is refused as foreign
 abbrev pub Passes : List ℕ → Flow → Act → Type 0
-Passes L S (feeding c) = (outcome (S .saved) c .refusal ≡ 14 → ⊥) × (c .list ≡ L → Names L (c .via) → outcome (S .saved) c .refusal ≡ 4 → ⊥)
+Passes L S (feeding c) = (outcome wayOf (S .saved) c .refusal ≡ 14 → ⊥) × (c .by .list ≡ L → Names L (c .by .via) → outcome wayOf (S .saved) c .refusal ≡ 4 → ⊥)
 Passes L S renewing = renewal (S .saved) .refusal ≡ 0
 
 pub record Renewed (L : List ℕ) (o : Opening) (cs : List Act) : Type 0 where

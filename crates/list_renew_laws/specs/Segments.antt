@@ -15,9 +15,9 @@ keptOn S = record { flow = renewal (S .flow) .saved; held = S .held; start = S .
 
 -- a look at a segment by the way v after a renewal: the next byte has the number that it had, the segment is taken as it was, and the same bytes are due
 pub record GoesOn (v : Via) (L : List ℕ) (g : Sent) (S : Kept) : Type 0 where
-  pub next : nextOf (wayOf v L) (sentOn (nextOf (wayOf v L) g S) g) (keptOn S) ≡ nextOf (wayOf v L) g S
-  pub taken : takeOf (wayOf v L) (sentOn (nextOf (wayOf v L) g S) g) (keptOn S) ≡ takeOf (wayOf v L) g S
-  pub due : dueOf (wayOf v L) (sentOn (nextOf (wayOf v L) g S) g) (keptOn S) ≡ dueOf (wayOf v L) g S
+  pub next : nextOf (wayOf (record { list = L; via = v })) (sentOn (nextOf (wayOf (record { list = L; via = v })) g S) g) (keptOn S) ≡ nextOf (wayOf (record { list = L; via = v })) g S
+  pub taken : takeOf (wayOf (record { list = L; via = v })) (sentOn (nextOf (wayOf (record { list = L; via = v })) g S) g) (keptOn S) ≡ takeOf (wayOf (record { list = L; via = v })) g S
+  pub due : dueOf (wayOf (record { list = L; via = v })) (sentOn (nextOf (wayOf (record { list = L; via = v })) g S) g) (keptOn S) ≡ dueOf (wayOf (record { list = L; via = v })) g S
 
 abbrev pub SegmentsGoOn : Type 0
 SegmentsGoOn = (v : Via) (L : List ℕ) (g : Sent) (S : Kept) → renewal (S .flow) .refusal ≡ 0 → GoesOn v L g S

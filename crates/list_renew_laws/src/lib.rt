@@ -26,7 +26,7 @@ fn drive_renewed(
     ensures { λ r. ⌜ (r .opened .refusal ≡ 0 → RenewedKept (now (list .entry)) (now (piece .entry)) (now (rest .entry)) (r .opened .pairs) (r .first) (r .before) (r .renewed) (r .second)
         (now (out .exit)) (now (pairs .exit)) (now (later .exit)) (now (flow .exit))) ⌝ }
 {
-    let opened = list_feed::open_flow(list, flow, out);
+    let opened = list_flow::open_flow(list, flow, out);
     let first = list_feed::feed(list, flow, 0, piece, pairs);
     let before = list_renew::offset(flow);
     let renewed = list_renew::renew(flow);

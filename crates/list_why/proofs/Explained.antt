@@ -8,7 +8,8 @@ use native.Mathlib.Decide.{ℕ-discrete}
 use lib.ListN.{length, drop}
 use lib.Dec.{eqb}
 use borrow.Author.Tests.{ne-eqb, eq-eqb}
-use Rattle.sets.specs.Set.{states, setAt, placed}
+use Rattle.numbers.specs.Number.{placed}
+use Rattle.sets.specs.Set.{states, setAt}
 use Rattle.rules.specs.Rules.{verdict}
 use Rattle.rules.proofs.Rules.{stop, last, verdict-then, verdict-refused}
 use Rattle.list_flow.specs.Flow.{frontierOf, offsetOf}

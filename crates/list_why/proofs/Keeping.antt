@@ -6,9 +6,10 @@ use native.Mathlib.Omega.{arith}
 use native.Mathlib.Nat.{mul-suc, mul-le-mul-left}
 use lib.ListN.{length, drop, length-drop}
 use lib.Seq.{drop-append-le, take-append-le}
-use Rattle.sets.specs.Set.{states, setSize, setBytes, setAt, placed}
-use Rattle.sets.proofs.Laws.{length-digits, num-digits}
-use Rattle.sets.proofs.Placing.{placed-after, placed-fits}
+use Rattle.numbers.specs.Number.{placed}
+use Rattle.sets.specs.Set.{states, setSize, setBytes, setAt}
+use Rattle.numbers.proofs.Laws.{length-digits, num-digits}
+use Rattle.numbers.proofs.Placing.{placed-after, placed-fits}
 use Rattle.rules.specs.Scan.{stack}
 use Rattle.rules.proofs.Stacks.{stack-length, stack-entry}
 use Rattle.list_why.specs.Reason.{front, fronts}
@@ -21,7 +22,7 @@ sets-length f n = stack-length (λ i. setBytes (f i)) setSize (λ i. length-digi
 -- none are written
 pub kept-none : (f : ℕ → ℕ) (W : List ℕ) → W ≡ placed W 0 (stack (λ i. setBytes (f i)) 0)
 unfolding stack
-kept-none f W = Rattle.sets.proofs.Placing.placed-none W 0 (omega arith)
+kept-none f W = Rattle.numbers.proofs.Placing.placed-none W 0 (omega arith)
 
 -- one more is written behind those that are
 pub kept-more : (f : ℕ → ℕ) (W : List ℕ) (n x : ℕ) → x ≡ f n → setSize * suc n ≤ length W

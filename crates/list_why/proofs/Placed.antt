@@ -14,7 +14,8 @@ use Rattle.rules.proofs.Scanning.{neither, or-true}
 use Rattle.list.specs.List.{listRules, listRefusal}
 use Rattle.list.specs.Automaton.{named}
 use Rattle.feed.specs.Engine.{mostOffset}
-use Rattle.list_flow.specs.Flow.{frontierOf, offsetOf, flowRules, feedRules}
+use Rattle.list_flow.specs.Flow.{flowSize, frontierOf, offsetOf, flowRules, feedRules}
+use Rattle.list_flow.proofs.Records.{good-flow}
 use Rattle.list_flow.proofs.Passing.{feed-passes}
 use Rattle.list_why.specs.Reason.{outside, tooShort, placeRules}
 
@@ -66,6 +67,7 @@ module _ (L R : List ℕ) (at : ℕ) (piece : List ℕ) (k : ℕ) (out work : Li
 pub record Knows (L R : List ℕ) (at : ℕ) (piece : List ℕ) (k : ℕ) (out work : List ℕ) : Type 0 where
   pub passed : verdict (placeRules L R at piece k out work) ≡ 0
   pub listed : listRefusal L ≡ 0
+  pub flow-long : length R ≡ flowSize
   pub start : at ≡ offsetOf R
   pub behind : at ≤ k
   pub before : k ≤ at + length piece
@@ -83,6 +85,7 @@ knows L R at piece k out work v =
     record {
       passed = v;
       listed = passes-front (listRules L) (flowRules (within (frontierOf R) (named L)) R at piece) f;
+      flow-long = good-flow R (feed-passes L R at piece f .0) .0;
       start = s;
       behind = rw s (ltb-false k (offsetOf R) (y .0));
       before = rw s (ltb-false (offsetOf R + length piece) k (y .1));

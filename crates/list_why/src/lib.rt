@@ -7,7 +7,8 @@ ghost use mathlib.Core.List.{_++_};
 ghost use Prim.Native.Nat.{ℕ, suc, _*_, _<_, _≤_};
 ghost use lib.ListN.{length, drop};
 ghost use lib.Dec.{eqb, ltb};
-ghost use Rattle.sets.specs.Set.{states, setSize, num, setOf, setAt, placed, holds};
+ghost use Rattle.numbers.specs.Number.{num, placed};
+ghost use Rattle.sets.specs.Set.{states, setSize, setOf, setAt, holds};
 ghost use Rattle.rules.specs.Scan.{first};
 ghost use Rattle.rules.specs.Rules.{verdict};
 ghost use Rattle.list.specs.List.{records, isAccept, from, target};
@@ -138,7 +139,12 @@ fn trace_back(list: &[u8], piece: &[u8], n: usize, work: &[u8], end: usize, run:
     while 0 < i {
         run[i] = t as u16;
         i = i - 1;
-        t = source(list, StateSet::whole(work, sets::BYTES * i), piece[i], t);
+        t = source(
+            list,
+            StateSet::from_bytes(work, sets::BYTES * i),
+            piece[i],
+            t,
+        );
     }
     run[0] = t as u16;
 }
@@ -216,7 +222,7 @@ pub fn why(
         return refusal;
     }
     let n = (offset - start) as usize;
-    let first = StateSet::load(flow, 0);
+    let first = StateSet::from_bytes(flow, 0);
     let end = giving(list, front(list, first, piece, n), signature as usize);
     tell_run(list, first, piece, n, end, run, work)
 }
@@ -240,7 +246,7 @@ pub fn why_state(
         return refusal;
     }
     let n = (offset - start) as usize;
-    let first = StateSet::load(flow, 0);
+    let first = StateSet::from_bytes(flow, 0);
     let end = holding(front(list, first, piece, n), state as usize);
     tell_run(list, first, piece, n, end, run, work)
 }

@@ -10,20 +10,21 @@ use lib.Seq.{length-take-le, getD-take}
 use Rattle.rules.specs.Rules.{verdict}
 use Rattle.rules.proofs.Rules.{passes-front}
 use Rattle.list.specs.List.{listRules, listRefusal}
-use Rattle.feed.specs.Calls.{Bytes}
+use Rattle.feed.specs.Engine.{Outcome}
+use Rattle.feed.specs.Calls.{Bytes, outcome, ruled}
 use Rattle.feed.specs.Fed.{Answers}
 use Rattle.feed.specs.declared.Fed.{Fed}
 use Rattle.feed.specs.declared.Opened.{Opened}
 use Rattle.feed.specs.Opening.{Opens}
 use Rattle.feed.proofs.Feeds.{each-feed}
-use Rattle.list_feed.specs.Plain.{opened, openFlow}
+use Rattle.list_flow.specs.Opening.{opened, openFlow}
 use Rattle.table.specs.Table.{Table, tableRefusal}
 use Rattle.matrix.specs.Matrix.{Fills}
 use Rattle.matrix.proofs.Exact.{filled-left}
 use Rattle.index_fill.specs.Filled.{FillsIndex}
 use Rattle.list_why.specs.Run.{Question, ofSignature}
 use Rattle.list_why.specs.Reason.{whyRules}
-use Rattle.laws.specs.Calls.{Via, Checked, Call, wayOf, outcome, ruled}
+use Rattle.laws.specs.Calls.{Via, Checked, Call, wayOf}
 use Rattle.laws.specs.Drivers.{viaBy, callOf}
 use Rattle.laws.proofs.Demand1.{demand-1}
 use Rattle.laws.proofs.Due.{begins}
@@ -45,20 +46,20 @@ all-more L R bs ws i out work h e j l = elim (ℕ-discrete j i) [ yes q ↦ rw q
     below n = elim (decLt j i) [ yes k ↦ k | no k ↦ absurd (n (omega arith)) ]
 
 -- what a feed consumes is bytes of its piece, and what it tells fits its words
-bytes-most : (R : List ℕ) (c : Call) → outcome R c .bytes ≤ length (c .piece)
+bytes-most : (R : List ℕ) (c : Call) → outcome wayOf R c .bytes ≤ length (c .piece)
 bytes-most R c =
-    let f = each-feed (wayOf (c .via) (c .list)) R (c .at) (c .piece) (c .out) in
-    elim (ℕ-discrete (verdict (ruled R c)) 0) [ yes v ↦ f .longest v .front | no n ↦ omega (arith, f .refused n .1 .bytes) ]
+    let f = each-feed (wayOf (c .by)) R (c .at) (c .piece) (c .out) in
+    elim (ℕ-discrete (verdict (ruled wayOf R c)) 0) [ yes v ↦ f .longest v .front | no n ↦ omega (arith, ap (λ (o : Outcome). o .bytes) (f .refused n .1)) ]
 
-pub eaten-fit : (R : List ℕ) (c : Call) (f : Fed) (ws Q : List ℕ) → Answers (outcome R c) f ws Q → f .bytes ≤ length (c .piece)
+pub eaten-fit : (R : List ℕ) (c : Call) (f : Fed) (ws Q : List ℕ) → Answers (outcome wayOf R c) f ws Q → f .bytes ≤ length (c .piece)
 eaten-fit R c f ws Q a = rw (a .bytes) (bytes-most R c)
 
-pub told-fit : (R : List ℕ) (c : Call) (f : Fed) (ws Q : List ℕ) → Answers (outcome R c) f ws Q → 2 * f .pairs ≤ length ws
-told-fit R c f ws Q a = let d = each-feed (wayOf (c .via) (c .list)) R (c .at) (c .piece) (c .out) in rw (a .pairs, a .words) (omega (arith, d .pairs-fit, d .words-many))
+pub told-fit : (R : List ℕ) (c : Call) (f : Fed) (ws Q : List ℕ) → Answers (outcome wayOf R c) f ws Q → 2 * f .pairs ≤ length ws
+told-fit R c f ws Q a = let d = each-feed (wayOf (c .by)) R (c .at) (c .piece) (c .out) in rw (a .pairs, a .words) (omega (arith, d .pairs-fit, d .words-many))
 
 -- each pair of the answer is one of the words told
 module _ (L : List ℕ) (ok : listRefusal L ≡ 0) (via : Via) (checked : Checked L via) (piece lent : List ℕ) (hb : Bytes piece) (f : Fed) (ws Q : List ℕ)
-    (a : Answers (outcome (opened L) (callOf L via 0 piece lent)) f ws Q) where
+    (a : Answers (outcome wayOf (opened L) (callOf L via 0 piece lent)) f ws Q) where
   all-answered : (out work : List ℕ) → length piece < length out → 128 * suc (length piece) ≤ length work → AllAnswered L (opened L) (take (f .bytes) piece) ws (f .pairs) out work
   all-answered out work l m i h =
       let c = callOf L via 0 piece lent in
@@ -71,7 +72,7 @@ module _ (L : List ℕ) (ok : listRefusal L ≡ 0) (via : Via) (checked : Checke
 pub why-driven : (L : List ℕ) (b : ℕ) (T : Table) (R S out X₀ X Y₀ Y : List ℕ) (kind : ℕ) (piece run work : List ℕ) (checked filled indexed : ℕ) (first again : Opened) (fed : Fed)
     (ws Q : List ℕ) (refusal : ℕ) (ws₁ A ws₂ B : List ℕ)
     → checked ≡ tableRefusal L b T → Fills L X₀ filled X → FillsIndex L b T Y₀ indexed Y → Opens (openFlow L R out) first ws₁ A → Opens (openFlow L S ws₁) again ws₂ B
-    → Answers (outcome B (callOf L (viaBy b T X Y kind) 0 piece ws₂)) fed ws Q
+    → Answers (outcome wayOf B (callOf L (viaBy b T X Y kind) 0 piece ws₂)) fed ws Q
     → (refusal ≡ 0) ↔ AllAnswered L A (take (fed .bytes) piece) ws (fed .pairs) run work → Bytes (T .splits) → Bytes piece
     → WhyDriven L b T R S out X₀ X Y₀ Y kind piece run work checked filled indexed first again fed ws Q refusal
 why-driven L b T R S out X₀ X Y₀ Y kind piece run work checked filled indexed first again fed ws Q refusal ws₁ A ws₂ B tables matrices indexes opens opens-again feeds asks hs hb =

@@ -1,7 +1,8 @@
 -- The reasons by number hold of the definitions, by computing. Assumes nothing.
 use mathlib.Core.Path.{_≡_, refl}
 use mathlib.Core.List.{[], _∷_, _++_}
-use Rattle.sets.specs.Set.{setBytes, num, digits, holds, join, within, insert, size, setAt}
+use Rattle.numbers.specs.Number.{num, digits}
+use Rattle.sets.specs.Set.{setBytes, holds, join, within, insert, size, setAt}
 use Rattle.rules.specs.Scan.{some, every, first, gather, stack}
 use Rattle.rules.specs.Rules.{verdict}
 use Rattle.list.specs.List.{goodRecord, badLength, badRecord, noStart}

@@ -15,9 +15,9 @@ use Rattle.rules.proofs.Rules.{skip, last, passes-front, verdict-then}
 use Rattle.list.specs.List.{listRules, listRefusal}
 use Rattle.list.specs.Automaton.{start, accepted, named}
 use Rattle.list.proofs.Steps.{start-lt}
-use Rattle.feed.specs.Engine.{mostOffset, run}
+use Rattle.feed.specs.Engine.{Outcome, mostOffset, run}
 use Rattle.feed.specs.Pairs.{Pair}
-use Rattle.feed.specs.Calls.{Bytes, allBytes, allTold}
+use Rattle.feed.specs.Calls.{Bytes, allBytes, allTold, outcome, ruled, asked, recordAfter, Pieces, Along}
 use Rattle.feed.specs.Demands.{openTold}
 use Rattle.feed.specs.Demands as calls
 use Rattle.feed.proofs.Calls.{along-map, along-more, along-last, pieces-more}
@@ -26,16 +26,17 @@ use Rattle.feed.proofs.Runs.{length-take-most}
 use Rattle.feed.proofs.Lawful.{reached-start, reached-next}
 use Rattle.feed.proofs.Opening.{opening-refusal}
 use Rattle.feed.proofs.Whole.{Kind, Met, Written, Within, met, met-within, runs}
-use Rattle.list_flow.specs.Flow.{flowLayout, frontierOf, offsetOf, rowsOf, badFlow, otherStart, tooLong, flowRules, feedRules}
+use Rattle.list_flow.specs.Flow.{flowLayout, frontierOf, offsetOf, rowsOf, badFlow, flowRules, feedRules}
 use Rattle.list_flow.proofs.Records.{frontier-lt, flow-good}
-use Rattle.list_feed.specs.Plain.{plain, opened, openPairs, firstRules, openRules, openFlow}
+use Rattle.list_flow.specs.Opening.{opened, openPairs, firstRules, openRules, openFlow}
+use Rattle.list_feed.specs.Plain.{plain}
 use Rattle.list_feed.specs.Means.{listAutomata}
 use Rattle.list_feed.proofs.Lawful.{reached-lt}
 use Rattle.list_why.specs.Run.{Question, ofSignature, ofState, Runs}
 use Rattle.list_why.specs.Reason.{front, due, placeRules, whyRules}
 use Rattle.list_why.proofs.Traces.{reasoned}
 use Rattle.list_why.proofs.Placed.{place-good}
-use Rattle.laws.specs.Calls.{byList, Call, wayOf, outcome, ruled, asked, bytesOf, wordsOf, after, InBytes, Each}
+use Rattle.laws.specs.Calls.{byList, Call, wayOf}
 use Rattle.laws.specs.Demands.{Plainly, Swaps, Fit}
 use Rattle.laws.proofs.Engines.{lawful-of, listKind, acts-so}
 use Rattle.laws.proofs.Demand2.{demand-2}
@@ -51,25 +52,25 @@ module _ (L : List ℕ) (ok : listRefusal L ≡ 0) (F : ℕ) (small : F < 2 ^ st
   given n l q = reasoned L F bs small ok n l q .exactly
 
 -- so of pairs told
-with-runs : (L R : List ℕ) (cs : List Call) → frontierOf R < 2 ^ states → (0 < length (bytesOf R cs) → listRefusal L ≡ 0)
-    → ((g k : ℕ) → Pair (wordsOf R cs) g k
-    ↔ ((n : ℕ) × (n < length (bytesOf R cs)) × (k ≡ offsetOf R + suc n) × (holds (accepted L (run (plain L) (frontierOf R) (take (suc n) (bytesOf R cs)))) g ≡ true)))
+with-runs : (L R : List ℕ) (cs : List Call) → frontierOf R < 2 ^ states → (0 < length (allBytes (asked wayOf) R cs) → listRefusal L ≡ 0)
+    → ((g k : ℕ) → Pair (allTold (asked wayOf) R cs) g k
+    ↔ ((n : ℕ) × (n < length (allBytes (asked wayOf) R cs)) × (k ≡ offsetOf R + suc n) × (holds (accepted L (run (plain L) (frontierOf R) (take (suc n) (allBytes (asked wayOf) R cs)))) g ≡ true)))
     → ToldRuns L R cs
 with-runs L R cs small ok d g k = (
-  λ p. let w = d g k .0 p in (w .0, w .1, w .2, given L (ok (omega (arith, w .1))) (frontierOf R) small (bytesOf R cs) (suc (w .0)) (w .1) (ofSignature g) .1 (w .3)),
-  λ w. d g k .1 (w .0, w .1, w .2, given L (ok (omega (arith, w .1))) (frontierOf R) small (bytesOf R cs) (suc (w .0)) (w .1) (ofSignature g) .0 (w .3)),
+  λ p. let w = d g k .0 p in (w .0, w .1, w .2, given L (ok (omega (arith, w .1))) (frontierOf R) small (allBytes (asked wayOf) R cs) (suc (w .0)) (w .1) (ofSignature g) .1 (w .3)),
+  λ w. d g k .1 (w .0, w .1, w .2, given L (ok (omega (arith, w .1))) (frontierOf R) small (allBytes (asked wayOf) R cs) (suc (w .0)) (w .1) (ofSignature g) .0 (w .3)),
 )
 
 -- ---- plain feeds from any record
 
 -- a list by which a byte was consumed is a good one
-list-fed : (L R : List ℕ) (cs : List Call) → Each (Plainly L) R cs → 0 < length (bytesOf R cs) → listRefusal L ≡ 0
+list-fed : (L R : List ℕ) (cs : List Call) → Along (asked wayOf) (Plainly L) R cs → 0 < length (allBytes (asked wayOf) R cs) → listRefusal L ≡ 0
 unfolding allBytes
 list-fed L R [] h l = absurd (omega arith)
 list-fed L R (c ∷ cs) h l =
-    elim (ℕ-discrete (verdict (ruled R c)) 0) [
+    elim (ℕ-discrete (verdict (ruled wayOf R c)) 0) [
       | yes v ↦ passes-front (listRules L) (flowRules (within (frontierOf R) (named L)) R (c .at) (c .piece)) (rw (h .0 v .1, h .0 v .0) at v)
-      | no n ↦ list-fed L (asked c .left R) cs (h .1) (rw (each-feed (wayOf (c .via) (c .list)) R (c .at) (c .piece) (c .out) .refused n .1 .bytes) at l)
+      | no n ↦ list-fed L (asked wayOf c .left R) cs (h .1) (rw (ap (λ (o : Outcome). o .bytes) (each-feed (wayOf (c .by)) R (c .at) (c .piece) (c .out) .refused n .1)) at l)
     ]
 
 pub plain-reasons : PlainReasons
@@ -87,11 +88,11 @@ module _ (L : List ℕ) where
     pub few : Within flowLayout states Q
     pub reached : Reached L (frontierOf Q)
 
-  meets : (R : List ℕ) (cs : List Call) → InBytes cs → Each (Swaps L) R cs → Reached L (frontierOf R) → Each (Met kind) R cs
+  meets : (R : List ℕ) (cs : List Call) → Pieces (asked wayOf) cs → Along (asked wayOf) (Swaps L) R cs → Reached L (frontierOf R) → Along (asked wayOf) (Met kind) R cs
   meets R cs hb h r =
       met kind R cs
-      (along-map asked (Swaps L) _
-      (λ Q c f b t. acts-so L (Reached L) (reached-lt L) (reached-next listAutomata L) Q c (λ v. rw (f v .0) (lawful-of (c .via) .goes L (f v .1) Q (c .at) (c .piece) (c .out) b t))) R cs h)
+      (along-map (asked wayOf) (Swaps L) _
+      (λ Q c f b t. acts-so L (Reached L) (reached-lt L) (reached-next listAutomata L) Q c (λ v. rw (f v .0) (lawful-of (c .by .via) .goes L (f v .1) Q (c .at) (c .piece) (c .out) b t))) R cs h)
       hb r
 
   stands-opened : Stands (opened L)
@@ -104,13 +105,13 @@ module _ (L : List ℕ) where
 
   -- a call that looks at what is left
   abbrev look : Call
-  look = record { list = L; via = byList; at = 0; piece = []; out = [] }
+  look = record { by = record { list = L; via = byList }; at = 0; piece = []; out = [] }
 
-  stands-on : (R : List ℕ) (cs : List Call) → Stands R → InBytes cs → Each (Swaps L) R cs → Stands (after R cs)
+  stands-on : (R : List ℕ) (cs : List Call) → Stands R → Pieces (asked wayOf) cs → Along (asked wayOf) (Swaps L) R cs → Stands (recordAfter (asked wayOf) R cs)
   stands-on R cs s hb h =
-      let m = meets R (cs ++ (look ∷ [])) (pieces-more asked look cs hb (λ i. omega arith)) (along-more asked look (Swaps L) R cs h (λ v. (refl, tt))) (s .reached) in
-      let w = along-last asked look _ R cs (met-within kind R (cs ++ (look ∷ [])) m (s .written) (s .few)) in
-      record { written = w .0; few = w .1; reached = along-last asked look (Met kind) R cs m .good }
+      let m = meets R (cs ++ (look ∷ [])) (pieces-more (asked wayOf) look cs hb (λ i. omega arith)) (along-more (asked wayOf) look (Swaps L) R cs h (λ v. (refl, tt))) (s .reached) in
+      let w = along-last (asked wayOf) look _ R cs (met-within kind R (cs ++ (look ∷ [])) m (s .written) (s .few)) in
+      record { written = w .0; few = w .1; reached = along-last (asked wayOf) look (Met kind) R cs m .good }
 
   stands-fit : (Q : List ℕ) → Stands Q → Fit L Q
   stands-fit Q s = (rw (← s .written) (flow-good (frontierOf Q) (offsetOf Q) (rowsOf Q) (s .few .1) (s .few .0)), reached-named L (frontierOf Q) (s .reached))
@@ -128,38 +129,38 @@ module _ (L : List ℕ) (ok : listRefusal L ≡ 0) (Q : List ℕ) (fit : Fit L Q
 
 -- ---- the calls ds from such a record
 
-module _ (L : List ℕ) (ok : listRefusal L ≡ 0) (Q : List ℕ) (s : Stands L Q) (ds : List Call) (hb : InBytes ds) (h : Each (Swaps L) Q ds) where
+module _ (L : List ℕ) (ok : listRefusal L ≡ 0) (Q : List ℕ) (s : Stands L Q) (ds : List Call) (hb : Pieces (asked wayOf) ds) (h : Along (asked wayOf) (Swaps L) Q ds) where
   small : frontierOf Q < 2 ^ states
   small = reached-lt L (frontierOf Q) (s .reached)
 
-  ran : calls.Runs asked flowLayout (plain L) Q ds
+  ran : calls.Runs (asked wayOf) flowLayout (plain L) Q ds
   ran = runs (kind L) Q ds (meets L Q ds hb h (s .reached))
 
   saved-runs : ToldRuns L Q ds
-  saved-runs = with-runs L Q ds small (λ l. ok) (λ g k. rw (ran .tells) (told-due L (frontierOf Q) (offsetOf Q) (bytesOf Q ds) g k))
+  saved-runs = with-runs L Q ds small (λ l. ok) (λ g k. rw (ran .tells) (told-due L (frontierOf Q) (offsetOf Q) (allBytes (asked wayOf) Q ds) g k))
 
-  short : offsetOf Q + length (bytesOf Q ds) ≤ mostOffset
+  short : offsetOf Q + length (allBytes (asked wayOf) Q ds) ≤ mostOffset
   short = omega (arith, ran .offset, stands-on L Q ds s hb h .few .1)
 
-  asked-0 : (q : Question) (k : ℕ) (out work : List ℕ) → Roomy (k - offsetOf Q) out work → offsetOf Q ≤ k → k ≤ offsetOf Q + length (bytesOf Q ds)
-      → due L (front L (frontierOf Q) (bytesOf Q ds) (k - offsetOf Q)) q ≡ true → verdict (whyRules L Q (offsetOf Q) (bytesOf Q ds) q k out work) ≡ 0
-  asked-0 q k out work room a b = due-0 L Q (offsetOf Q) (bytesOf Q ds) q k out work (place-0 L ok Q (stands-fit L Q s) (bytesOf Q ds) short k out work room a b)
+  asked-0 : (q : Question) (k : ℕ) (out work : List ℕ) → Roomy (k - offsetOf Q) out work → offsetOf Q ≤ k → k ≤ offsetOf Q + length (allBytes (asked wayOf) Q ds)
+      → due L (front L (frontierOf Q) (allBytes (asked wayOf) Q ds) (k - offsetOf Q)) q ≡ true → verdict (whyRules L Q (offsetOf Q) (allBytes (asked wayOf) Q ds) q k out work) ≡ 0
+  asked-0 q k out work room a b = due-0 L Q (offsetOf Q) (allBytes (asked wayOf) Q ds) q k out work (place-0 L ok Q (stands-fit L Q s) (allBytes (asked wayOf) Q ds) short k out work room a b)
 
-  asked-26 : (q : Question) (k : ℕ) (out work : List ℕ) → Roomy (k - offsetOf Q) out work → offsetOf Q ≤ k → k ≤ offsetOf Q + length (bytesOf Q ds)
-      → due L (front L (frontierOf Q) (bytesOf Q ds) (k - offsetOf Q)) q ≡ false → verdict (whyRules L Q (offsetOf Q) (bytesOf Q ds) q k out work) ≡ 26
-  asked-26 q k out work room a b = due-26 L Q (offsetOf Q) (bytesOf Q ds) q k out work (place-0 L ok Q (stands-fit L Q s) (bytesOf Q ds) short k out work room a b)
+  asked-26 : (q : Question) (k : ℕ) (out work : List ℕ) → Roomy (k - offsetOf Q) out work → offsetOf Q ≤ k → k ≤ offsetOf Q + length (allBytes (asked wayOf) Q ds)
+      → due L (front L (frontierOf Q) (allBytes (asked wayOf) Q ds) (k - offsetOf Q)) q ≡ false → verdict (whyRules L Q (offsetOf Q) (allBytes (asked wayOf) Q ds) q k out work) ≡ 26
+  asked-26 q k out work room a b = due-26 L Q (offsetOf Q) (allBytes (asked wayOf) Q ds) q k out work (place-0 L ok Q (stands-fit L Q s) (allBytes (asked wayOf) Q ds) short k out work room a b)
 
-  told-0 : (g k : ℕ) (out work : List ℕ) → Roomy (k - offsetOf Q) out work → Pair (wordsOf Q ds) g k → asksPair L Q (bytesOf Q ds) g k out work ≡ 0
+  told-0 : (g k : ℕ) (out work : List ℕ) → Roomy (k - offsetOf Q) out work → Pair (allTold (asked wayOf) Q ds) g k → asksPair L Q (allBytes (asked wayOf) Q ds) g k out work ≡ 0
   told-0 g k out work room p =
       let w = saved-runs g k .0 p in
       let e : k - offsetOf Q ≡ suc (w .0) = omega (arith, w .2) in
-      asked-0 (ofSignature g) k out work room (omega (arith, w .2)) (omega (arith, w .1, w .2)) (rw e (given L ok (frontierOf Q) small (bytesOf Q ds) (suc (w .0)) (w .1) (ofSignature g) .0 (w .3)))
+      asked-0 (ofSignature g) k out work room (omega (arith, w .2)) (omega (arith, w .1, w .2)) (rw e (given L ok (frontierOf Q) small (allBytes (asked wayOf) Q ds) (suc (w .0)) (w .1) (ofSignature g) .0 (w .3)))
 
-  untold-26 : (g k : ℕ) (out work : List ℕ) → Roomy (k - offsetOf Q) out work → offsetOf Q < k → k ≤ offsetOf Q + length (bytesOf Q ds)
-      → (Pair (wordsOf Q ds) g k → ⊥) → asksPair L Q (bytesOf Q ds) g k out work ≡ 26
-  untold-26 g k out work room a b never = go (due L (front L (frontierOf Q) (bytesOf Q ds) (k - offsetOf Q)) (ofSignature g)) refl
+  untold-26 : (g k : ℕ) (out work : List ℕ) → Roomy (k - offsetOf Q) out work → offsetOf Q < k → k ≤ offsetOf Q + length (allBytes (asked wayOf) Q ds)
+      → (Pair (allTold (asked wayOf) Q ds) g k → ⊥) → asksPair L Q (allBytes (asked wayOf) Q ds) g k out work ≡ 26
+  untold-26 g k out work room a b never = go (due L (front L (frontierOf Q) (allBytes (asked wayOf) Q ds) (k - offsetOf Q)) (ofSignature g)) refl
     where
-      go : (t : Bool) → due L (front L (frontierOf Q) (bytesOf Q ds) (k - offsetOf Q)) (ofSignature g) ≡ t → asksPair L Q (bytesOf Q ds) g k out work ≡ 26
+      go : (t : Bool) → due L (front L (frontierOf Q) (allBytes (asked wayOf) Q ds) (k - offsetOf Q)) (ofSignature g) ≡ t → asksPair L Q (allBytes (asked wayOf) Q ds) g k out work ≡ 26
       go false e = asked-26 (ofSignature g) k out work room (omega arith) b e
       go true e =
           let m : k - offsetOf Q ≡ suc (k - offsetOf Q - 1) = omega arith in
@@ -167,7 +168,7 @@ module _ (L : List ℕ) (ok : listRefusal L ≡ 0) (Q : List ℕ) (s : Stands L 
             k - offsetOf Q - 1,
             omega arith,
             omega arith,
-            given L ok (frontierOf Q) small (bytesOf Q ds) (suc (k - offsetOf Q - 1)) (omega arith) (ofSignature g) .1 (rw m at e),
+            given L ok (frontierOf Q) small (allBytes (asked wayOf) Q ds) (suc (k - offsetOf Q - 1)) (omega arith) (ofSignature g) .1 (rw m at e),
           )))
 
   explains-all : Explained L Q ds
@@ -175,22 +176,22 @@ module _ (L : List ℕ) (ok : listRefusal L ≡ 0) (Q : List ℕ) (s : Stands L 
       record {
         told = told-0;
         untold = untold-26;
-        stands = λ x. rw (ran .config) (rw (take-length (bytesOf Q ds)) at (given L ok (frontierOf Q) small (bytesOf Q ds) (length (bytesOf Q ds)) (omega arith) (ofState x)));
+        stands = λ x. rw (ran .config) (rw (take-length (allBytes (asked wayOf) Q ds)) at (given L ok (frontierOf Q) small (allBytes (asked wayOf) Q ds) (length (allBytes (asked wayOf) Q ds)) (omega arith) (ofState x)));
       }
 
 -- ---- one call on a record just opened, as a driver makes it
 
 pub asked-told : (L : List ℕ) → listRefusal L ≡ 0 → (c : Call) → Bytes (c .piece) → Swaps L (opened L) c → (out work : List ℕ) → Roomy (length (c .piece)) out work → (g k : ℕ)
-    → Pair (take (2 * outcome (opened L) c .pairs) (outcome (opened L) c .words)) g k
-    → verdict (whyRules L (opened L) 0 (take (outcome (opened L) c .bytes) (c .piece)) (ofSignature g) k out work) ≡ 0
+    → Pair (take (2 * outcome wayOf (opened L) c .pairs) (outcome wayOf (opened L) c .words)) g k
+    → verdict (whyRules L (opened L) 0 (take (outcome wayOf (opened L) c .bytes) (c .piece)) (ofSignature g) k out work) ≡ 0
 unfolding allBytes allTold
 asked-told L ok c hb h out work room g k p =
     let o = opened-offset L in
-    let told : Pair (wordsOf (opened L) (c ∷ [])) g k = rw (append-nil (take (2 * outcome (opened L) c .pairs) (outcome (opened L) c .words))) p in
+    let told : Pair (allTold (asked wayOf) (opened L) (c ∷ [])) g k = rw (append-nil (take (2 * outcome wayOf (opened L) c .pairs) (outcome wayOf (opened L) c .words))) p in
     let w = saved-runs L ok (opened L) (stands-opened L) (c ∷ []) (hb, tt) (h, tt) g k .0 told in
-    let long : length (bytesOf (opened L) (c ∷ [])) ≤ length (c .piece) = rw (append-nil (take (outcome (opened L) c .bytes) (c .piece))) (length-take-most (outcome (opened L) c .bytes) (c .piece)) in
+    let long : length (allBytes (asked wayOf) (opened L) (c ∷ [])) ≤ length (c .piece) = rw (append-nil (take (outcome wayOf (opened L) c .bytes) (c .piece))) (length-take-most (outcome wayOf (opened L) c .bytes) (c .piece)) in
     let few : k - offsetOf (opened L) ≤ length (c .piece) = omega (arith, w .1, w .2, long) in
-    ap₂ (λ (at : ℕ) (bs : List ℕ). verdict (whyRules L (opened L) at bs (ofSignature g) k out work)) (sym o) (sym (append-nil (take (outcome (opened L) c .bytes) (c .piece))))
+    ap₂ (λ (at : ℕ) (bs : List ℕ). verdict (whyRules L (opened L) at bs (ofSignature g) k out work)) (sym o) (sym (append-nil (take (outcome wayOf (opened L) c .bytes) (c .piece))))
     ∙ told-0 L ok (opened L) (stands-opened L) (c ∷ []) (hb, tt) (h, tt) g k out work (omega (arith, few, room .0), omega (arith, few, room .1)) told
 
 -- ---- from an opening on
@@ -206,18 +207,18 @@ list-reasons L R out z cs ds hc hd fc fd =
     let q = begins L R out z in
     let o = openFlow L R out in
     let s : Stands L (o .saved) = rw (q .1) (stands-opened L) in
-    let due-all = due-said L (bytesOf (o .saved) cs) _ (swapped L R out z cs hc fc .flows .due) in
+    let due-all = due-said L (allBytes (asked wayOf) (o .saved) cs) _ (swapped L R out z cs hc fc .flows .due) in
     let zero-offset : offsetOf (o .saved) ≡ 0 = rw (q .1) (opened-offset L) in
     let first : frontierOf (o .saved) ≡ start L = rw (q .1) (opened-frontier L) in
     record {
       flow = λ g k. (
-        λ p. let w = due-all g k .0 p in (w .0, given L ok (start L) (start-lt L) (bytesOf (o .saved) cs) k (w .0) (ofSignature g) .1 (w .1)),
-        λ w. due-all g k .1 (w .0, given L ok (start L) (start-lt L) (bytesOf (o .saved) cs) k (w .0) (ofSignature g) .0 (w .1)),
+        λ p. let w = due-all g k .0 p in (w .0, given L ok (start L) (start-lt L) (allBytes (asked wayOf) (o .saved) cs) k (w .0) (ofSignature g) .1 (w .1)),
+        λ w. due-all g k .1 (w .0, given L ok (start L) (start-lt L) (allBytes (asked wayOf) (o .saved) cs) k (w .0) (ofSignature g) .0 (w .1)),
       );
       opening = λ g k run work room p.
           let w = due-all g k .0 p in
           let e : k - offsetOf (o .saved) ≡ k = omega (arith, zero-offset) in
           asked-0 L ok (o .saved) s cs hc fc (ofSignature g) k run work (rw e room) (omega (arith, zero-offset)) (omega (arith, zero-offset, w .0)) (rw (e, first) (w .1));
-      saved = saved-runs L ok (after (o .saved) cs) (stands-on L (o .saved) cs s hc fc) ds hd fd;
-      explained = explains-all L ok (after (o .saved) cs) (stands-on L (o .saved) cs s hc fc) ds hd fd;
+      saved = saved-runs L ok (recordAfter (asked wayOf) (o .saved) cs) (stands-on L (o .saved) cs s hc fc) ds hd fd;
+      explained = explains-all L ok (recordAfter (asked wayOf) (o .saved) cs) (stands-on L (o .saved) cs s hc fc) ds hd fd;
     }

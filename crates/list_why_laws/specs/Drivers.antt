@@ -9,11 +9,12 @@ use Rattle.feed.specs.Fed.{Answers}
 use Rattle.feed.specs.declared.Fed.{Fed}
 use Rattle.feed.specs.declared.Opened.{Opened}
 use Rattle.feed.specs.Opening.{Opens}
-use Rattle.list_feed.specs.Plain.{openFlow}
+use Rattle.list_flow.specs.Opening.{openFlow}
 use Rattle.table.specs.Table.{Table, tableRefusal}
 use Rattle.matrix.specs.Matrix.{Fills}
 use Rattle.index_fill.specs.Filled.{FillsIndex}
-use Rattle.laws.specs.Calls.{outcome}
+use Rattle.feed.specs.Calls.{outcome}
+use Rattle.laws.specs.Calls.{wayOf}
 use Rattle.laws.specs.Drivers.{viaBy, callOf}
 use Rattle.list_why.specs.Run.{ofSignature}
 use Rattle.list_why.specs.Reason.{whyRules}
@@ -31,7 +32,7 @@ pub record WhyDriven (L : List ℕ) (b : ℕ) (T : Table) (R S out X₀ X Y₀ Y
   pub indexes : FillsIndex L b T Y₀ indexed Y
   pub opens : first .refusal ≡ openFlow L R out .refusal
   pub opens-again : again .refusal ≡ openFlow L S (openFlow L R out .words) .refusal
-  pub feeds : Answers (outcome (openFlow L S (openFlow L R out .words) .saved) (callOf L (viaBy b T X Y kind) 0 piece (openFlow L S (openFlow L R out .words) .words))) fed words Q
+  pub feeds : Answers (outcome wayOf (openFlow L S (openFlow L R out .words) .saved) (callOf L (viaBy b T X Y kind) 0 piece (openFlow L S (openFlow L R out .words) .words))) fed words Q
   pub asks : (refusal ≡ 0) ↔ AllAnswered L (openFlow L R out .saved) (take (fed .bytes) piece) words (fed .pairs) run work
   -- where all before them answered 0, and the buffers are long enough for the piece, no question was refused
   pub never-26 : checked ≡ 0 → filled ≡ 0 → indexed ≡ 0 → first .refusal ≡ 0 → again .refusal ≡ 0 → length piece < length run → 128 * suc (length piece) ≤ length work → refusal ≡ 0

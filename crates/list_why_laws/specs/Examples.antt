@@ -2,12 +2,13 @@
 use Prim.Native.Nat.{ℕ}
 use mathlib.Core.List.{List, [], _∷_, _++_}
 use lib.ListN.{take}
-use Rattle.sets.specs.Set.{digits, setBytes}
+use Rattle.numbers.specs.Number.{digits}
+use Rattle.sets.specs.Set.{setBytes}
 use Rattle.rules.specs.Scan.{first}
 use Rattle.rules.specs.Rules.{verdict}
 use Rattle.list.specs.List.{records}
 use Rattle.list_flow.specs.Flow.{flowBytes}
-use Rattle.list_feed.specs.Plain.{opened}
+use Rattle.list_flow.specs.Opening.{opened}
 use Rattle.list_why.specs.Run.{Question, ofSignature, ofState}
 use Rattle.list_why.specs.Reason.{reason, fronts, whyRules, links, edgeRules}
 use Rattle.laws_examples.specs.Examples.{Row, L, loud, L₀, starts}

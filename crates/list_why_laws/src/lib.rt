@@ -7,7 +7,8 @@ ghost use mathlib.Core.Logic.{_↔_};
 ghost use lib.ListN.{length, take};
 ghost use Rattle.table.specs.Table.{table};
 ghost use Rattle.feed.specs.Fed.{Answers};
-ghost use Rattle.laws.specs.Calls.{outcome};
+ghost use Rattle.feed.specs.Calls.{outcome};
+ghost use Rattle.laws.specs.Calls.{wayOf};
 ghost use Rattle.laws.specs.Drivers.{viaBy, callOf};
 ghost use Rattle.list_why_laws.specs.Drivers.{AllAnswered, WhyDriven};
 
@@ -66,7 +67,7 @@ fn feed_and_ask(
     run: &mut [u16],
     work: &mut [u8],
 ) -> AskedFed
-    ensures { λ r. ⌜ Answers (outcome (now (flow .entry)) (callOf (now (list .entry))
+    ensures { λ r. ⌜ Answers (outcome wayOf (now (flow .entry)) (callOf (now (list .entry))
         (viaBy bound (table (now (classes .entry)) (now (parts .entry)) (now (rows .entry)) (now (splits .entry)))
         (now (matrix .entry)) (now (index .entry)) kind)
         0 (now (piece .entry)) (now (pairs .entry)))) (r .fed) (now (pairs .exit)) (now (flow .exit))
@@ -133,8 +134,8 @@ fn drive_why(
     let checked = table::check_table(list, bound, classes, parts, rows, splits);
     let filled = matrix::fill(list, matrix);
     let indexed = index_fill::fill(list, bound, classes, parts, rows, splits, index);
-    let opened = list_feed::open_flow(list, first, pairs);
-    let again = list_feed::open_flow(list, flow, pairs);
+    let opened = list_flow::open_flow(list, first, pairs);
+    let again = list_flow::open_flow(list, flow, pairs);
     let asked = feed_and_ask(
         list,
         bound,

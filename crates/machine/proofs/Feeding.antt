@@ -1,31 +1,31 @@
 -- A turn of the feed's loop: a state without a program, a program whose alerts fit, and one whose alerts do not; and the rules of a feed. Assumes nothing.
-use Prim.Native.Nat.{ℕ, _+_, _*_, _-_, _/_, _≤_, _<_}
+use Prim.Native.Nat.{ℕ, _+_, _*_, _≤_, _<_}
 use mathlib.Core.Path.{_≡_, refl, sym, ap, _∙_}
-use mathlib.Core.Bool.{Bool, true, false, cond}
+use mathlib.Core.Bool.{true, false}
 use mathlib.Core.List.{List, [], _∷_}
 use native.Mathlib.Omega.{arith}
 use native.Mathlib.Decide.{ℕ-discrete}
 use lib.ListN.{length, getD, take}
-use lib.Dec.{leb, ltb}
-use borrow.Author.Tests.{eqb-true, ltb-false, le-leb, lt-leb, not-false}
-use Rattle.sets.specs.Set.{signatures, size, members, placed}
-use Rattle.sets.proofs.Members.{members-size}
-use Rattle.sets.proofs.Placing.{placed-empty}
+use lib.Dec.{ltb}
+use Rattle.sets.specs.Set.{signatures, size}
 use Rattle.rules.specs.Rules.{verdict}
 use Rattle.rules.proofs.Rules.{passes}
 use Rattle.rules.proofs.Scanning.{and-false}
-use Rattle.feed.specs.Engine.{Engine, room, consumed, pairsAt, ended, feed, mostOffset}
-use Rattle.feed.proofs.Runs.{pairsAt-length}
+use Rattle.feed.specs.Engine.{Engine, room, consumed, ended, feed, mostOffset}
+use Rattle.feed.specs.Piece.{pieceRules}
+use Rattle.feed.proofs.Piece.{piece-passes}
 use Rattle.feed.specs.inner.Going.{Going}
-use Rattle.feed.proofs.Looping.{more-by, stop-by}
+use Rattle.feed.specs.inner.Told.{TellsAll}
+use Rattle.feed.specs.declared.Told.{Told}
+use Rattle.feed.proofs.Fitting as fitting
+use Rattle.feed.proofs.Looping.{more-by}
 use Rattle.feed.proofs.Moves.{feed-ends, feed-refused}
 use Rattle.feed.proofs.Telling.{tells-none}
 use Rattle.machine.specs.declared.Config.{Config}
 use Rattle.machine.specs.Program.{programLength, moved, programmed, alertsOf}
 use Rattle.machine.specs.Machine.{stateCount, move, badMachine, machineRules, idle, machine}
-use Rattle.machine.specs.Record.{flowLayout, offsetOf, badFlow, otherStart, tooLong, flowRules}
+use Rattle.machine.specs.Record.{flowLayout, offsetOf, badFlow, flowRules}
 use Rattle.machine.specs.Extended.{feedRules, extendedFeed}
-use Rattle.machine.specs.inner.Ran.{TellsRoom}
 use Rattle.machine.proofs.Programs.{idle-after, idle-alerted}
 
 module _ (M P : List ℕ) {x₀ : Config} {k₀ : ℕ} {piece out₀ : List ℕ} {x : Config} {out : List ℕ} {i w : ℕ} (g : Going (machine M P) x₀ k₀ piece out₀ x out i w 0)
@@ -40,32 +40,17 @@ module _ (M P : List ℕ) {x₀ : Config} {k₀ : ℕ} {piece out₀ : List ℕ}
       at (more-by g 0 0 l (sym (ap (λ (p : ℕ). alertsOf P p (moved p x)) (sym target) ∙ idle-alerted P q h (moved q x) programLength (omega arith))) (sym s) refl (omega arith) (moved q x)
       (sym (idle-after P q h (moved q x) programLength (omega arith)) ∙ ap (λ (p : ℕ). programmed P p (moved p x)) target) out (n .wrote) 0 refl)
 
-  module _ {G n : ℕ} {left : List ℕ} (alerts : G ≡ alertsOf P q (moved q x)) (told : TellsRoom G out w (k₀ + i + 1) n left) where
+  module _ {G : ℕ} {t : Told} {left : List ℕ} (alerts : G ≡ alertsOf P q (moved q x)) (told : TellsAll G out w (k₀ + i + 1) t left) where
     same : G ≡ machine M P .alerts x (getD piece i 0)
     same = alerts ∙ ap (λ (p : ℕ). alertsOf P p (moved p x)) target
 
     -- they fit: the byte is consumed
-    pub goes-on : n ≤ (length out - w) / 2 → (y : Config) → y ≡ programmed P q (moved q x) → Going (machine M P) x₀ k₀ piece out₀ y left (i + 1) (w + 2 * n) 0
-    goes-on f y e =
-        more-by g G n l same (told .many) refl f y (e ∙ ap (λ (p : ℕ). programmed P p (moved p x)) target) left
-        (rw (le-leb n ((length out - w) / 2) f) at (told .wrote)) 0 refl
+    pub goes-on : t .fits ≡ true → (y : Config) → y ≡ programmed P q (moved q x) → Going (machine M P) x₀ k₀ piece out₀ y left (i + 1) (t .words) 0
+    goes-on f y e = fitting.goes-on g l told same f refl y (e ∙ ap (λ (p : ℕ). programmed P p (moved p x)) target) 0 refl
 
     -- they do not: the loop ends where it stands
-    pub stops : (length out - w) / 2 < n → (consumed (machine M P) x₀ (room out₀) piece ≡ i) × Going (machine M P) x₀ k₀ piece out₀ x left i w 0
-    stops f = (stop-by g G n l same (told .many) f, rw (rw (lt-leb n ((length out - w) / 2) f) at (told .wrote)) g)
-
--- ---- telling alerts
-
-pub none-size : (G : ℕ) → G ≡ 0 → 0 ≡ size signatures G
-none-size G e = let n = tells-none [] 0 0 G e in omega (arith, n .next)
-
--- no pairs are due
-pub room-none : (G : ℕ) (out : List ℕ) (w k n : ℕ) → n ≡ 0 → n ≡ size signatures G → TellsRoom G out w k n out
-room-none G out w k n z e = record { many = e; wrote = go (leb n ((length out - w) / 2)) }
-  where
-    go : (b : Bool) → out ≡ cond b (placed out w (pairsAt k (members signatures G))) out
-    go true = placed-empty out w (pairsAt k (members signatures G)) (pairsAt-length k (members signatures G) ∙ omega (arith, members-size signatures G))
-    go false = refl
+    pub stops : t .fits ≡ false → (consumed (machine M P) x₀ (room out₀) piece ≡ i) × Going (machine M P) x₀ k₀ piece out₀ x left i w 0
+    stops f = fitting.stops g l told same f
 
 -- ---- the rules
 
@@ -75,10 +60,9 @@ module _ (M P R : List ℕ) (at : ℕ) (piece : List ℕ) where
       → (badMachine M P ≡ false) × (badFlow (stateCount M) R ≡ false) × (at ≡ offsetOf R) × (offsetOf R + length piece ≤ mostOffset)
   feed-passes v =
       let m = passes 23 (badMachine M P) (flowRules (stateCount M) R at piece) v in
-      let a = passes 3 (badFlow (stateCount M) R) ((5, otherStart R at) ∷ (6, tooLong R piece) ∷ []) (m .1) in
-      let b = passes 4 (otherStart R at) ((6, tooLong R piece) ∷ []) (a .1) in
-      let c = passes 5 (tooLong R piece) [] (b .1) in
-      (m .0, a .0, eqb-true at (offsetOf R) (not-false _ (b .0)), ltb-false mostOffset (offsetOf R + length piece) (c .0))
+      let a = passes 3 (badFlow (stateCount M) R) (pieceRules (offsetOf R) at piece) (m .1) in
+      let p = piece-passes (offsetOf R) at piece (a .1) in
+      (m .0, a .0, p .0, p .1)
 
   -- nothing halts, so a feed refuses by its rules alone
   pub extended-refusal : (out : List ℕ) → extendedFeed M P R at piece out .refusal ≡ verdict (feedRules M P R at piece)

@@ -13,8 +13,9 @@ use lib.Arith.{digits-mod}
 use lib.Pow.{shl-exact}
 use lib.Bits.{bitOr, bitXor, differ, or-self, or-add-and, xor-add-and, xor-shr, xor-step}
 use borrow.Author.Tests.{ltb-true, eqb-true, eq-eqb, ne-eqb}
-use Rattle.sets.specs.Set.{signatures, sigWords, bit, holds, join, insert}
-use Rattle.sets.proofs.Laws.{two-pos}
+use Rattle.numbers.specs.Number.{bit}
+use Rattle.sets.specs.Set.{signatures, sigWords, holds, join, insert}
+use Rattle.numbers.proofs.Laws.{two-pos}
 use Rattle.sets.proofs.Sets.{holds-join, holds-pow, holds-insert, insert-lt, join-assoc}
 use Rattle.rules.proofs.Scanning.{both, either-words, equal-words}
 use Rattle.machine.specs.declared.Config.{Config}

@@ -9,7 +9,7 @@ use lib.ListN.{length, getD, drop, replicate, length-replicate, List·getD-eq-de
 use lib.Dec.{eqb, ltb, leb, lit<}
 use lib.Pow.{pow-pos}
 use borrow.Author.Tests.{eq-eqb, lt-ltb, le-leb}
-use Rattle.sets.proofs.Laws.{num-take-lt}
+use Rattle.numbers.proofs.Laws.{num-take-lt}
 use Rattle.rules.proofs.Scanning.{every-all}
 use Rattle.feed.specs.Calls.{Bytes}
 use Rattle.feed.proofs.Runs.{bytes-drop}

@@ -7,7 +7,7 @@ use native.Mathlib.Omega.{arith}
 use native.Mathlib.Decide.{ℕ-discrete}
 use lib.ListN.{length}
 use lib.Dec.{eqb}
-use borrow.Author.Tests.{eqb-true, not-false, lt-ltb, le-ltb, ltb-false, le-leb, lt-leb}
+use borrow.Author.Tests.{eqb-true, not-false, lt-ltb, le-ltb, ltb-false, leb-true, leb-false}
 use Rattle.sets.specs.Set.{signatures, size, members}
 use Rattle.sets.proofs.Members.{members-size, members-most}
 use Rattle.rules.specs.Rules.{verdict}
@@ -15,12 +15,13 @@ use Rattle.rules.proofs.Rules.{stop, last, passes, passes-front, verdict-then, 
 use Rattle.feed.specs.declared.Opened.{Opened}
 use Rattle.feed.specs.Engine.{room}
 use Rattle.feed.specs.Opening.{noRoom, Opens}
+use Rattle.feed.specs.inner.Told.{TellsAll}
+use Rattle.feed.specs.declared.Told.{Told}
 use Rattle.feed.proofs.Runs.{pairsAt-length}
 use Rattle.feed.proofs.Opening.{opening-refusal, opening-fits, opens-told, opens-refused}
 use Rattle.machine.specs.Machine.{badMachine, firstAlerts}
 use Rattle.machine.specs.Record.{flowSize, wrongSize}
 use Rattle.machine.specs.Extended.{openPairs, firstRules, openRules, extendedOpen, opened}
-use Rattle.machine.specs.inner.Ran.{TellsRoom}
 
 -- ---- how many pairs
 
@@ -75,21 +76,22 @@ module _ (M P R out : List ℕ) where
       let e = verdict-refused (firstRules M P R) ((15, noRoom (openPairs P) out) ∷ []) v in
       opens-refused (openRules M P R out) (openPairs P) (opened P) R out (λ z. v (sym e ∙ z)) f (n ∙ sym e) p
 
-  module _ (G n : ℕ) (first : G ≡ firstAlerts P) (left : List ℕ) (told : TellsRoom G out 0 0 n left) (v : verdict (firstRules M P R) ≡ 0) where
-    many : n ≡ length (openPairs P) / 2
-    many = told .many ∙ ap (size signatures) first ∙ omega (arith, openPairs-long P)
+  module _ (G : ℕ) (first : G ≡ firstAlerts P) (t : Told) (left : List ℕ) (told : TellsAll G out 0 0 t left) (v : verdict (firstRules M P R) ≡ 0) where
+    many : size signatures G ≡ length (openPairs P) / 2
+    many = ap (size signatures) first ∙ omega (arith, openPairs-long P)
 
     -- 15: the pairs do not fit, and no word is written
-    pub open-full : (f : Opened) → length out / 2 < n → f .refusal ≡ 15 → f .pairs ≡ 0 → Opens (extendedOpen M P R out) f left R
-    open-full f l r p =
+    pub open-full : (f : Opened) → t .fits ≡ false → f .refusal ≡ 15 → f .pairs ≡ 0 → Opens (extendedOpen M P R out) f left R
+    open-full f b r p =
+        let l = leb-false (size signatures G) ((length out - 0) / 2) (sym (told .fits) ∙ b) in
         let e : verdict (openRules M P R out) ≡ 15 = past v ∙ stop 15 [] (lt-ltb (room out) (length (openPairs P) / 2) (omega (arith, many))) in
-        let s : left ≡ out = rw (lt-leb n ((length out - 0) / 2) (omega arith)) at (told .wrote) in
-        rw s (opens-refused (openRules M P R out) (openPairs P) (opened P) R out (λ z. omega (arith, e, z)) f (r ∙ sym e) p)
+        rw (rw b at (told .wrote)) (opens-refused (openRules M P R out) (openPairs P) (opened P) R out (λ z. omega (arith, e, z)) f (r ∙ sym e) p)
 
     -- they fit: they are told, and the start state after its program is saved
-    pub open-told : (f : Opened) → n ≤ length out / 2 → f .refusal ≡ 0 → f .pairs ≡ n → (sv : List ℕ) → sv ≡ opened P → Opens (extendedOpen M P R out) f left sv
+    pub open-told : (f : Opened) → t .fits ≡ true → f .refusal ≡ 0 → f .pairs ≡ t .words / 2 → (sv : List ℕ) → sv ≡ opened P → Opens (extendedOpen M P R out) f left sv
     unfolding openPairs
-    open-told f l r p sv s =
+    open-told f b r p sv s =
+        let l = leb-true (size signatures G) ((length out - 0) / 2) (sym (told .fits) ∙ b) in
         let e : verdict (openRules M P R out) ≡ 0 = past v ∙ last 15 (le-ltb (room out) (length (openPairs P) / 2) (omega (arith, many))) in
-        opens-told (openRules M P R out) (openPairs P) (opened P) R out e (omega (arith, openPairs-long P, many)) f r (p ∙ many) left sv
-        (rw (le-leb n ((length out - 0) / 2) (omega arith), first) at (told .wrote)) s
+        opens-told (openRules M P R out) (openPairs P) (opened P) R out e (omega (arith, openPairs-long P, many)) f r
+        (p ∙ omega (arith, rw b at (told .words), many)) left sv (rw (b, first) at (told .wrote)) s

@@ -12,7 +12,7 @@ use lib.Seq.{getD-take, getD-drop}
 use lib.Dec.{eqb}
 use lib.Pow.{pow-pos}
 use borrow.Author.Tests.{eqb-true, eq-eqb, ne-eqb}
-use Rattle.sets.specs.Set.{num}
+use Rattle.numbers.specs.Number.{num}
 use Rattle.sets.proofs.Words.{Laid}
 use Rattle.rules.specs.Scan.{every}
 use Rattle.rules.proofs.Scanning.{every-at, every-all, every-fails}

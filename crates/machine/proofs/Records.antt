@@ -10,9 +10,9 @@ use lib.Seq.{take-at, drop-at, drop-drop, drop-nil, take-all, length-take-le, ta
 use lib.Dec.{eqb, ltb, leb, lit<}
 use lib.Pow.{pow-pos}
 use borrow.Author.Tests.{eqb-true, eq-eqb, ltb-true, lt-ltb, leb-true, le-leb, not-false}
-use Rattle.sets.specs.Set.{num, digits, placed}
-use Rattle.sets.proofs.Laws.{num-digits, length-digits, digits-num, num-take-lt}
-use Rattle.sets.proofs.Placing.{placed-after, placed-all}
+use Rattle.numbers.specs.Number.{num, digits, placed}
+use Rattle.numbers.proofs.Laws.{num-digits, length-digits, digits-num, num-take-lt}
+use Rattle.numbers.proofs.Placing.{placed-after, placed-all}
 use Rattle.rules.specs.Scan.{every}
 use Rattle.rules.proofs.Scanning.{neither, every-at, every-all}
 use Rattle.feed.specs.Engine.{mostOffset}

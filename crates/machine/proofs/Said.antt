@@ -9,14 +9,14 @@ use lib.ListN.{length, getD, take, drop}
 use lib.Seq.{drop-drop}
 use lib.Dec.{eqb, ltb, leb}
 use borrow.Author.Tests.{ltb-true, lt-ltb, ltb-false, le-ltb, leb-false, lt-leb, not-true}
-use Rattle.sets.specs.Set.{signatures, num, size}
+use Rattle.numbers.specs.Number.{num}
+use Rattle.sets.specs.Set.{signatures, size}
 use Rattle.rules.specs.Scan.{every}
 use Rattle.rules.proofs.Scanning.{both, choose, either-words, differ-words, over-words, length-words, refuses-exactly}
-use Rattle.feed.specs.Engine.{mostOffset}
 use Rattle.feed.specs.Opening.{noRoom}
 use Rattle.machine.specs.Program.{bitCount, counterCount, off, programLength, word, kindOf, whichOf, numberOf}
 use Rattle.machine.specs.Machine.{mostStates, byteValues, moveSize, programSize, stateCount, move, badLengths, goodTarget, whichLimits, numberLimits, goodInstruction, goodRecord, badMachine, firstAlerts}
-use Rattle.machine.specs.Record.{flowSize, stateOf, reservedOf, offsetOf, configAt, configOf, wrongSize, goodCounters, badFlow, otherStart, tooLong}
+use Rattle.machine.specs.Record.{flowSize, stateOf, reservedOf, configAt, configOf, wrongSize, goodCounters, badFlow}
 use Rattle.machine.specs.Extended.{openPairs}
 use Rattle.machine.specs.Words.{Miscounted, Astray, Instruction, Faulty, four, BadFlow}
 use Rattle.machine.proofs.Instructions.{which-below, number-below}
@@ -141,14 +141,6 @@ module _ (R : List ℕ) where
       (λ e. ltb-false (stateOf R) n (not-true (ltb (stateOf R) n) e), λ l. ap not (le-ltb (stateOf R) n l)))
       (differ-words (reservedOf R) 0))
       counters-said
-
-  -- 5: the stated start is not the offset
-  pub start-said : (at : ℕ) → otherStart R at ≡ true ↔ (at ≡ offsetOf R → ⊥)
-  start-said at = differ-words at (offsetOf R)
-
-  -- 6: the whole piece ends past the largest offset
-  pub long-said : (piece : List ℕ) → tooLong R piece ≡ true ↔ (mostOffset < offsetOf R + length piece)
-  long-said piece = over-words mostOffset (offsetOf R + length piece)
 
 -- 15: fewer words than two for each signature that the start state's program alerts
 pub room-said : (P out : List ℕ) → noRoom (openPairs P) out ≡ true ↔ (length out < 2 * size signatures (firstAlerts P))

@@ -9,8 +9,9 @@ use native.Mathlib.Decide.{ℕ-discrete}
 use lib.ListN.{length, getD, take, drop}
 use lib.Dec.{eqb, ltb}
 use borrow.Author.Tests.{eqb-true, eq-eqb, ne-eqb, ltb-true, lt-ltb}
-use Rattle.sets.specs.Set.{signatures, num, holds}
-use Rattle.sets.proofs.Bytes.{num-two}
+use Rattle.numbers.specs.Number.{num}
+use Rattle.sets.specs.Set.{signatures, holds}
+use Rattle.numbers.proofs.Bytes.{num-two}
 use Rattle.sets.proofs.Sets.{holds-empty}
 use Rattle.rules.proofs.Scanning.{both, choose, or-cases, or-true}
 use Rattle.feed.specs.Engine.{Engine}

@@ -4,7 +4,7 @@ use mathlib.Core.Bool.{Bool, false, _&&_, _||_, not}
 use mathlib.Core.List.{List, [], _∷_}
 use lib.ListN.{length, getD, take, drop}
 use lib.Dec.{ltb, eqb}
-use Rattle.sets.specs.Set.{num}
+use Rattle.numbers.specs.Number.{num}
 use Rattle.rules.specs.Scan.{every}
 use Rattle.rules.specs.Rules.{Rule, verdict}
 use Rattle.feed.specs.Engine.{Engine}

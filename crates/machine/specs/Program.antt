@@ -5,7 +5,8 @@ use mathlib.Core.List.{List}
 use lib.ListN.{getD, set, replicate, take, drop}
 use lib.Dec.{eqb}
 use lib.Bits.{bitXor}
-use Rattle.sets.specs.Set.{signatures, num, holds, join, insert}
+use Rattle.numbers.specs.Number.{num}
+use Rattle.sets.specs.Set.{signatures, holds, join, insert}
 use Rattle.machine.specs.declared.Config.{Config}
 
 -- ---- sizes: each stands here, and once in src/

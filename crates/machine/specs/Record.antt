@@ -4,10 +4,11 @@ use mathlib.Core.Bool.{Bool, _||_, not}
 use mathlib.Core.List.{List, [], _∷_, _++_}
 use lib.ListN.{length, getD, take, drop}
 use lib.Dec.{leb, ltb, eqb}
-use Rattle.sets.specs.Set.{num, digits}
+use Rattle.numbers.specs.Number.{num, digits}
 use Rattle.rules.specs.Scan.{every}
 use Rattle.rules.specs.Rules.{Rule}
-use Rattle.feed.specs.Engine.{Layout, mostOffset}
+use Rattle.feed.specs.Engine.{Layout}
+use Rattle.feed.specs.Piece.{pieceRules}
 use Rattle.machine.specs.declared.Config.{Config}
 use Rattle.machine.specs.Program.{counterCount, off}
 
@@ -64,14 +65,6 @@ goodCounters cs = every counterCount (λ i. leb (getD cs i 0) off)
 unfoldable pub badFlow : ℕ → List ℕ → Bool
 badFlow n R = wrongSize R || not (ltb (stateOf R) n) || not (eqb (reservedOf R) 0) || not (goodCounters (configOf R .counters))
 
--- 5: the piece's stated start differs from the flow's offset
-abbrev pub otherStart : List ℕ → ℕ → Bool
-otherStart R at = not (eqb at (offsetOf R))
-
--- 6: offset + piece length is over the largest offset
-abbrev pub tooLong : List ℕ → List ℕ → Bool
-tooLong R piece = ltb mostOffset (offsetOf R + length piece)
-
 -- 4 to 6, in this order
 abbrev pub flowRules : ℕ → List ℕ → ℕ → List ℕ → List Rule
-flowRules n R at piece = (4, badFlow n R) ∷ (5, otherStart R at) ∷ (6, tooLong R piece) ∷ []
+flowRules n R at piece = (4, badFlow n R) ∷ pieceRules (offsetOf R) at piece

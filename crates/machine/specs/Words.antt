@@ -6,9 +6,11 @@ use mathlib.Core.Bool.{true, false}
 use mathlib.Core.List.{List, [], _∷_, _++_}
 use mathlib.Core.Logic.{_⊎_, _↔_}
 use lib.ListN.{length, getD, replicate, take, drop}
-use Rattle.sets.specs.Set.{num, size, holds}
+use Rattle.numbers.specs.Number.{num}
+use Rattle.sets.specs.Set.{size, holds}
 use Rattle.rules.specs.Words.{Row}
 use Rattle.feed.specs.Engine.{Engine}
+use Rattle.feed.specs.Piece.{pieceWords}
 use Rattle.machine.specs.declared.Config.{Config}
 use Rattle.machine.specs.Program.{kindOf, whichOf, numberOf}
 use Rattle.machine.specs.Machine.{move, machine, first, firstAlerts}
@@ -116,4 +118,4 @@ abbrev pub openWords : List ℕ → List ℕ → List ℕ → List ℕ → List 
 openWords M P R out = machineWords M P ++ ((4, length R ≡ 80 → ⊥) ∷ (15, length out < 2 * size 256 (firstAlerts P)) ∷ [])
 
 abbrev pub feedWords : List ℕ → List ℕ → List ℕ → ℕ → List ℕ → List Row
-feedWords M P R k piece = machineWords M P ++ ((4, BadFlow (length M / 512) R) ∷ (5, k ≡ four R 4 → ⊥) ∷ (6, 4294967295 < four R 4 + length piece) ∷ [])
+feedWords M P R k piece = machineWords M P ++ ((4, BadFlow (length M / 512) R) ∷ pieceWords (four R 4) k piece)

@@ -1,25 +1,28 @@
 // The automaton with bits and counters: its check, opening a flow, and the feed that runs it over a piece, byte by byte.
 use feed::Fed;
 use feed::Opened;
+use feed::Told;
 use sets::SigSet;
 ghost use mathlib.Core.Path.{_≡_};
 ghost use mathlib.Core.Bool.{true, false};
 ghost use Prim.Native.Nat.{_+_, _*_, _/_, _≤_, _<_};
 ghost use lib.ListN.{length, take, drop};
 ghost use lib.Dec.{eqb};
-ghost use Rattle.sets.specs.Set.{signatures, sigWords, sigsOf, num, size, placed};
+ghost use Rattle.numbers.specs.Number.{num, placed};
+ghost use Rattle.sets.specs.Set.{signatures, sigWords, sigsOf, size};
 ghost use Rattle.rules.specs.Scan.{every};
 ghost use Rattle.rules.specs.Rules.{verdict};
 ghost use Rattle.feed.specs.Engine.{mostOffset, room, consumed};
 ghost use Rattle.feed.specs.Fed.{Answers};
 ghost use Rattle.feed.specs.Opening.{Opens};
 ghost use Rattle.feed.specs.inner.Going.{Going};
+ghost use Rattle.feed.specs.inner.Told.{TellsAll};
 ghost use Rattle.machine.specs.Program.{counterCount, programLength, lower, bitsBy, countersBy, alertNow, word};
 ghost use Rattle.machine.specs.Machine.{mostStates, byteValues, moveSize, programSize, stateCount, move, badLengths, goodTarget, goodInstruction, goodRecord};
 ghost use Rattle.machine.specs.Machine.{badMachine, machineRefusal, idle, machine};
 ghost use Rattle.machine.specs.Record.{flowSize, offsetOf, fours, configAt, configOf, fourBytes, flowBytes, goodCounters, badFlow, flowRules};
 ghost use Rattle.machine.specs.Extended.{firstRules, extendedOpen, feedRules, extendedFeed};
-ghost use Rattle.machine.specs.inner.Ran.{Runs, Programs, TellsRoom};
+ghost use Rattle.machine.specs.inner.Ran.{Runs, Programs};
 
 // The most states of a machine.
 pub const X_STATES: usize = 1024;
@@ -42,8 +45,10 @@ pub const X_COUNTERS: usize = 16;
 // A counter that is off.
 pub const X_OFF: u32 = 65536;
 
-// Bytes in a flow record, and the places of its offset, bits and counters.
+// Bytes in a flow record, and the places of its reserved bytes, offset, bits and counters. The state stands first.
 pub const X_FLOW_SIZE: usize = 80;
+
+const X_RESERVED_AT: usize = 2;
 
 const X_OFFSET_AT: usize = 4;
 
@@ -199,7 +204,7 @@ fn eight_bytes(b: &[u8], at: usize) -> u64
     requires { ⌜ at + 8 ≤ length (now b) ⌝ }
     ensures { λ r. ⌜ r ≡ num 8 (take 8 (drop at (now (b .entry)))) ⌝ }
 {
-    sets::whole_number(b, at, 8)
+    numbers::whole_number(b, at, 8)
 }
 
 // Says whether the program of state q does nothing.
@@ -345,33 +350,25 @@ fn none_of(g: SigSet) -> bool
     all == 0
 }
 
-// How many signatures a set has; one without any costs little.
-fn many(g: SigSet) -> usize
-    ensures { λ r. ⌜ r ≡ size signatures (sigsOf g) ⌝ }
-{
-    if none_of(g) { 0 } else { g.count() as usize }
-}
-
-// Tells the pairs of a set from word `words` on, where there is room for all of them; answers how many they are.
-fn tell_alerts(pairs: &mut [u32], words: usize, g: SigSet, offset: u32) -> usize
+// Tells a set of signatures behind the words that are written: all of it, or nothing where it does not fit. One without any costs little.
+fn tell_alerts(pairs: &mut [u32], words: usize, g: SigSet, offset: u32) -> Told
     requires { ⌜ words ≤ length (now pairs) ⌝ }
-    ensures { λ n. ⌜ TellsRoom (sigsOf g) (now (pairs .entry)) words offset n (now (pairs .exit)) ⌝ }
+    ensures { λ t. ⌜ TellsAll (sigsOf g) (now (pairs .entry)) words offset t (now (pairs .exit)) ⌝ }
 {
-    let n = many(g);
-    if n == 0 {
-        return 0;
+    if none_of(g) {
+        return Told {
+            fits: true,
+            words: words,
+        };
     }
-    if n <= (pairs.len() - words) / 2 {
-        feed::tell(pairs, words, g, offset);
-    }
-    n
+    feed::tell_all(pairs, words, g, offset)
 }
 
 // The offset of a record.
 pub fn offset_of(flow: &[u8]) -> u64
     ensures { λ r. ⌜ r ≡ offsetOf (now (flow .entry)) ⌝ }
 {
-    sets::number_at(flow, X_OFFSET_AT, 4)
+    numbers::number_at(flow, X_OFFSET_AT, 4)
 }
 
 // The counters that stand at a place of a list of bytes, where they are all there.
@@ -381,7 +378,7 @@ fn counters_at(b: &[u8], at: usize) -> Counters
 {
     let mut c = [0u32; X_COUNTERS];
     for i in 0..X_COUNTERS {
-        c[i] = sets::whole_number(b, at + 4 * i, 4) as u32;
+        c[i] = numbers::whole_number(b, at + 4 * i, 4) as u32;
     }
     Counters { values: c }
 }
@@ -406,7 +403,7 @@ pub fn config_at(b: &[u8], at: usize, bits: usize) -> Config
     let counters = counters_at(b, at + bits + 8);
     let values = counters.values;
     Config {
-        state: sets::whole_number(b, at, 2) as usize,
+        state: numbers::whole_number(b, at, 2) as usize,
         bits: eight_bytes(b, at + bits),
         counters: values,
     }
@@ -428,7 +425,7 @@ fn bad_flow(states: usize, flow: &[u8]) -> bool
         return true;
     }
     let x = load(flow);
-    let reserved = sets::whole_number(flow, 2, 2);
+    let reserved = numbers::whole_number(flow, X_RESERVED_AT, 2);
     !(x.state < states) | (reserved != 0) | !good_counters(x)
 }
 
@@ -439,14 +436,7 @@ fn flow_refusal(states: usize, flow: &[u8], start: u64, piece: &[u8]) -> u32
     if bad_flow(states, flow) {
         return rules::FLOW_RECORD;
     }
-    let offset = offset_of(flow);
-    if start != offset {
-        return rules::OTHER_START;
-    }
-    if piece.len() as u64 > feed::MOST_OFFSET - offset {
-        return rules::TOO_LONG;
-    }
-    rules::PASSED
+    feed::piece_refusal(offset_of(flow), start, piece)
 }
 
 // The check of a feed: the number of the first of the rules 24 and 4 to 6 that refuses it, 0 where none does.
@@ -466,7 +456,7 @@ fn put_counters(flow: &mut [u8], c: Counters)
 {
     let values = c.values;
     for i in 0..X_COUNTERS {
-        sets::put_number(flow, X_COUNTERS_AT + 4 * i, 4, values[i] as u64);
+        numbers::put_number(flow, X_COUNTERS_AT + 4 * i, 4, values[i] as u64);
     }
 }
 
@@ -475,10 +465,10 @@ fn save(flow: &mut [u8], x: Config, offset: u64)
     requires { ⌜ length (now flow) ≡ flowSize ⌝ }
     ensures { λ r. ⌜ now (flow .exit) ≡ flowBytes x offset ⌝ }
 {
-    sets::put_number(flow, 0, 2, x.state as u64);
-    sets::put_number(flow, 2, 2, 0);
-    sets::put_number(flow, X_OFFSET_AT, 4, offset);
-    sets::put_number(flow, X_BITS_AT, 8, x.bits);
+    numbers::put_number(flow, 0, 2, x.state as u64);
+    numbers::put_number(flow, X_RESERVED_AT, 2, 0);
+    numbers::put_number(flow, X_OFFSET_AT, 4, offset);
+    numbers::put_number(flow, X_BITS_AT, 8, x.bits);
     let values = x.counters;
     put_counters(flow, Counters { values: values });
 }
@@ -517,9 +507,9 @@ pub fn open_flow(moves: &[u8], programs: &[u8], flow: &mut [u8], pairs: &mut [u3
         },
     );
     let alerts = first.alerts;
-    let room = pairs.len() / 2;
-    let n = tell_alerts(pairs, 0, alerts, 0);
-    if room < n {
+    let told = tell_alerts(pairs, 0, alerts, 0);
+    let fits = told.fits;
+    if !fits {
         return Opened {
             refusal: rules::NO_ROOM,
             pairs: 0,
@@ -529,7 +519,7 @@ pub fn open_flow(moves: &[u8], programs: &[u8], flow: &mut [u8], pairs: &mut [u3
     save(flow, config, 0);
     Opened {
         refusal: rules::PASSED,
-        pairs: n,
+        pairs: told.words / 2,
     }
 }
 
@@ -557,16 +547,16 @@ fn feed_bytes(
         let step = run_program(programs, q, x);
         let alerts = step.alerts;
         let after = step.config;
-        let room = (pairs.len() - words) / 2;
-        let n = tell_alerts(pairs, words, alerts, (offset + i as u64 + 1) as u32);
-        if room < n {
+        let told = tell_alerts(pairs, words, alerts, (offset + i as u64 + 1) as u32);
+        let fits = told.fits;
+        if !fits {
             return Ran {
                 config: x,
                 bytes: i,
                 words: words,
             };
         }
-        words = words + 2 * n;
+        words = told.words;
         x = after;
     }
     Ran {
@@ -594,10 +584,5 @@ pub fn feed(
     let ran = feed_bytes(moves, programs, load(flow), start, piece, pairs);
     let config = ran.config;
     save(flow, config, start + ran.bytes as u64);
-    Fed {
-        refusal: rules::PASSED,
-        bytes: ran.bytes,
-        pairs: ran.words / 2,
-        all: ran.bytes == piece.len(),
-    }
+    feed::ended(rules::PASSED, ran.bytes, ran.words, piece.len())
 }

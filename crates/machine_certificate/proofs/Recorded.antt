@@ -9,8 +9,9 @@ use lib.ListN.{getD, take, drop}
 use lib.Seq.{drop-drop}
 use lib.Dec.{eqb, ltb}
 use borrow.Author.Tests.{eqb-true, eq-eqb, ltb-false, not-true, not-false}
-use Rattle.sets.specs.Set.{num, setAt, before, compare}
-use Rattle.sets.proofs.Order.{before-irrefl, compare-before, compare-after, compare-equal}
+use Rattle.numbers.specs.Number.{num, before, compare}
+use Rattle.sets.specs.Set.{setAt}
+use Rattle.numbers.proofs.Order.{before-irrefl, compare-before, compare-after, compare-equal}
 use Rattle.rules.specs.Scan.{some, every}
 use Rattle.rules.proofs.Scanning.{both, neither, some-intro, some-elim, every-at, every-all, equal-words}
 use Rattle.machine.specs.declared.Config.{Config}

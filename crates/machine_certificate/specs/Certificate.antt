@@ -4,7 +4,8 @@ use mathlib.Core.Bool.{Bool, _&&_, _||_, not}
 use mathlib.Core.List.{List, [], _∷_, _++_}
 use lib.ListN.{length, drop}
 use lib.Dec.{ltb, eqb}
-use Rattle.sets.specs.Set.{setSize, setAt, compare}
+use Rattle.numbers.specs.Number.{compare}
+use Rattle.sets.specs.Set.{setSize, setAt}
 use Rattle.rules.specs.Scan.{some, every}
 use Rattle.rules.specs.Rules.{Rule, verdict}
 use Rattle.list.specs.List.{listRules}

@@ -3,7 +3,8 @@ use Prim.Native.Nat.{ℕ, _+_, _*_, _/_, _%_, _≤_, _<_}
 use mathlib.Core.Path.{_≡_}
 use mathlib.Core.List.{List}
 use lib.ListN.{length, getD, take, drop}
-use Rattle.sets.specs.Set.{num, holds}
+use Rattle.numbers.specs.Number.{num}
+use Rattle.sets.specs.Set.{holds}
 use Rattle.list.specs.Automaton.{start, step, accepted}
 use Rattle.feed.specs.Engine.{Engine}
 use Rattle.machine.specs.declared.Config.{Config}

@@ -18,7 +18,8 @@ use Rattle.feed.specs.Calls.{Bytes, Follows}
 use Rattle.feed.specs.Opening.{noRoom, opening}
 use Rattle.feed.proofs.Runs.{told-append}
 use Rattle.feed.proofs.Follows.{told-same}
-use Rattle.list_feed.specs.Plain.{plain, openPairs, openRules, opened, openFlow, pairsOf}
+use Rattle.list_flow.specs.Opening.{openPairs, openRules, opened, openFlow}
+use Rattle.list_feed.specs.Plain.{plain, pairsOf}
 use Rattle.laws.specs.Demands.{Due, Swapped}
 use Rattle.laws.proofs.Due.{due-all}
 use Rattle.laws.proofs.Swapping.{swapped}
@@ -31,7 +32,7 @@ use Rattle.machine_certificate.specs.Certificate.{certificateRefusal}
 use Rattle.machine_certificate.specs.Words.{Recorded, Certified}
 use Rattle.machine_certificate.proofs.Accepts.{certificate-refuses, accepts-exactly, gives-22, list-first, machine-second}
 use Rattle.machine_certificate.proofs.Following.{begins-recorded, opens-same, recorded-leads}
-use Rattle.machine_certificate_laws.specs.Alike.{Demand1, ListFlow, listBytes, listWords, MachineFlow, machineBytes, machineWords, Front, OpenedAlike, Alike, CertifiedAlike}
+use Rattle.machine_certificate_laws.specs.Alike.{Demand1, ListFlow, MachineFlow, eatenBy, toldBy, Front, OpenedAlike, Alike, CertifiedAlike}
 use Rattle.machine_certificate_laws.proofs.Next.{next-alike}
 
 pub demand-1 : Demand1
@@ -69,8 +70,8 @@ opened-alike rs qs ws S T R Q out e = rw e (go (eqb (verdict qs) 0))
         → OpenedAlike
         (cond b (record { refusal = 0; pairs = length ws / 2; words = ws ++ drop (length ws) out; saved = S }) (record { refusal = verdict qs; pairs = 0; words = out; saved = R }))
         (cond b (record { refusal = 0; pairs = length ws / 2; words = ws ++ drop (length ws) out; saved = T }) (record { refusal = verdict qs; pairs = 0; words = out; saved = Q }))
-    go true = record { refusal = refl; pairs = refl; words = refl }
-    go false = record { refusal = refl; pairs = refl; words = refl }
+    go true = refl
+    go false = refl
 
 -- two tests that pass together
 same-test : (m k n l : ℕ) → (m ≡ k) ↔ (n ≡ l) → not (eqb m k) ≡ not (eqb n l)
@@ -81,16 +82,16 @@ same-test m k n l f = elim (ℕ-discrete m k) [
 
 -- a flow of the list changes between what is checked
 pub list-swaps : (L : List ℕ) (f : ListFlow L) → Swapped L (openFlow L (f .flow) (f .out)) (f .calls)
-list-swaps L f = swapped L (f .flow) (f .out) (f .opens) (f .calls) (f .in-bytes) (f .by-list)
+list-swaps L f = swapped L (f .flow) (f .out) (f .opens) (f .calls) (f .in-bytes) (f .by)
 
 -- what a flow of the list has told is what its definition says of the bytes consumed, and what a flow of the machine has told
-list-tells : (L : List ℕ) (f : ListFlow L) → listWords L f ≡ pairsOf L (listBytes L f)
+list-tells : (L : List ℕ) (f : ListFlow L) → toldBy f ≡ pairsOf L (eatenBy f)
 unfolding openPairs
 list-tells L f = list-swaps L f .flows .due .tells
 
-machine-tells : (M P : List ℕ) → Bytes M → Bytes P → (g : MachineFlow M P) → machineWords M P g ≡ ext.pairsOf M P (machineBytes M P g)
+machine-tells : (M P : List ℕ) → Bytes M → Bytes P → (g : MachineFlow M P) → toldBy g ≡ ext.pairsOf M P (eatenBy g)
 unfolding ext.openPairs
-machine-tells M P hm hp g = demand-2-opened M P hm hp (g .flow) (g .out) (g .opens) (g .calls) (g .in-bytes) (g .by-machine) .flows .due .tells
+machine-tells M P hm hp g = demand-2-opened M P hm hp (g .flow) (g .out) (g .opens) (g .calls) (g .in-bytes) (g .by) .flows .due .tells
 
 -- a front of the bytes tells a front of the words
 front-told : (L bs cs xs ys : List ℕ) → xs ≡ pairsOf L bs → ys ≡ pairsOf L cs → Front bs cs → Front xs ys
@@ -102,8 +103,8 @@ front-told L bs cs xs ys p q w = (
 
 module _ (L M P Z : List ℕ) (hm : Bytes M) (hp : Bytes P) (ok : certificateRefusal L M P Z ≡ 0) where
   -- what a flow of the machine has told is what the list tells of the bytes consumed
-  machine-is : (g : MachineFlow M P) → machineWords M P g ≡ pairsOf L (machineBytes M P g)
-  machine-is g = machine-tells M P hm hp g ∙ pairs-both L M P Z ok (machineBytes M P g) (calls-bytes _ (g .calls) (g .in-bytes))
+  machine-is : (g : MachineFlow M P) → toldBy g ≡ pairsOf L (eatenBy g)
+  machine-is g = machine-tells M P hm hp g ∙ pairs-both L M P Z ok (eatenBy g) (calls-bytes _ (g .calls) (g .in-bytes))
 
   accepted : (listRefusal L ≡ 0) × (machineRefusal M P ≡ 0) × Certified L M P Z
   accepted = accepts-exactly L M P Z .0 ok
@@ -125,9 +126,9 @@ module _ (L M P Z : List ℕ) (hm : Bytes M) (hp : Bytes P) (ok : certificateRef
       record {
         opens = openings;
         told = λ f g e. list-tells L f ∙ ap (pairsOf L) e ∙ sym (machine-is g);
-        ahead = λ f g. front-told L (listBytes L f) (machineBytes M P g) (listWords L f) (machineWords M P g) (list-tells L f) (machine-is g);
-        behind = λ f g. front-told L (machineBytes M P g) (listBytes L f) (machineWords M P g) (listWords L f) (machine-is g) (list-tells L f);
-        due = λ g. rw (machine-is g) (due-all L (machineBytes M P g) (told (plain L) (start L) 0 (machineBytes M P g)) refl);
+        ahead = λ f g. front-told L (eatenBy f) (eatenBy g) (toldBy f) (toldBy g) (list-tells L f) (machine-is g);
+        behind = λ f g. front-told L (eatenBy g) (eatenBy f) (toldBy g) (toldBy f) (machine-is g) (list-tells L f);
+        due = λ g. rw (machine-is g) (due-all L (eatenBy g) (told (plain L) (start L) 0 (eatenBy g)) refl);
         next = λ f g e. next-alike L M P hm hp (accepted .0) (accepted .1) (Recorded Z) (follows L M P Z ok) (begins-recorded L M P Z ok) f g e (calls-bytes _ (g .calls) (g .in-bytes));
       }
 

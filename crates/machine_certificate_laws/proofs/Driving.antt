@@ -6,11 +6,12 @@ use mathlib.Core.Logic.{_↔_}
 use lib.ListN.{length, take}
 use Rattle.rules.proofs.Rules.{refuses}
 use Rattle.feed.specs.Fed.{Answers}
-use Rattle.feed.specs.Opening.{Opens}
+use Rattle.feed.specs.Opening.{Opening, Opens}
 use Rattle.feed.specs.Made.{Made}
 use Rattle.feed.specs.declared.Fed.{Fed}
 use Rattle.feed.specs.Calls.{Bytes, allBytes, allTold, recordAfter}
-use Rattle.list_feed.specs.Plain.{openPairs, openFlow, pairsOf, plainFeed}
+use Rattle.list_flow.specs.Opening.{openPairs, openFlow}
+use Rattle.list_feed.specs.Plain.{pairsOf, plainFeed}
 use Rattle.laws.specs.Calls as list
 use Rattle.laws.specs.Demands.{Due}
 use Rattle.feed.specs.Demands.{Answered}
@@ -20,9 +21,8 @@ use Rattle.machine_laws.specs.Calls.{Call}
 use Rattle.machine_laws.specs.Drivers.{outcomeOf}
 use Rattle.machine_laws.proofs.Demand1 as machine
 use Rattle.machine_certificate.specs.Certificate.{certificateRules, certificateRefusal}
-use Rattle.machine_certificate_laws.specs.Alike.{ListFlow, MachineFlow, OpenedAlike, Alike}
-use Rattle.machine_certificate_laws.specs.Alike as flow
-use Rattle.machine_certificate_laws.specs.Drivers.{Begun, byList, byMachine, wordsMade, listBytes, machineBytes, BothDriven}
+use Rattle.machine_certificate_laws.specs.Alike.{ListFlow, MachineFlow, eatenBy, toldBy, OpenedAlike, Alike}
+use Rattle.machine_certificate_laws.specs.Drivers.{Begun, byList, byMachine, wordsMade, bytesMade, BothDriven}
 use Rattle.machine_certificate_laws.proofs.Alike.{list-swaps, alike}
 
 due-as : (L bs cs ws vs : List ℕ) → bs ≡ cs → ws ≡ vs → Due L bs ws → Due L cs vs
@@ -41,26 +41,26 @@ module _ (L : List ℕ) (o : Begun) (S : List ℕ) (at : ℕ) (piece out : List 
 
   -- the flow that the two calls are
   list-flow : o .opened .refusal ≡ 0 → ListFlow L
-  list-flow z = record { flow = o .flow; out = o .out; opens = sym (opens .refusal) ∙ z; calls = listMade .call ∷ []; in-bytes = (hb, tt); by-list = (λ v. (refl, tt), tt) }
+  list-flow z = record { flow = o .flow; out = o .out; opens = sym (opens .refusal) ∙ z; calls = listMade .call ∷ []; in-bytes = (hb, tt); by = (λ v. (refl, tt), tt) }
 
   -- and before its feed
   list-begun : o .opened .refusal ≡ 0 → ListFlow L
-  list-begun z = record { flow = o .flow; out = o .out; opens = sym (opens .refusal) ∙ z; calls = []; in-bytes = tt; by-list = tt }
+  list-begun z = record { flow = o .flow; out = o .out; opens = sym (opens .refusal) ∙ z; calls = []; in-bytes = tt; by = tt }
 
-  list-bytes : (z : o .opened .refusal ≡ 0) → flow.listBytes L (list-flow z) ≡ listBytes listMade
+  list-bytes : (z : o .opened .refusal ≡ 0) → eatenBy (list-flow z) ≡ bytesMade listMade
   unfolding list-flow allBytes
   list-bytes z = append-nil _ ∙ ap (λ (n : ℕ). take n piece) (sym (list-is .bytes))
 
-  list-words : (z : o .opened .refusal ≡ 0) → flow.listWords L (list-flow z) ≡ wordsMade o listMade
+  list-words : (z : o .opened .refusal ≡ 0) → toldBy (list-flow z) ≡ wordsMade o listMade
   unfolding list-flow allTold
   list-words z =
       ap₂ (λ (x y : List ℕ). x ++ y) (ap₂ (λ (n : ℕ) (ws : List ℕ). take (2 * n) ws) (sym (opens .pairs)) (sym (opens .words)))
       (append-nil _ ∙ ap₂ (λ (n : ℕ) (ws : List ℕ). take (2 * n) ws) (sym (list-is .pairs)) (sym (list-is .words)))
 
-  list-due : o .opened .refusal ≡ 0 → Due L (listBytes listMade) (wordsMade o listMade)
+  list-due : o .opened .refusal ≡ 0 → Due L (bytesMade listMade) (wordsMade o listMade)
   list-due z =
       let f = list-flow z in
-      due-as L (flow.listBytes L f) (listBytes listMade) (flow.listWords L f) (wordsMade o listMade) (list-bytes z) (list-words z) (list-swaps L f .flows .due)
+      due-as L (eatenBy f) (bytesMade listMade) (toldBy f) (wordsMade o listMade) (list-bytes z) (list-words z) (list-swaps L f .flows .due)
 
 -- ---- the machine
 
@@ -73,25 +73,25 @@ module _ (M P : List ℕ) (o : Begun) (S : List ℕ) (at : ℕ) (piece out : Lis
   machine-is = rw (opens .saved) at feeds
 
   machine-flow : o .opened .refusal ≡ 0 → MachineFlow M P
-  machine-flow z = record { flow = o .flow; out = o .out; opens = sym (opens .refusal) ∙ z; calls = machineMade .call ∷ []; in-bytes = (hb, tt); by-machine = (λ v. (refl, refl), tt) }
+  machine-flow z = record { flow = o .flow; out = o .out; opens = sym (opens .refusal) ∙ z; calls = machineMade .call ∷ []; in-bytes = (hb, tt); by = (λ v. (refl, refl), tt) }
 
   machine-begun : o .opened .refusal ≡ 0 → MachineFlow M P
-  machine-begun z = record { flow = o .flow; out = o .out; opens = sym (opens .refusal) ∙ z; calls = []; in-bytes = tt; by-machine = tt }
+  machine-begun z = record { flow = o .flow; out = o .out; opens = sym (opens .refusal) ∙ z; calls = []; in-bytes = tt; by = tt }
 
-  machine-bytes : (z : o .opened .refusal ≡ 0) → flow.machineBytes M P (machine-flow z) ≡ machineBytes machineMade
+  machine-bytes : (z : o .opened .refusal ≡ 0) → eatenBy (machine-flow z) ≡ bytesMade machineMade
   unfolding machine-flow allBytes
   machine-bytes z = append-nil _ ∙ ap (λ (n : ℕ). take n piece) (sym (machine-is .bytes))
 
-  machine-words : (z : o .opened .refusal ≡ 0) → flow.machineWords M P (machine-flow z) ≡ wordsMade o machineMade
+  machine-words : (z : o .opened .refusal ≡ 0) → toldBy (machine-flow z) ≡ wordsMade o machineMade
   unfolding machine-flow allTold
   machine-words z =
       ap₂ (λ (x y : List ℕ). x ++ y) (ap₂ (λ (n : ℕ) (ws : List ℕ). take (2 * n) ws) (sym (opens .pairs)) (sym (opens .words)))
       (append-nil _ ∙ ap₂ (λ (n : ℕ) (ws : List ℕ). take (2 * n) ws) (sym (machine-is .pairs)) (sym (machine-is .words)))
 
-  machine-due : (L : List ℕ) → Alike L M P → o .opened .refusal ≡ 0 → Due L (machineBytes machineMade) (wordsMade o machineMade)
+  machine-due : (L : List ℕ) → Alike L M P → o .opened .refusal ≡ 0 → Due L (bytesMade machineMade) (wordsMade o machineMade)
   machine-due L a z =
       let g = machine-flow z in
-      due-as L (flow.machineBytes M P g) (machineBytes machineMade) (flow.machineWords M P g) (wordsMade o machineMade) (machine-bytes z) (machine-words z) (a .due g)
+      due-as L (eatenBy g) (bytesMade machineMade) (toldBy g) (wordsMade o machineMade) (machine-bytes z) (machine-words z) (a .due g)
 
 -- ---- both
 
@@ -105,7 +105,7 @@ module _ (L M P Z : List ℕ) (at : ℕ) (piece : List ℕ) (hm : Bytes M) (hp :
   opened-both ok f e =
       let a : OpenedAlike (openFlow L (o .flow) (o .out)) (extendedOpen M P (p .flow) (p .out)) =
       subst (λ (v : List ℕ). OpenedAlike (openFlow L (o .flow) (o .out)) (extendedOpen M P (p .flow) v)) e (alike L M P Z hm hp ok .opens (o .flow) (p .flow) (o .out) f) in
-      (opens .refusal ∙ a .refusal ∙ sym (opens₂ .refusal), opens .pairs ∙ a .pairs ∙ sym (opens₂ .pairs), opens .words ∙ a .words ∙ sym (opens₂ .words))
+      (opens .refusal ∙ ap (λ (x : Opening). x .refusal) a ∙ sym (opens₂ .refusal), opens .pairs ∙ ap (λ (x : Opening). x .pairs) a ∙ sym (opens₂ .pairs), opens .words ∙ ap (λ (x : Opening). x .words) a ∙ sym (opens₂ .words))
 
   -- the two feeds on the records that the openings left, as they answered
   first-alike : certificateRefusal L M P Z ≡ 0 → (z : o .opened .refusal ≡ 0) (w : p .opened .refusal ≡ 0)

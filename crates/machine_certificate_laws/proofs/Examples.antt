@@ -1,7 +1,8 @@
 -- The worked examples hold of the definitions: one table, one statement. Assumes nothing.
 use Prim.Native.Nat.{ℕ}
 use mathlib.Core.List.{List, _++_}
-use Rattle.sets.specs.Set.{num, digits, holds, join, within, insert, size, members, setAt, before, compare}
+use Rattle.numbers.specs.Number.{num, digits, before, compare}
+use Rattle.sets.specs.Set.{holds, join, within, insert, size, members, setAt}
 use Rattle.rules.specs.Scan.{some, every, gather}
 use Rattle.rules.specs.Rules.{verdict}
 use Rattle.list.specs.List.{goodRecord, badLength, badRecord, noStart}
@@ -10,7 +11,7 @@ use Rattle.feed.specs.Engine.{run, costs, due, pairsAt, told, consumed, ended, 
 use Rattle.feed.specs.Opening.{opening}
 use Rattle.feed.specs.Calls.{allTold, allBytes}
 use Rattle.list_flow.specs.Flow.{flowBytes, badFlow}
-use Rattle.list_feed.specs.Plain.{openPairs}
+use Rattle.list_flow.specs.Opening.{openPairs}
 use Rattle.machine.specs.Program.{without, bitsBy, countersBy, alertsBy, after, alerted}
 use Rattle.machine.specs.Machine.{badLengths, goodInstruction, badMachine}
 use Rattle.machine.specs.Record.{fours, fourBytes, configAt}

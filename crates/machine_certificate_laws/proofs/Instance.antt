@@ -8,10 +8,10 @@ use lib.Dec.{T, ltb, lit<}
 use borrow.Author.Tests.{ltb-true}
 use Rattle.rules.proofs.Scanning.{both}
 use Rattle.feed.specs.Calls.{Bytes}
-use Rattle.list_feed.specs.Plain.{openFlow}
+use Rattle.list_flow.specs.Opening.{openFlow}
 use Rattle.machine.specs.Extended.{extendedOpen}
 use Rattle.machine_certificate.specs.Certificate.{certificateRefusal}
-use Rattle.machine_certificate_laws.specs.Alike.{ListFlow, listBytes, listWords, MachineFlow, machineBytes, machineWords, Alike}
+use Rattle.machine_certificate_laws.specs.Alike.{ListFlow, MachineFlow, eatenBy, toldBy, Alike}
 use Rattle.machine_certificate_laws.specs.Examples.{L₁, M₁, P₁, note, listBegun, listCalls, machineBegun, machineCalls, toldRows}
 use Rattle.machine_certificate_laws.proofs.Examples.{told-rows}
 use Rattle.machine_certificate_laws.proofs.Alike.{certified-alike}
@@ -42,7 +42,7 @@ list-flow =
       opens = ap (λ (ws : List ℕ). getD ws 0 0) refusals;
       calls = listCalls;
       in-bytes = (small-bytes (97 ∷ 98 ∷ []) refl, tt);
-      by-list = (λ v. (refl, tt), tt);
+      by = (λ v. (refl, tt), tt);
     }
 
 pub machine-flow : MachineFlow M₁ P₁
@@ -53,12 +53,12 @@ machine-flow =
       opens = ap (λ (ws : List ℕ). getD ws 1 0) refusals;
       calls = machineCalls;
       in-bytes = (small-bytes (97 ∷ []) refl, (small-bytes (97 ∷ []) refl, (small-bytes (98 ∷ []) refl, tt)));
-      by-machine = (λ v. (refl, refl), (λ v. (refl, refl), (λ v. (refl, refl), tt)));
+      by = (λ v. (refl, refl), (λ v. (refl, refl), (λ v. (refl, refl), tt)));
     }
 
-same-bytes : listBytes L₁ list-flow ≡ machineBytes M₁ P₁ machine-flow
+same-bytes : eatenBy list-flow ≡ eatenBy machine-flow
 unfolding toldRows list-flow machine-flow
 same-bytes = told-rows .1 .0 ∙ sym (told-rows .1 .1 .0)
 
-pub alike-applies : listWords L₁ list-flow ≡ machineWords M₁ P₁ machine-flow
+pub alike-applies : toldBy list-flow ≡ toldBy machine-flow
 alike-applies = certified-alike L₁ M₁ P₁ (note 0 0 1) (small-bytes M₁ refl) (small-bytes P₁ refl) accepts .told list-flow machine-flow same-bytes

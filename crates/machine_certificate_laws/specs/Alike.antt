@@ -7,15 +7,16 @@ use mathlib.Core.Path.{_≡_}
 use lib.ListN.{length}
 use Rattle.rules.specs.Rules.{Refuses}
 use Rattle.list.specs.List.{listRefusal}
-use Rattle.feed.specs.Calls.{Bytes}
+use Rattle.feed.specs.Calls.{Bytes, Asked, asked, recordAfter, allTold, allBytes, Along, Pieces}
 use Rattle.feed.specs.Opening.{Opening}
-use Rattle.list_feed.specs.Plain.{openFlow, plainFeed}
+use Rattle.list_flow.specs.Opening.{openFlow}
+use Rattle.list_feed.specs.Plain.{plainFeed}
 use Rattle.feed.specs.Demands.{openTold, Answered}
 use Rattle.laws.specs.Calls as list
 use Rattle.laws.specs.Demands.{Due, Swaps}
 use Rattle.machine.specs.Machine.{machineRefusal}
 use Rattle.machine.specs.Extended.{extendedOpen, extendedFeed}
-use Rattle.machine_laws.specs.Calls.{Call, InBytes, Each, bytesOf, wordsOf, after}
+use Rattle.machine_laws.specs.Calls.{wayOf}
 use Rattle.machine_laws.specs.Demands.{By}
 use Rattle.table_build.specs.Build.{Reach, Many}
 use Rattle.machine_certificate.specs.Certificate.{notes, noteSet, certificateRules, certificateRefusal}
@@ -34,49 +35,34 @@ pub record Demand1 : Type 0 where
 
 -- ==== The law of an accepted certificate: from opening, both feeds tell the same pairs, however the bytes are cut.
 
--- ---- a flow of the list: an opening that is not refused, on any record and words, and any calls after it
+-- ---- a flow: an opening that is not refused, on any record and words, and any calls after it, of each of which P holds at the record that it meets
 
-pub record ListFlow (L : List ℕ) : Type 0 where
+pub record Flow {A : Type 0} (ask : A → Asked (List ℕ)) (begins : List ℕ → List ℕ → Opening) (P : List ℕ → A → Type 0) : Type 0 where
   pub flow : List ℕ
   pub out : List ℕ
-  pub opens : openFlow L flow out .refusal ≡ 0
-  -- each is the plain feed on L, a split feed through a table that the check accepts at its bound, the matrix feed by the matrix that the
-  -- filler writes, or the prepared feed by an index that is right for L; one that is refused may hold anything
-  pub calls : List list.Call
-  pub in-bytes : list.InBytes calls
-  pub by-list : list.Each (Swaps L) (openFlow L flow out .saved) calls
+  pub opens : begins flow out .refusal ≡ 0
+  pub calls : List A
+  pub in-bytes : Pieces ask calls
+  pub by : Along ask P (begins flow out .saved) calls
 
--- all bytes that it consumed, and all words that it told, those of the opening first
-abbrev pub listBytes : (L : List ℕ) → ListFlow L → List ℕ
-listBytes L f = list.bytesOf (openFlow L (f .flow) (f .out) .saved) (f .calls)
+-- all bytes that it consumed, all words that it told, those of the opening first, and the record that it left
+abbrev pub eatenBy : {A : Type 0} {ask : A → Asked (List ℕ)} {begins : List ℕ → List ℕ → Opening} {P : List ℕ → A → Type 0} → Flow ask begins P → List ℕ
+eatenBy {A} {ask} {begins} {P} f = allBytes ask (begins (f .flow) (f .out) .saved) (f .calls)
 
-abbrev pub listWords : (L : List ℕ) → ListFlow L → List ℕ
-listWords L f = let o = openFlow L (f .flow) (f .out) in openTold o ++ list.wordsOf (o .saved) (f .calls)
+abbrev pub toldBy : {A : Type 0} {ask : A → Asked (List ℕ)} {begins : List ℕ → List ℕ → Opening} {P : List ℕ → A → Type 0} → Flow ask begins P → List ℕ
+toldBy {A} {ask} {begins} {P} f = let o = begins (f .flow) (f .out) in openTold o ++ allTold ask (o .saved) (f .calls)
 
--- the record that it left
-abbrev pub listAfter : (L : List ℕ) → ListFlow L → List ℕ
-listAfter L f = list.after (openFlow L (f .flow) (f .out) .saved) (f .calls)
+abbrev pub leftBy : {A : Type 0} {ask : A → Asked (List ℕ)} {begins : List ℕ → List ℕ → Opening} {P : List ℕ → A → Type 0} → Flow ask begins P → List ℕ
+leftBy {A} {ask} {begins} {P} f = recordAfter ask (begins (f .flow) (f .out) .saved) (f .calls)
 
--- ---- a flow of the machine: so with the moves M and the programs P
+-- of the list: each call is the plain feed on L, a split feed through a table that the check accepts at its bound, the matrix feed by the matrix that the
+-- filler writes, or the prepared feed by an index that is right for L; one that is refused may hold anything
+abbrev pub ListFlow : List ℕ → Type 0
+ListFlow L = Flow (asked list.wayOf) (openFlow L) (Swaps L)
 
-pub record MachineFlow (M P : List ℕ) : Type 0 where
-  pub flow : List ℕ
-  pub out : List ℕ
-  pub opens : extendedOpen M P flow out .refusal ≡ 0
-  -- each is the feed by M and P; one that is refused may hold anything
-  pub calls : List Call
-  pub in-bytes : InBytes calls
-  pub by-machine : Each (By M P) (extendedOpen M P flow out .saved) calls
-
--- the record that it left
-abbrev pub machineAfter : (M P : List ℕ) → MachineFlow M P → List ℕ
-machineAfter M P g = after (extendedOpen M P (g .flow) (g .out) .saved) (g .calls)
-
-abbrev pub machineBytes : (M P : List ℕ) → MachineFlow M P → List ℕ
-machineBytes M P g = bytesOf (extendedOpen M P (g .flow) (g .out) .saved) (g .calls)
-
-abbrev pub machineWords : (M P : List ℕ) → MachineFlow M P → List ℕ
-machineWords M P g = let o = extendedOpen M P (g .flow) (g .out) in openTold o ++ wordsOf (o .saved) (g .calls)
+-- of the machine: each call is the feed by M and P; one that is refused may hold anything
+abbrev pub MachineFlow : List ℕ → List ℕ → Type 0
+MachineFlow M P = Flow (asked wayOf) (extendedOpen M P) (By M P)
 
 -- ---- both
 
@@ -85,10 +71,8 @@ abbrev pub Front : List ℕ → List ℕ → Type 0
 Front xs ys = (rest : List ℕ) × (xs ++ rest ≡ ys)
 
 -- two openings that answer the same and leave the same words
-pub record OpenedAlike (o p : Opening) : Type 0 where
-  pub refusal : o .refusal ≡ p .refusal
-  pub pairs : o .pairs ≡ p .pairs
-  pub words : o .words ≡ p .words
+abbrev pub OpenedAlike : Opening → Opening → Type 0
+OpenedAlike o p = o ≡ record { refusal = p .refusal; pairs = p .pairs; words = p .words; saved = o .saved }
 
 pub record Alike (L M P : List ℕ) : Type 0 where
   -- with the same words lent, and each a record of its right length, or neither, both openings answer alike: the same refusal, 15 too, the same
@@ -96,17 +80,17 @@ pub record Alike (L M P : List ℕ) : Type 0 where
   pub opens : (R Q out : List ℕ) → (length R ≡ 144) ↔ (length Q ≡ 80) → OpenedAlike (openFlow L R out) (extendedOpen M P Q out)
   -- where both consumed the same bytes, both told the same words: the same pairs in the same order, those of offset 0 included,
   -- whatever the pieces, the rooms, the pauses and the refusals between
-  pub told : (f : ListFlow L) (g : MachineFlow M P) → listBytes L f ≡ machineBytes M P g → listWords L f ≡ machineWords M P g
+  pub told : (f : ListFlow L) (g : MachineFlow M P) → eatenBy f ≡ eatenBy g → toldBy f ≡ toldBy g
   -- where one consumed a front of what the other did, it told a front of what the other told
-  pub ahead : (f : ListFlow L) (g : MachineFlow M P) → Front (listBytes L f) (machineBytes M P g) → Front (listWords L f) (machineWords M P g)
-  pub behind : (f : ListFlow L) (g : MachineFlow M P) → Front (machineBytes M P g) (listBytes L f) → Front (machineWords M P g) (listWords L f)
+  pub ahead : (f : ListFlow L) (g : MachineFlow M P) → Front (eatenBy f) (eatenBy g) → Front (toldBy f) (toldBy g)
+  pub behind : (f : ListFlow L) (g : MachineFlow M P) → Front (eatenBy g) (eatenBy f) → Front (toldBy g) (toldBy f)
   -- what the machine told is what demand 2 says of the list: (g, k) exactly when the flow has come to offset k, from 0 on, and a state of the
   -- list's frontier there accepts g; by offset and then signature, each once
-  pub due : (g : MachineFlow M P) → Due L (machineBytes M P g) (machineWords M P g)
+  pub due : (g : MachineFlow M P) → Due L (eatenBy g) (toldBy g)
   -- and whatever comes next, the plain feed and the machine's feed answer it alike, each on the record that its flow left: the same refusal, the same
   -- bytes consumed, the same pairs, and the same words left
-  pub next : (f : ListFlow L) (g : MachineFlow M P) → listBytes L f ≡ machineBytes M P g → (at : ℕ) (piece out : List ℕ) → Bytes piece
-      → Answered (plainFeed L (listAfter L f) at piece out) (extendedFeed M P (machineAfter M P g) at piece out)
+  pub next : (f : ListFlow L) (g : MachineFlow M P) → eatenBy f ≡ eatenBy g → (at : ℕ) (piece out : List ℕ) → Bytes piece
+      → Answered (plainFeed L (leftBy f) at piece out) (extendedFeed M P (leftBy g) at piece out)
 
 -- for every list, machine and certificate that the check accepts
 abbrev pub CertifiedAlike : Type 0

@@ -4,12 +4,13 @@ use mathlib.Core.List.{List, [], _∷_, _++_}
 use lib.ListN.{replicate, take, drop, set}
 use Rattle.rules.specs.Rules.{verdict}
 use Rattle.feed.specs.Opening.{Opening}
-use Rattle.list_feed.specs.Plain.{openFlow}
+use Rattle.list_flow.specs.Opening.{openFlow}
 use Rattle.feed.specs.Demands.{openTold}
 use Rattle.laws.specs.Calls as list
 use Rattle.machine.specs.Program.{off}
 use Rattle.machine.specs.Extended.{extendedOpen}
-use Rattle.machine_laws.specs.Calls.{Call, bytesOf, wordsOf}
+use Rattle.feed.specs.Calls.{asked, allTold, allBytes}
+use Rattle.machine_laws.specs.Calls.{Call, wayOf}
 use Rattle.machine_laws.specs.Examples.{Row, nothings, offs, twoMoves}
 use Rattle.machine_certificate.specs.Certificate.{configSize, noteSize, mostNotes, noteConfig, noteSet, numbersOf, badCertificate, certificateRefusal}
 
@@ -177,13 +178,13 @@ abbrev pub listBegun : Opening
 listBegun = openFlow L₁ (replicate 144 7) (replicate 3 8)
 
 abbrev pub listCalls : List list.Call
-listCalls = record { list = L₁; via = list.byList; at = 0; piece = 97 ∷ 98 ∷ []; out = replicate 4 8 } ∷ []
+listCalls = record { by = record { list = L₁; via = list.byList }; at = 0; piece = 97 ∷ 98 ∷ []; out = replicate 4 8 } ∷ []
 
 abbrev pub machineBegun : Opening
 machineBegun = extendedOpen M₁ P₁ (replicate 80 7) (replicate 2 8)
 
 abbrev pub machineFed : ℕ → ℕ → Call
-machineFed at c = record { moves = M₁; programs = P₁; at = at; piece = c ∷ []; out = replicate 3 8 }
+machineFed at c = record { by = record { moves = M₁; programs = P₁ }; at = at; piece = c ∷ []; out = replicate 3 8 }
 
 abbrev pub machineCalls : List Call
 machineCalls = machineFed 0 97 ∷ (machineFed 0 97 ∷ (machineFed 1 98 ∷ []))
@@ -191,10 +192,10 @@ machineCalls = machineFed 0 97 ∷ (machineFed 0 97 ∷ (machineFed 1 98 ∷ [])
 unfoldable pub toldRows : List Row
 toldRows =
     (listBegun .refusal ∷ machineBegun .refusal ∷ certificateRefusal L₁ M₁ P₁ (note 0 0 1) ∷ [], 0 ∷ 0 ∷ 0 ∷ [])
-    ∷ (list.bytesOf (listBegun .saved) listCalls, 97 ∷ 98 ∷ [])
-    ∷ (bytesOf (machineBegun .saved) machineCalls, 97 ∷ 98 ∷ [])
-    ∷ (openTold listBegun ++ list.wordsOf (listBegun .saved) listCalls, 7 ∷ 0 ∷ 7 ∷ 1 ∷ 7 ∷ 2 ∷ [])
-    ∷ (openTold machineBegun ++ wordsOf (machineBegun .saved) machineCalls, 7 ∷ 0 ∷ 7 ∷ 1 ∷ 7 ∷ 2 ∷ [])
+    ∷ (allBytes (asked list.wayOf) (listBegun .saved) listCalls, 97 ∷ 98 ∷ [])
+    ∷ (allBytes (asked wayOf) (machineBegun .saved) machineCalls, 97 ∷ 98 ∷ [])
+    ∷ (openTold listBegun ++ allTold (asked list.wayOf) (listBegun .saved) listCalls, 7 ∷ 0 ∷ 7 ∷ 1 ∷ 7 ∷ 2 ∷ [])
+    ∷ (openTold machineBegun ++ allTold (asked wayOf) (machineBegun .saved) machineCalls, 7 ∷ 0 ∷ 7 ∷ 1 ∷ 7 ∷ 2 ∷ [])
     ∷ []
 
 unfoldable pub examples : List Row

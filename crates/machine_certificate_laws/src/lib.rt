@@ -34,7 +34,7 @@ fn drive_both(
         (byMachine (now (moves .entry)) (now (programs .entry)) start (now (piece .entry)) (now («machine_pairs» .entry)) (r .«machine_fed») (now («machine_pairs» .exit)) (now («machine_flow» .exit))) ⌝ }
 {
     let checked = machine_certificate::check_certificate(list, moves, programs, certificate);
-    let opened = list_feed::open_flow(list, flow, pairs0);
+    let opened = list_flow::open_flow(list, flow, pairs0);
     let fed = list_feed::feed(list, flow, start, piece, pairs);
     let machine_opened = machine::open_flow(moves, programs, machine_flow, machine_pairs0);
     let machine_fed = machine::feed(moves, programs, machine_flow, start, piece, machine_pairs);

@@ -15,14 +15,16 @@ use Rattle.rules.proofs.Saying.{tells}
 use Rattle.feed.specs.Demands.{OneOpening}
 use Rattle.feed.proofs.Feeds.{each-feed}
 use Rattle.feed.proofs.Opening.{opening-refusal, one-opening}
+use Rattle.feed.proofs.Piece.{piece-says}
 use Rattle.machine.specs.Machine.{stateCount, badMachine, machineRules, firstAlerts}
-use Rattle.machine.specs.Record.{flowSize, wrongSize}
+use Rattle.machine.specs.Record.{flowSize, offsetOf, wrongSize}
 use Rattle.machine.specs.Words.{machineWords, openWords, feedWords}
 use Rattle.machine.specs.Extended.{openPairs, firstRules, openRules, opened, extendedOpen, feedRules}
 use Rattle.machine.proofs.Feeding.{extended-refusal}
 use Rattle.machine.proofs.Opening.{openPairs-long}
-use Rattle.machine.proofs.Said.{machine-said, size-said, flow-said, start-said, long-said, room-said}
-use Rattle.machine_laws.specs.Calls.{wayOf, ruled}
+use Rattle.machine.proofs.Said.{machine-said, size-said, flow-said, room-said}
+use Rattle.feed.specs.Calls.{ruled}
+use Rattle.machine_laws.specs.Calls.{wayOf}
 use Rattle.machine_laws.specs.Demands.{Demand1}
 
 not-15 : (a b : Bool) → verdict ((24, a) ∷ ((4, b) ∷ [])) ≡ 15 → ⊥
@@ -45,7 +47,7 @@ module _ (M P R out : List ℕ) where
 
 pub feed-tells : (M P R : List ℕ) (at : ℕ) (piece : List ℕ) → InWords (feedWords M P R at piece) (verdict (feedRules M P R at piece))
 feed-tells M P R at piece =
-    tells (feedRules M P R at piece) (feedWords M P R at piece) refl (refl, machine-said M P, (refl, flow-said R (stateCount M), (refl, start-said R at, (refl, long-said R piece, tt))))
+    tells (feedRules M P R at piece) (feedWords M P R at piece) refl (refl, machine-said M P, (refl, flow-said R (stateCount M), piece-says (offsetOf R) at piece))
 
 pub demand-1 : Demand1
 demand-1 =
@@ -55,7 +57,7 @@ demand-1 =
       opens = open-once;
       opens-said = λ M P R out. rw (open-verdict M P R out) (open-tells M P R out);
       opens-length = λ M P R Q out ws a b. open-verdict M P R out ∙ ap₂ (λ (m n : ℕ). verdict ((24, badMachine M P) ∷ ((4, not (eqb m flowSize)) ∷ ((15, ltb (n / 2) (length (openPairs P) / 2)) ∷ [])))) a b ∙ sym (open-verdict M P Q ws);
-      feeds = λ R c. each-feed (wayOf (c .moves) (c .programs)) R (c .at) (c .piece) (c .out);
-      feeds-refuse = λ R c. rw (extended-refusal (c .moves) (c .programs) R (c .at) (c .piece) (c .out)) (refuses (ruled R c) refl);
-      feeds-said = λ R c. rw (extended-refusal (c .moves) (c .programs) R (c .at) (c .piece) (c .out)) (feed-tells (c .moves) (c .programs) R (c .at) (c .piece));
+      feeds = λ R c. each-feed (wayOf (c .by)) R (c .at) (c .piece) (c .out);
+      feeds-refuse = λ R c. rw (extended-refusal (c .by .moves) (c .by .programs) R (c .at) (c .piece) (c .out)) (refuses (ruled wayOf R c) refl);
+      feeds-said = λ R c. rw (extended-refusal (c .by .moves) (c .by .programs) R (c .at) (c .piece) (c .out)) (feed-tells (c .by .moves) (c .by .programs) R (c .at) (c .piece));
     }

@@ -11,7 +11,7 @@ use borrow.Rule.Slice.PartMut.{midOf, putMid, postOf, same-len-mid, mid-len}
 use Rattle.rules.specs.Rules.{verdict}
 use Rattle.rules.specs.Words.{InWords}
 use Rattle.feed.specs.Engine.{Outcome, run}
-use Rattle.feed.specs.Calls.{Bytes, recordAfter, allTold, allBytes, Along, Pieces}
+use Rattle.feed.specs.Calls.{Bytes, recordAfter, allTold, allBytes, Along, Pieces, outcome, asked}
 use Rattle.feed.specs.Fed.{Answers}
 use Rattle.feed.specs.Opening.{Opens}
 use Rattle.feed.specs.Made.{Made, made, Promised, callsOf}
@@ -25,7 +25,7 @@ use Rattle.machine.specs.Machine.{machineRefusal, machine, first}
 use Rattle.machine.specs.Record.{configOf, offsetOf}
 use Rattle.machine.specs.Extended.{extendedOpen, feedRules, extendedFeed}
 use Rattle.machine.specs.Words.{machineWords, feedWords}
-use Rattle.machine_laws.specs.Calls.{Call, wayOf, outcome, Each}
+use Rattle.machine_laws.specs.Calls.{Call, wayOf}
 use Rattle.machine_laws.specs.Demands.{Due, By, Demand2Opened}
 use Rattle.machine_laws.specs.Drivers.{pieceOf, does, outcomeOf, numbersOf, allNumbers, AsSaid, Turned, OneMade, Driven}
 use Rattle.machine_laws.specs.declared.Standing.{Standing}
@@ -72,21 +72,21 @@ module _ (M P R : List ℕ) (at : ℕ) (stream : List ℕ) (so : Standing) (e : 
 
   bytes-most : extendedFeed M P R at piece out .bytes ≤ length piece
   bytes-most =
-      let f = each-feed (wayOf M P) R at piece out in
-      elim (ℕ-discrete (verdict (feedRules M P R at piece)) 0) [ yes z ↦ f .longest z .front | no n ↦ omega (arith, f .refused n .1 .bytes) ]
+      let f = each-feed (wayOf (record { moves = M; programs = P })) R at piece out in
+      elim (ℕ-discrete (verdict (feedRules M P R at piece)) 0) [ yes z ↦ f .longest z .front | no n ↦ omega (arith, ap (λ (o : Outcome). o .bytes) (f .refused n .1)) ]
 
   -- what is consumed and told is few
   pub turned-fits : (f : Fed) (ys Q : List ℕ) → Answers (extendedFeed M P R at piece out) f ys Q → (so .bytes + f .bytes ≤ length stream) × (so .words + 2 * f .pairs ≤ length ws)
   turned-fits f ys Q a = (
     omega (arith, a .bytes, bytes-most, mid-len (so .bytes) e stream ends),
-    omega (arith, a .pairs, each-feed (wayOf M P) R at piece out .pairs-fit, mid-len (so .words) v ws high),
+    omega (arith, a .pairs, each-feed (wayOf (record { moves = M; programs = P })) R at piece out .pairs-fit, mid-len (so .words) v ws high),
   )
 
   pub turned : (i : ℕ) (ns : List ℕ) (f : Fed) (ys ms Q : List ℕ) → Answers (extendedFeed M P R at piece out) f ys Q → take (4 * i + 4) ms ≡ take (4 * i) ns ++ numbersOf f
-      → Turned (record { moves = M; programs = P; at = at; piece = piece; out = out }) R stream so ws i ns
+      → Turned (record { by = record { moves = M; programs = P }; at = at; piece = piece; out = out }) R stream so ws i ns
       (record { bytes = so .bytes + f .bytes; words = so .words + 2 * f .pairs }) (putMid (so .words) (v - so .words) ws ys) ms Q
   turned i ns f ys ms Q a noted =
-      let o = each-feed (wayOf M P) R at piece out in
+      let o = each-feed (wayOf (record { moves = M; programs = P })) R at piece out in
       let t = turned-fits f ys Q a in
       let few : f .bytes ≤ e - so .bytes = omega (arith, a .bytes, bytes-most, mid-len (so .bytes) e stream ends) in
       let fit : 2 * f .pairs ≤ length ys = omega (arith, a .pairs, o .pairs-fit, o .words-many, ap length (a .words)) in
@@ -112,7 +112,7 @@ numbers-more [] m = append-nil (numbersOf (m .fed))
 numbers-more (d ∷ ms) m = ap (λ (ns : List ℕ). numbersOf (d .fed) ++ ns) (numbers-more ms m) ∙ sym (append-assoc (numbersOf (d .fed)) (allNumbers ms) (numbersOf (m .fed)))
 
 said-more : (M P starts : List ℕ) (k : ℕ) (ms : List (Made Call)) (m : Made Call) → AsSaid M P starts k ms
-    → (m .call .moves ≡ M) × (m .call .programs ≡ P) × (m .call .at ≡ getD starts (k + length ms) 0) → AsSaid M P starts k (ms ++ (m ∷ []))
+    → (m .call .by .moves ≡ M) × (m .call .by .programs ≡ P) × (m .call .at ≡ getD starts (k + length ms) 0) → AsSaid M P starts k (ms ++ (m ∷ []))
 said-more M P starts k [] m h s = let e : k + 0 ≡ k = omega arith in (rw e at s, tt)
 said-more M P starts k (j ∷ ms) m h s = (h .0, said-more M P starts (suc k) ms m (h .1) (rw (next k (length ms)) s))
   where
@@ -137,9 +137,9 @@ module _ (M P starts B begun stream : List ℕ) where
   led-none so ws ns z t = record { feeds = []; many = refl; said = tt; in-bytes = tt; promised = tt; noted = refl; eaten = rw z; told = t ∙ sym (append-nil begun); left = refl }
 
   pub led-more : (i : ℕ) (so : Standing) (ws ns Q : List ℕ) (at : ℕ) (piece out : List ℕ) (r : Standing) (vs ms R : List ℕ) → Led i so ws ns Q → at ≡ getD starts i 0 → Bytes piece
-      → Turned (record { moves = M; programs = P; at = at; piece = piece; out = out }) Q stream so ws i ns r vs ms R → Led (i + 1) r vs ms R
+      → Turned (record { by = record { moves = M; programs = P }; at = at; piece = piece; out = out }) Q stream so ws i ns r vs ms R → Led (i + 1) r vs ms R
   led-more i so ws ns Q at piece out r vs ms R k e h t =
-      let m : Made Call = record { call = record { moves = M; programs = P; at = at; piece = piece; out = out }; fed = t .fed; words = t .words; saved = R } in
+      let m : Made Call = record { call = record { by = record { moves = M; programs = P }; at = at; piece = piece; out = out }; fed = t .fed; words = t .words; saved = R } in
       let fs = k .feeds in
       let ask = made pieceOf in
       let four : 4 * (i + 1) ≡ 4 * i + 4 = omega arith in
@@ -176,25 +176,25 @@ each-one : (M P starts S : List ℕ) (k : ℕ) (ms : List (Made Call)) → AsSai
 each-one M P starts S k [] s p = tt
 each-one M P starts S k (m ∷ ms) s p = (one, each-one M P starts (m .saved) (suc k) ms (s .1) (p .1))
   where
-    said : InWords (feedWords M P S (m .call .at) (m .call .piece)) (outcome S (m .call) .refusal)
+    said : InWords (feedWords M P S (m .call .at) (m .call .piece)) (outcome wayOf S (m .call) .refusal)
     said =
-        subst (λ (y : List ℕ). InWords (feedWords M y S (m .call .at) (m .call .piece)) (outcome S (m .call) .refusal)) (s .0 .1)
-        (subst (λ (x : List ℕ). InWords (feedWords x (m .call .programs) S (m .call .at) (m .call .piece)) (outcome S (m .call) .refusal)) (s .0 .0) (demand-1 .feeds-said S (m .call)))
+        subst (λ (y : List ℕ). InWords (feedWords M y S (m .call .at) (m .call .piece)) (outcome wayOf S (m .call) .refusal)) (s .0 .1)
+        (subst (λ (x : List ℕ). InWords (feedWords x (m .call .by .programs) S (m .call .at) (m .call .piece)) (outcome wayOf S (m .call) .refusal)) (s .0 .0) (demand-1 .feeds-said S (m .call)))
 
-    fed : OneFeed (wayOf M P) S (m .call .at) (m .call .piece) (m .call .out) (outcome S (m .call))
+    fed : OneFeed (wayOf (record { moves = M; programs = P })) S (m .call .at) (m .call .piece) (m .call .out) (outcome wayOf S (m .call))
     fed =
-        subst (λ (y : List ℕ). OneFeed (wayOf M y) S (m .call .at) (m .call .piece) (m .call .out) (outcome S (m .call))) (s .0 .1)
-        (subst (λ (x : List ℕ). OneFeed (wayOf x (m .call .programs)) S (m .call .at) (m .call .piece) (m .call .out) (outcome S (m .call))) (s .0 .0) (demand-1 .feeds S (m .call)))
+        subst (λ (y : List ℕ). OneFeed (wayOf (record { moves = M; programs = y })) S (m .call .at) (m .call .piece) (m .call .out) (outcome wayOf S (m .call))) (s .0 .1)
+        (subst (λ (x : List ℕ). OneFeed (wayOf (record { moves = x; programs = (m .call .by .programs) })) S (m .call .at) (m .call .piece) (m .call .out) (outcome wayOf S (m .call))) (s .0 .0) (demand-1 .feeds S (m .call)))
 
     one : OneMade M P S m
     one = (
       subst (λ (n : ℕ). InWords (feedWords M P S (m .call .at) (m .call .piece)) n) (sym (p .0 .refusal)) said,
-      subst (λ (o : Outcome). OneFeed (wayOf M P) S (m .call .at) (m .call .piece) (m .call .out) o) (outcome-made (outcome S (m .call)) m (p .0)) fed,
+      subst (λ (o : Outcome). OneFeed (wayOf (record { moves = M; programs = P })) S (m .call .at) (m .call .piece) (m .call .out) o) (outcome-made (outcome wayOf S (m .call)) m (p .0)) fed,
     )
 
-said-by : (M P starts S : List ℕ) (k : ℕ) (ms : List (Made Call)) → AsSaid M P starts k ms → Each (By M P) S (callsOf ms)
+said-by : (M P starts S : List ℕ) (k : ℕ) (ms : List (Made Call)) → AsSaid M P starts k ms → Along (asked wayOf) (By M P) S (callsOf ms)
 said-by M P starts S k [] s = tt
-said-by M P starts S k (m ∷ ms) s = (λ v. (s .0 .0, s .0 .1), said-by M P starts (outcome S (m .call) .saved) (suc k) ms (s .1))
+said-by M P starts S k (m ∷ ms) s = (λ v. (s .0 .0, s .0 .1), said-by M P starts (outcome wayOf S (m .call) .saved) (suc k) ms (s .1))
 
 pub driven : (M P starts R out stream : List ℕ) (n checked : ℕ) (f : Opened) (vs B : List ℕ) (r : Standing) (ws ns Q : List ℕ) → Bytes M → Bytes P → checked ≡ machineRefusal M P
     → Opens (extendedOpen M P R out) f vs B → Led M P starts B (take (2 * f .pairs) vs) stream n r ws ns Q

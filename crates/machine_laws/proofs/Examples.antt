@@ -4,7 +4,8 @@ use mathlib.Core.Path.{_≡_, refl, ap₂}
 use mathlib.Core.Bool.{Bool, true, false, _&&_}
 use mathlib.Core.List.{List, [], _∷_, _++_}
 use lib.Dec.{T, eqb, eqb→eq}
-use Rattle.sets.specs.Set.{num, digits, holds, join, insert, members}
+use Rattle.numbers.specs.Number.{num, digits}
+use Rattle.sets.specs.Set.{holds, join, insert, members}
 use Rattle.rules.specs.Scan.{every}
 use Rattle.rules.specs.Rules.{verdict}
 use Rattle.feed.specs.Engine.{run, costs, due, pairsAt, told, consumed, ended, feed}

@@ -6,7 +6,7 @@ use mathlib.Core.Path.{_≡_}
 use lib.ListN.{length, getD, take}
 use Rattle.rules.specs.Words.{InWords}
 use Rattle.feed.specs.Engine.{Outcome, run}
-use Rattle.feed.specs.Calls.{recordAfter, allTold, allBytes, Along}
+use Rattle.feed.specs.Calls.{recordAfter, allTold, allBytes, Along, outcome}
 use Rattle.feed.specs.Fed.{Answers}
 use Rattle.feed.specs.Made.{Made, made, Promised, callsOf}
 use Rattle.feed.specs.Demands.{openTold, OneFeed}
@@ -16,7 +16,7 @@ use Rattle.machine.specs.Machine.{machine, first}
 use Rattle.machine.specs.Record.{configOf, offsetOf}
 use Rattle.machine.specs.Extended.{extendedOpen}
 use Rattle.machine.specs.Words.{machineWords, openWords, feedWords}
-use Rattle.machine_laws.specs.Calls.{Call, wayOf, outcome}
+use Rattle.machine_laws.specs.Calls.{Call, wayOf}
 use Rattle.machine_laws.specs.Demands.{Due, Demand2Opened}
 use Rattle.machine_laws.specs.declared.Standing.{Standing}
 
@@ -26,7 +26,7 @@ abbrev pub pieceOf : Call → List ℕ
 pieceOf c = c .piece
 
 abbrev pub does : Call → List ℕ → Outcome
-does c R = outcome R c
+does c R = outcome wayOf R c
 
 -- what it answered and left, as an outcome
 abbrev pub outcomeOf : {A : Type 0} → Made A → Outcome
@@ -44,14 +44,14 @@ allNumbers (m ∷ ms) = numbersOf (m .fed) ++ allNumbers ms
 -- from feed k on each is by M and P, and states the start at its place
 abbrev pub AsSaid : List ℕ → List ℕ → List ℕ → ℕ → List (Made Call) → Type 0
 AsSaid M P starts k [] = Unit {0}
-AsSaid M P starts k (m ∷ ms) = ((m .call .moves ≡ M) × (m .call .programs ≡ P) × (m .call .at ≡ getD starts k 0)) × AsSaid M P starts (suc k) ms
+AsSaid M P starts k (m ∷ ms) = ((m .call .by .moves ≡ M) × (m .call .by .programs ≡ P) × (m .call .at ≡ getD starts k 0)) × AsSaid M P starts (suc k) ms
 
 -- the code goes from where it stands, `so`, to r by the feed c on the record R, noted as number i: what is consumed and told goes behind what was, its numbers
 -- behind those noted, and Q is left
 pub record Turned (c : Call) (R stream : List ℕ) (so : Standing) (ws : List ℕ) (i : ℕ) (ns : List ℕ) (r : Standing) (vs ms Q : List ℕ) : Type 0 where
   pub fed : Fed
   pub words : List ℕ
-  pub answers : Answers (outcome R c) fed words Q
+  pub answers : Answers (outcome wayOf R c) fed words Q
   pub eaten : take (r .bytes) stream ≡ take (so .bytes) stream ++ take (fed .bytes) (c .piece)
   pub told : take (r .words) vs ≡ take (so .words) ws ++ take (2 * fed .pairs) words
   pub noted : take (4 * i + 4) ms ≡ take (4 * i) ns ++ numbersOf fed
@@ -63,7 +63,7 @@ pub record Turned (c : Call) (R stream : List ℕ) (so : Standing) (ws : List �
 -- demand 1 of one feed by M and P that the code made on the record S: its refusal in words; and the longest front, all, and what stays, of the very numbers and buffers
 abbrev pub OneMade : List ℕ → List ℕ → List ℕ → Made Call → Type 0
 OneMade M P S m =
-    InWords (feedWords M P S (m .call .at) (m .call .piece)) (m .fed .refusal) × OneFeed (wayOf M P) S (m .call .at) (m .call .piece) (m .call .out) (outcomeOf m)
+    InWords (feedWords M P S (m .call .at) (m .call .piece)) (m .fed .refusal) × OneFeed (wayOf (record { moves = M; programs = P })) S (m .call .at) (m .call .piece) (m .call .out) (outcomeOf m)
 
 -- a check, an opening on the record R with all of the words `out`, and then n feeds that state these starts: the code noted these numbers of them; they consumed bs, told ws,
 -- opening's words first, and left Q

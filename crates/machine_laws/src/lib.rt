@@ -77,8 +77,10 @@ fn turn(
 ) -> Standing
     requires { ⌜ (so .bytes ≤ e) × (e ≤ length (now stream)) × (so .words ≤ v) × (v ≤ length (now pairs)) × (4 * i + 4 ≤ length (now numbers)) ⌝ }
     ensures { λ r. ⌜ Turned (record {
-      moves = now (moves .entry);
-      programs = now (programs .entry);
+      by = record {
+        moves = now (moves .entry);
+        programs = now (programs .entry);
+      };
       at = start;
       piece = take (e - so .bytes) (drop (so .bytes) (now (stream .entry)));
       out = take (v - so .words) (drop (so .words) (now (pairs .entry)));

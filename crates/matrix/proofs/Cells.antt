@@ -9,8 +9,9 @@ use native.Mathlib.Decide.{ℕ-discrete}
 use lib.ListN.{length, replicate}
 use lib.Dec.{eqb}
 use borrow.Author.Tests.{eq-eqb, ne-eqb}
-use Rattle.sets.specs.Set.{states, setSize, num, digits, setBytes, setAt, placed}
-use Rattle.sets.proofs.Laws.{length-digits, num-digits}
+use Rattle.numbers.specs.Number.{num, digits, placed}
+use Rattle.sets.specs.Set.{states, setSize, setBytes, setAt}
+use Rattle.numbers.proofs.Laws.{length-digits, num-digits}
 use Rattle.rules.specs.Scan.{stack}
 use Rattle.rules.proofs.Stacks.{stack-same, stack-length, stack-entry, stack-put}
 use Rattle.matrix.specs.Matrix.{byteValues, cellAt, cells}

@@ -11,12 +11,13 @@ use lib.ListN.{length, getD, set, take, drop, length-set, length-drop}
 use lib.Seq.{getD-set-same, getD-set-other, length-take-le, take-length}
 use lib.Bits.{bitOr, bitAnd}
 use lib.Dec.{eqb, lit<}
-use Rattle.sets.specs.Set.{states, setSize, num, holds, join, meets, setBytes, bytesAt, setAt, placed}
-use Rattle.sets.proofs.Laws.{Small, small-drop, small-take, length-digits, num-or, num-digits}
+use Rattle.numbers.specs.Number.{num, placed}
+use Rattle.sets.specs.Set.{states, setSize, holds, join, meets, setBytes, bytesAt, setAt}
+use Rattle.numbers.proofs.Laws.{Small, small-drop, small-take, length-digits, num-or, num-digits}
 use Rattle.sets.proofs.Sets.{byte-in, holds-num, holds-empty, holds-past, set-at-lt, set-ext}
 use Rattle.sets.proofs.Words.{Laid}
 use Rattle.sets.proofs.Meets.{holds-and, apart-exactly}
-use Rattle.sets.proofs.Placing.{placed-all}
+use Rattle.numbers.proofs.Placing.{placed-all}
 
 -- bytes w that were a: those before i are joined with what f gives, the others as they were
 abbrev pub Joins : (ℕ → ℕ) → List ℕ → ℕ → List ℕ → Type 0

@@ -9,8 +9,9 @@ use lib.Dec.{eqb, lit<}
 use lib.Pow.{pow-add, pow-pos, pow-lt}
 use lib.Bits.{bitAnd, bitOr, and-step, and-self, and-le-r, or-block, or-shifted, or-comm}
 use lib.Count.{trailingZeros, under, ones, ones-step}
-use Rattle.sets.specs.Set.{bit, holds, join, members}
-use Rattle.sets.proofs.Laws.{bit-half}
+use Rattle.numbers.specs.Number.{bit}
+use Rattle.sets.specs.Set.{holds, join, members}
+use Rattle.numbers.proofs.Laws.{bit-half}
 use Rattle.sets.proofs.Parts.{members-one, members-parts}
 
 -- the word without its lowest one

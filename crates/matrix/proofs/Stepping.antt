@@ -9,8 +9,9 @@ use lib.ListN.{getD, take, replicate}
 use lib.Bits.{or-shifted-r}
 use lib.Pow.{pow-mono}
 use lib.Count.{ones}
-use Rattle.sets.specs.Set.{setWords, setSize, states, num, join, size, setAt}
-use Rattle.sets.proofs.Laws.{Small, num-take, num-take-lt, num-low, num-zeros, ones-in}
+use Rattle.numbers.specs.Number.{num}
+use Rattle.sets.specs.Set.{setWords, setSize, states, join, size, setAt}
+use Rattle.numbers.proofs.Laws.{Small, num-take, num-take-lt, num-low, num-zeros, ones-in}
 use Rattle.sets.proofs.Words.{count-none, count-more}
 use Rattle.matrix.specs.Matrix.{unionOver}
 use Rattle.matrix.proofs.Unions.{union-join, union-none}

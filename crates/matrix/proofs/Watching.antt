@@ -13,8 +13,9 @@ use lib.Dec.{leb, eqb, lit<}
 use lib.Pow.{split, shr-shr, high, ones-split, ones-lt, pow-pos}
 use borrow.Author.Tests.{eq-eqb, le-leb, lt-leb}
 use borrow.Author.Count.{below-more}
-use Rattle.sets.specs.Set.{setWords, states, num, bit, holds, meets}
-use Rattle.sets.proofs.Laws.{Small, small-set}
+use Rattle.numbers.specs.Number.{num, bit}
+use Rattle.sets.specs.Set.{setWords, states, holds, meets}
+use Rattle.numbers.proofs.Laws.{Small, small-set}
 use Rattle.sets.proofs.Sets.{Words, holds-num, holds-empty, holds-past, word-holds, set-ext}
 use Rattle.sets.proofs.Meets.{apart-exactly}
 

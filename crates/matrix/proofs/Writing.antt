@@ -9,10 +9,11 @@ use lib.Seq.{length-take-le}
 use lib.Dec.{lit<}
 use lib.Bits.{bitOr, or-lt}
 use borrow.Author.Tests.{lt-ltb}
-use Rattle.sets.specs.Set.{states, setSize, num, digits, setBytes, bytesAt, setAt, insert, placed}
-use Rattle.sets.proofs.Laws.{Small, small-take, small-drop, small-set, num-with, digits-num}
+use Rattle.numbers.specs.Number.{num, digits, placed}
+use Rattle.sets.specs.Set.{states, setSize, setBytes, bytesAt, setAt, insert}
+use Rattle.numbers.proofs.Laws.{Small, small-take, small-drop, small-set, num-with, digits-num}
 use Rattle.sets.proofs.Sets.{byte-in}
-use Rattle.sets.proofs.Placing.{placed-fits, placed-none, placed-one, placed-all}
+use Rattle.numbers.proofs.Placing.{placed-fits, placed-none, placed-one, placed-all}
 use Rattle.matrix.specs.inner.Filling.{joinedAt}
 use Rattle.matrix.proofs.Cells.{replicate-more}
 

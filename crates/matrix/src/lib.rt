@@ -1,7 +1,7 @@
 // The bit matrix: the filler that writes it from a list, and the feed that joins the stored sets of the frontier's states.
 use feed::Fed;
+use feed::Told;
 use list_flow::Ran;
-use list_flow::Told;
 use sets::StateSet;
 ghost use mathlib.Core.Path.{_≡_};
 ghost use mathlib.Core.Bool.{true, false, cond};
@@ -155,7 +155,7 @@ fn step(matrix: &[u8], n: usize, wide: usize, f: &[u8], c: u8) -> Stepped
             + join_word(
                 matrix,
                 n,
-                sets::whole_number(f, 8 * i, 8),
+                numbers::whole_number(f, 8 * i, 8),
                 64 * i,
                 c,
                 &mut w,
@@ -247,12 +247,12 @@ fn feed_bytes(
         };
         if meet(&next, &watch) {
             wide = sets::WORDS;
-            told = list_flow::tell_accepted(list, StateSet::whole(&next, 0), pairs, words, at);
+            told = list_flow::tell_accepted(list, StateSet::from_bytes(&next, 0), pairs, words, at);
         }
         if !told.fits {
             return Ran {
                 refusal: rules::PASSED,
-                frontier: StateSet::whole(&f, 0),
+                frontier: StateSet::from_bytes(&f, 0),
                 bytes: i,
                 words: words,
                 rows: rows,
@@ -264,7 +264,7 @@ fn feed_bytes(
     }
     Ran {
         refusal: rules::PASSED,
-        frontier: StateSet::whole(&f, 0),
+        frontier: StateSet::from_bytes(&f, 0),
         bytes: piece.len(),
         words: words,
         rows: rows,
@@ -291,7 +291,7 @@ pub fn feed(
         list,
         matrix,
         n,
-        StateSet::load(flow, 0),
+        StateSet::from_bytes(flow, 0),
         start,
         piece,
         pairs,

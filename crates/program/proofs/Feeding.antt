@@ -10,13 +10,14 @@ use borrow.Author.Tests.{eqb-true, eqb-false, eq-eqb, ne-eqb}
 use Rattle.io.specs.Counts.{Counts}
 use Rattle.feed.specs.Engine.{mostOffset, Outcome}
 use Rattle.list_flow.specs.Flow.{flowLayout, feedRules}
+use Rattle.list_flow.specs.Opening.{openFlow}
+use Rattle.list_flow.proofs.Opening.{opened-fits}
 use Rattle.feed.specs.Fed.{Answers}
 use Rattle.feed.specs.declared.Fed.{Fed}
 use Rattle.feed.proofs.Moves.{feed-fits}
 use Rattle.feed.specs.Opening.{Opening, Opens}
 use Rattle.feed.specs.declared.Opened.{Opened}
-use Rattle.list_feed.specs.Plain.{plain, openFlow, plainFeed}
-use Rattle.list_feed.proofs.Opening.{opened-fits}
+use Rattle.list_feed.specs.Plain.{plain, plainFeed}
 use Rattle.list_feed.proofs.Progress.{progress}
 use Rattle.program_text.specs.Text.{lines, lastLine}
 use Rattle.program.specs.App.{Turn, lastTurn, openTurn, turnOf, noWords, Says}

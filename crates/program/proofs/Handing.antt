@@ -9,7 +9,7 @@ use native.Mathlib.Decide.{decLt}
 use native.Mathlib.Numerals.{add-one}
 use lib.ListN.{length, take, drop, getD, length-append, length-take, length-drop, drop-of-length-le}
 use lib.Seq.{take-all, take-length, drop-drop}
-use Rattle.sets.proofs.Laws.{drop-take}
+use Rattle.numbers.proofs.Laws.{drop-take}
 use Rattle.feed.proofs.Runs.{length-take-most}
 use Rattle.program.specs.declared.Said.{Said}
 use Rattle.program_text.specs.declared.Taken.{Taken}

@@ -23,13 +23,15 @@ use Rattle.feed.proofs.Runs.{take-front, length-take-most, run-append, told-app
 use Rattle.feed.proofs.Moves.{feed-ends, no-refusal}
 use Rattle.feed.specs.Opening.{Opening}
 use Rattle.feed.proofs.Opening.{opens, opening-refusal}
-use Rattle.list_flow.specs.Flow.{flowLayout, frontierOf, offsetOf, rowsOf, wrongSize, badFlow, otherStart, tooLong, flowRules, feedRules}
+use Rattle.feed.specs.Piece.{tooLong}
+use Rattle.list_flow.specs.Flow.{flowLayout, frontierOf, offsetOf, rowsOf, wrongSize, badFlow, flowRules, feedRules}
 use Rattle.list_flow.proofs.Records.{frontier-flow, offset-flow, flow-good}
 use Rattle.list_flow.proofs.Passing.{feed-passes}
 use Rattle.list_flow.proofs.Kept.{rows-few}
-use Rattle.list_feed.specs.Plain.{plain, openPairs, openRules, opened, openFlow, pairsOf, plainFeed}
+use Rattle.list_flow.specs.Opening.{openPairs, openRules, opened, openFlow}
+use Rattle.list_flow.proofs.Opening.{openPairs-long, room-suffices}
+use Rattle.list_feed.specs.Plain.{plain, pairsOf, plainFeed}
 use Rattle.list_feed.proofs.Plain.{plain-refusal, plain-cheap}
-use Rattle.list_feed.proofs.Opening.{openPairs-long, room-suffices}
 use Rattle.list_feed.proofs.Progress.{progress}
 use Rattle.program_text.specs.Text.{line, lines, lastLine}
 use Rattle.program_text.specs.Hand.{handed, joined}
@@ -249,16 +251,16 @@ module _ (L B : List ℕ) where
   module _ (z : listRefusal L ≡ 0) where
     -- on a good record of the run the feed is refused with 6 alone
     feed-refuses : (R : List ℕ) (at : ℕ) → frontierOf R ≡ frontierAt at → offsetOf R ≡ at → badFlow R ≡ false
-        → plainFeed L R at (restAt B at) noWords .refusal ≡ verdict ((6, tooLong R (restAt B at)) ∷ [])
+        → plainFeed L R at (restAt B at) noWords .refusal ≡ verdict ((6, tooLong (offsetOf R) (restAt B at)) ∷ [])
     feed-refuses R at f k g =
         plain-refusal L R at (restAt B at) noWords ∙ verdict-then (listRules L) (flowRules (within (frontierOf R) (named L)) R at (restAt B at)) refl z
         ∙ skip 4 _ (rw (g, f, at-named at)) ∙ skip 5 _ (rw (eq-eqb at (offsetOf R) (sym k)))
 
-    refused-6 : (R : List ℕ) (at : ℕ) → offsetOf R ≡ at → (n : ℕ) → n ≡ verdict ((6, tooLong R (restAt B at)) ∷ []) → (n ≡ 0 → ⊥)
+    refused-6 : (R : List ℕ) (at : ℕ) → offsetOf R ≡ at → (n : ℕ) → n ≡ verdict ((6, tooLong (offsetOf R) (restAt B at)) ∷ []) → (n ≡ 0 → ⊥)
         → (n ≡ 6) × (longestInput < at + length (restAt B at))
-    refused-6 R at k n e h = go (tooLong R (restAt B at)) refl
+    refused-6 R at k n e h = go (tooLong (offsetOf R) (restAt B at)) refl
       where
-        go : (b : Bool) → tooLong R (restAt B at) ≡ b → (n ≡ 6) × (longestInput < at + length (restAt B at))
+        go : (b : Bool) → tooLong (offsetOf R) (restAt B at) ≡ b → (n ≡ 6) × (longestInput < at + length (restAt B at))
         go true p = (e ∙ stop 6 [] p, rw k at (ltb-true mostOffset (offsetOf R + length (restAt B at)) p))
         go false p = absurd (h (e ∙ last 6 p))
 

@@ -7,7 +7,8 @@ use lib.ListN.{length, take, drop, replicate}
 use lib.Dec.{eqb}
 use Rattle.io.specs.Counts.{Counts}
 use Rattle.list_flow.specs.Flow.{flowSize}
-use Rattle.list_feed.specs.Plain.{openFlow, plainFeed}
+use Rattle.list_flow.specs.Opening.{openFlow}
+use Rattle.list_feed.specs.Plain.{plainFeed}
 use Rattle.program_text.specs.Text.{lineSize, lines, lastLine}
 use Rattle.program.specs.declared.Said.{Said}
 

@@ -28,7 +28,7 @@ pub fn begin(list: &[u8], flow: &mut [u8], text: &mut [u8]) -> Said
     ensures { λ r. ⌜ Says (openTurn (now (list .entry)) (now (flow .entry))) r (now (text .exit)) (now (flow .exit)) ⌝ }
 {
     let mut out = [0u32; PAIR_WORDS];
-    let opened = list_feed::open_flow(list, flow, &mut out);
+    let opened = list_flow::open_flow(list, flow, &mut out);
     if opened.refusal != rules::PASSED {
         return Said {
             last: true,

@@ -9,7 +9,7 @@ use native.Mathlib.Decide.{decLt}
 use lib.ListN.{length, take, drop, length-take, length-drop, drop-of-length-le}
 use lib.Seq.{drop-drop}
 use borrow.Author.Tests.{eq-eqb, ne-eqb, le-leb, lt-leb, lt-ltb, le-ltb}
-use Rattle.sets.proofs.Laws.{drop-take}
+use Rattle.numbers.proofs.Laws.{drop-take}
 use Rattle.program_text.specs.Text.{Puts}
 use Rattle.program_text.proofs.Texts.{puts-whole, puts-front}
 use Rattle.program_turn.specs.State.{shortAt}

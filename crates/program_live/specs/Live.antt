@@ -5,7 +5,7 @@ use mathlib.Core.Bool.{Bool, true, false, cond}
 use mathlib.Core.List.{List, [], _∷_}
 use lib.ListN.{length, take, drop, replicate}
 use lib.Dec.{eqb, leb, ltb}
-use Rattle.sets.specs.Set.{num}
+use Rattle.numbers.specs.Number.{num}
 use Rattle.program_turn.specs.State.{stateSize, shortAt, freshState}
 use Rattle.program_turn.specs.Turn.{mostUnit, headSize, turnOf, openTurn}
 use Rattle.program_live.specs.declared.Unit as code

@@ -61,7 +61,7 @@ fn recorded_unit(input: &[u8], at: usize, bytes: &mut [u8]) -> Unit
     if left < program_turn::HEAD {
         return no_unit(at);
     }
-    let n = (sets::number_at(input, at + 4, 2) % 65536) as usize;
+    let n = (numbers::number_at(input, at + 4, 2) % 65536) as usize;
     if left - program_turn::HEAD < n {
         return no_unit(at);
     }
@@ -110,7 +110,7 @@ fn read_segment(line: i32, bytes: &mut [u8]) -> Unit
     if got < program_turn::HEAD {
         return no_unit(0);
     }
-    let n = (sets::number_at(&head, 4, 2) % 65536) as usize;
+    let n = (numbers::number_at(&head, 4, 2) % 65536) as usize;
     let k = within(bytes, n);
     let came = io::read_full(line, &mut bytes[..k]);
     if came < n {
@@ -130,7 +130,7 @@ fn read_unit(line: i32, state: &[u8], bytes: &mut [u8]) -> Unit
     requires { ⌜ length (now bytes) ≡ mostUnit ⌝ }
     ensures { λ r. ⌜ (r .from ≤ r .to) × (r .to ≤ mostUnit) ⌝ }
 {
-    if sets::number_at(state, program_turn::KIND_AT, 4) == program_turn::OF_BYTES {
+    if numbers::number_at(state, program_turn::KIND_AT, 4) == program_turn::OF_BYTES {
         return read_bytes(line, bytes);
     }
     read_segment(line, bytes)
@@ -503,7 +503,7 @@ fn is_ours(segments: bool, list: &[u8], state: &[u8]) -> bool {
         );
         return false;
     }
-    let bytes = sets::number_at(state, program_turn::KIND_AT, 4) == program_turn::OF_BYTES;
+    let bytes = numbers::number_at(state, program_turn::KIND_AT, 4) == program_turn::OF_BYTES;
     if bytes == segments {
         io::write_all(
             libc::STDERR_FILENO,
@@ -551,7 +551,7 @@ fn signed(n: u64) -> i64 {
 fn move_line(fd: i32, state: &[u8])
     requires { ⌜ length (now state) ≡ stateSize ⌝ }
 {
-    let place = sets::number_at(state, program_turn::PLACE_AT, 8);
+    let place = numbers::number_at(state, program_turn::PLACE_AT, 8);
     if place == 0 {
         return;
     }
@@ -559,11 +559,11 @@ fn move_line(fd: i32, state: &[u8])
     if libc::lseek(fd, to, libc::SEEK_SET) == to {
         return;
     }
-    if sets::number_at(state, program_turn::KIND_AT, 4) == program_turn::OF_BYTES {
+    if numbers::number_at(state, program_turn::KIND_AT, 4) == program_turn::OF_BYTES {
         say(b"watch: the line begins at byte ", place);
         return;
     }
-    let first = sets::number_at(state, program_turn::FIRST_AT, 4);
+    let first = numbers::number_at(state, program_turn::FIRST_AT, 4);
     let mut flow = [0u8; list_flow::FLOW_SIZE];
     program_turn::take_part(state, program_turn::FLOW_AT, &mut flow);
     say(
@@ -611,7 +611,7 @@ fn begin_live(segments: bool, list: &[u8], line: &[u8], name: &[u8], lines: &[u8
 fn resume_live(list: &[u8], state: &mut [u8], line: &[u8], name: &[u8], lines: &[u8])
     requires { ⌜ length (now state) ≡ stateSize ⌝ }
 {
-    let out = cut_lines(lines, sets::number_at(state, program_turn::LINES_AT, 8));
+    let out = cut_lines(lines, numbers::number_at(state, program_turn::LINES_AT, 8));
     if out < 0 {
         return;
     }

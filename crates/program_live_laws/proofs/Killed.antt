@@ -9,7 +9,8 @@ use lib.ListN.{length, take, drop, replicate, length-take, length-drop, length-a
 use lib.Seq.{take-append-seam, take-take, take-length}
 use lib.Dec.{eqb, leb}
 use borrow.Author.Tests.{eqb-true, eqb-false, eq-eqb, ne-eqb, leb-true, le-ltb}
-use Rattle.sets.specs.Set.{num, placed, within}
+use Rattle.numbers.specs.Number.{num, placed}
+use Rattle.sets.specs.Set.{within}
 use Rattle.rules.specs.Rules.{verdict}
 use Rattle.rules.proofs.Rules.{skip, last, verdict-then, passes-front}
 use Rattle.segment.specs.Resend.{circle}
@@ -22,7 +23,8 @@ use Rattle.feed.proofs.Feeds.{each-feed}
 use Rattle.feed.proofs.Opening.{opens, opening-refusal}
 use Rattle.list_flow.specs.Flow.{flowSize, frontierOf, offsetOf, flowRules, feedRules}
 use Rattle.list_flow.proofs.Records.{length-flow, good-flow}
-use Rattle.list_feed.specs.Plain.{plain, openPairs, firstRules, openRules, opened, openFlow, plainFeed}
+use Rattle.list_flow.specs.Opening.{openPairs, firstRules, openRules, opened, openFlow}
+use Rattle.list_feed.specs.Plain.{plain, plainFeed}
 use Rattle.list_renew.specs.Renewal.{renewal}
 use Rattle.list_renew.proofs.Renewing.{renews, whole-renews, renewed-offset}
 use Rattle.segment_feed.specs.Ways.{plainWay}
@@ -34,7 +36,9 @@ use Rattle.program_text.specs.Text.{lastLine}
 use Rattle.program_turn.specs.State.{stateSize, wholeNumbers, longAt, wordAt, shortAt, flowOf, flowOffset, kindAt, firstAt, beforeAt, placeAt, linesAt, flowAt, near, bytesKind, plusNumber, numbered, renewOn, renewedState, freshState}
 use Rattle.program_turn.specs.Turn.{Turn, mostUnit, Given, noWords, noRecord, linesFrom, againText, turnText, isTold, isEnd, plainGiven, givenOf, lastTurn, linesTurn, feedTurn, turnOf, openTurn}
 use Rattle.program_live_laws.specs.Killed.{Disk, Event, turned, cut, place, kept, turnAt, after, afterAll, begun, linesTo, Whole, Killed}
-use Rattle.program_live_laws.proofs.Parts.{part-other, Parts, turned-parts, renewed-parts, fresh-size, fresh-kind, fresh-zero}
+use Rattle.program_live_laws.proofs.Parts.{part-other, Parts, turned-parts, renewed-parts, fresh-size, fresh-kind, fresh-number}
+use Rattle.program_live_laws.proofs.Feeding.{feed-taken}
+use Rattle.program_live_laws.proofs.Opening.{firstWords, firstPairs, begunState, opened-long, opening-is, opening-text}
 use Rattle.program_live_laws.proofs.Lines.{lines-front, lines-told, toldNext, frontier-more, lines-more}
 
 module _ (L B : List ℕ) (bytes : Bytes B) (short : length B < wholeNumbers) (few : length (linesTo L B (length B)) < wholeNumbers) where
@@ -130,7 +134,7 @@ module _ (L B : List ℕ) (bytes : Bytes B) (short : length B < wholeNumbers) (f
     o = plainFeed L (flowOf S) (offsetOf (flowOf S)) rest noWords
 
     abbrev call : Call
-    call = record { list = L; via = byList; at = offsetOf (flowOf S); piece = rest; out = noWords }
+    call = record { by = record { list = L; via = byList }; at = offsetOf (flowOf S); piece = rest; out = noWords }
 
     abbrev text : List ℕ
     text = turnText (longAt (placed S flowAt (o .saved)) beforeAt) (o .words) (o .pairs) (isTold true false) 0
@@ -184,19 +188,6 @@ module _ (L B : List ℕ) (bytes : Bytes B) (short : length B < wholeNumbers) (f
               (r .kind) (d .at) to-frontier
               (omega (arith, d .moved, r .offset, long)) (ap (λ (x : ℕ). x + o .bytes) (r .place-is)) (omega (arith, r .lines-are, count));
         }
-
-  -- ---- no feed is refused
-
-  feed-taken : verdict (listRules L) ≡ 0 → (S : List ℕ) (k n : ℕ) → Ready S k n → offsetOf (flowOf S) ≤ near → (rest : List ℕ) → length rest ≤ mostUnit
-      → plainFeed L (flowOf S) (offsetOf (flowOf S)) rest noWords .refusal ≡ 0
-  feed-taken z S k n r l rest h =
-      let R = flowOf S in
-      let v : verdict (feedRules L R (offsetOf R) rest) ≡ 0 =
-      verdict-then (listRules L) (flowRules (within (frontierOf R) (named L)) R (offsetOf R) rest) refl z
-      ∙ skip 4 _ (rw (r .at .fit .0, r .at .fit .1))
-      ∙ skip 5 _ (rw (eq-eqb (offsetOf R) (offsetOf R) refl))
-      ∙ last 6 (le-ltb mostOffset (offsetOf R + length rest) (omega (arith, l, h))) in
-      each-feed (plainWay L) R (offsetOf R) rest noWords .passes .1 (v, λ y. refl)
 
   -- ---- a disk
 
@@ -255,16 +246,16 @@ module _ (L B : List ℕ) (bytes : Bytes B) (short : length B < wholeNumbers) (f
     turn-goes z l p h =
         let rest = take n (drop k B) in
         let some : length rest ≡ 0 → ⊥ = λ y. omega (arith, y, length-take n (drop k B), length-drop k B, l, p) in
+        let near-by : offsetOf (flowOf S₂) ≤ near = rw stays (renew-room (D .state) k (length (linesTo L B k)) (omega (arith, g .inside, short)) (g .ready)) in
         let q : G .refusal ≡ 0 =
-        feed-taken z S₂ k (length (linesTo L B k)) ready₂ (rw stays (renew-room (D .state) k (length (linesTo L B k)) (omega (arith, g .inside, short)) (g .ready))) rest
-        (omega (arith, h, length-take n (drop k B))) in
+        feed-taken L z (flowOf S₂) (ready₂ .at .fit) rest (omega (arith, near-by, h, length-take n (drop k B))) noWords in
         let t : turnAt L B D n ≡ turnBy false true = turn-by ∙ rw (ne-eqb (length rest) 0 some, eq-eqb (G .refusal) 0 q) in
         let f = fed S₂ k (g .inside) ready₂ n q in
         let e = each-feed (plainWay L) (flowOf S₂) (offsetOf (flowOf S₂)) rest noWords in
         let m : 0 < G .done = e .moves q (omega (arith, some)) (omega arith) in
         rw t (refl, omega (arith, f .ready .place-is, m))
 
-  good-event : (D : Disk) → Good D → (e : Event) → Good (after L B D e)
+  good-event : (D : Disk) → Good D → (e : Event ℕ) → Good (after (turnAt L B) D e)
   unfolding after
   good-event D g (turned n) = rw (turn-by D g n) (good-turn D g n (isEnd (D .state) true (length (take n (drop (place D) B)))) (eqb (G D g n .refusal) 0) refl)
   good-event D g (cut x) =
@@ -272,39 +263,29 @@ module _ (L B : List ℕ) (bytes : Bytes B) (short : length B < wholeNumbers) (f
       rw (g .lines-are, g .ready .lines-are) (take-append-seam (linesTo L B (place D)) x) in
       record { inside = g .inside; lines-are = w; ready = g .ready }
 
-  good-all : (D : Disk) → Good D → (es : List Event) → Good (afterAll L B D es)
+  good-all : (D : Disk) → Good D → (es : List (Event ℕ)) → Good (afterAll (turnAt L B) D es)
   unfolding afterAll
   good-all D g [] = g
-  good-all D g (e ∷ es) = good-all (after L B D e) (good-event D g e) es
+  good-all D g (e ∷ es) = good-all (after (turnAt L B) D e) (good-event D g e) es
 
   -- ---- the opening
 
-  good-begun : openFlow L noRecord noWords .refusal ≡ 0 → Good (begun L)
-  unfolding openTurn isTold againText told run
+  good-begun : openFlow L noRecord noWords .refusal ≡ 0 → Good (begun L bytesKind)
+  unfolding run
   good-begun z =
-      let rules = openRules L noRecord noWords in
-      let v : verdict rules ≡ 0 = sym (opening-refusal rules (openPairs L) (opened L) noRecord noWords) ∙ z in
-      let ws = openPairs L ++ drop (length (openPairs L)) noWords in
-      let p = length (openPairs L) / 2 in
-      let e : openFlow L noRecord noWords ≡ record { refusal = 0; pairs = p; words = ws; saved = opened L } = opens rules (openPairs L) (opened L) noRecord noWords v in
       let F = freshState L bytesKind (replicate stateSize 0) in
-      let long : length (opened L) ≡ flowSize = length-flow (start L) 0 0 in
-      let b : longAt (placed F flowAt (opened L)) beforeAt ≡ 0 =
-      ap (num 8) (part-other F flowAt (opened L) (omega (arith, fresh-size L, long)) beforeAt 8 (inl (omega arith))) ∙ fresh-zero L beforeAt (omega arith) in
-      let text = turnText (longAt (placed F flowAt (opened L)) beforeAt) ws p (isTold true false) 0 in
-      let t : text ≡ linesTo L B 0 =
-      append-nil (linesFrom (longAt (placed F flowAt (opened L)) beforeAt) ws p)
-      ∙ ap (λ (j : ℕ). linesFrom j ws p) b
-      ∙ lines-front 0 (openPairs L) (drop (length (openPairs L)) noWords) p (omega arith)
-      ∙ ap (λ (xs : List ℕ). linesFrom 0 xs (length xs / 2)) (sym (append-nil (openPairs L))) in
+      let text = linesTurn true (firstPairs L B bytesKind z) 0 0 false (firstWords L B bytesKind z) (begunState L B bytesKind z) 0 .text in
+      let t : text ≡ linesTo L B 0 = opening-text L B bytesKind z in
+      let zero-at : longAt F beforeAt ≡ 0 = fresh-number L bytesKind beforeAt 8 refl in
+      let zero-place : longAt F placeAt ≡ 0 = fresh-number L bytesKind placeAt 8 refl in
+      let zero-lines : longAt F linesAt ≡ 0 = fresh-number L bytesKind linesAt 8 refl in
       let few₀ : length text < wholeNumbers = omega (arith, ap length t, lines-few 0 (omega arith)) in
-      let parts = turned-parts F (opened L) (fresh-size L) long 0 (length text) (omega (arith, fresh-zero L placeAt (omega arith))) (omega (arith, fresh-zero L linesAt (omega arith), few₀)) in
-      let a : At L (record { before = longAt F beforeAt; saved = opened L }) = rw (fresh-zero L beforeAt (omega arith)) (at-start L) in
-      rw e
+      let parts = turned-parts F (opened L) (fresh-size L bytesKind) (opened-long L B bytesKind z) 0 (length text) (omega (arith, zero-place)) (omega (arith, zero-lines, few₀)) in
+      let a : At L (record { before = longAt F beforeAt; saved = opened L }) = rw zero-at (at-start L) in
+      rw (opening-is L B bytesKind z)
       (good-by _ text 0 (omega arith) t
       (ready-by F _ (opened L) (longAt F beforeAt) (longAt F placeAt + 0) (longAt F linesAt + length text) 0 (length (linesTo L B 0))
-      parts (fresh-kind L) a (opened-frontier L) (omega (arith, fresh-zero L beforeAt (omega arith), opened-offset L))
-      (omega (arith, fresh-zero L placeAt (omega arith))) (omega (arith, fresh-zero L linesAt (omega arith), ap length t))))
+      parts (fresh-kind L bytesKind (omega arith)) a (opened-frontier L) (omega (arith, zero-at, opened-offset L)) (omega (arith, zero-place)) (omega (arith, zero-lines, ap length t))))
 
   -- at the end of the line
   last-text : (D : Disk) → Good D → flowOffset (D .state) ≡ place D → place D ≡ length B → (n : ℕ) → turnAt L B D n .text ≡ lastLine 0 (length B)
@@ -333,4 +314,4 @@ killed L B z h s f es =
     let rules = openRules L noRecord noWords in
     let v : verdict rules ≡ 0 = sym (opening-refusal rules (openPairs L) (opened L) noRecord noWords) ∙ z in
     let u : verdict (listRules L) ≡ 0 = passes-front (listRules L) _ (passes-front (firstRules L noRecord) _ v) in
-    whole L B h s f u (afterAll L B (begun L) es) (good-all L B h s f (begun L) (good-begun L B h s f z) es)
+    whole L B h s f u (afterAll (turnAt L B) (begun L bytesKind) es) (good-all L B h s f (begun L bytesKind) (good-begun L B h s f z) es)

@@ -1,4 +1,11 @@
-pub mod Following
 pub mod Parts
 pub mod Lines
+pub mod Opening
+pub mod Feeding
 pub mod Killed
+pub mod Following
+pub mod Marks
+pub mod Sender
+pub mod Segments
+pub mod Lists
+pub mod Again

@@ -8,8 +8,9 @@ use lib.Seq.{take-add, getD-append-add}
 use Rattle.list.specs.Automaton.{start}
 use Rattle.feed.specs.Engine.{run, told}
 use Rattle.feed.proofs.Runs.{run-append, told-append, told-length}
-use Rattle.list_feed.specs.Plain.{plain, openPairs, pairsOf}
-use Rattle.list_feed.proofs.Opening.{openPairs-long}
+use Rattle.list_flow.specs.Opening.{openPairs}
+use Rattle.list_flow.proofs.Opening.{openPairs-long}
+use Rattle.list_feed.specs.Plain.{plain, pairsOf}
 use Rattle.list_renew_laws.specs.Renewed.{raised}
 use Rattle.program_text.specs.Text.{line}
 use Rattle.program_turn.specs.State.{wholeNumbers}
@@ -29,7 +30,7 @@ lines-taken b ws n l =
     ∙ lines-front b (take (2 * n) ws) (drop (2 * n) ws) n (omega (arith, l, length-take (2 * n) ws))
 
 -- the lines of pairs behind others
-lines-append : (b : ℕ) (xs ys : List ℕ) (m n : ℕ) → length xs ≡ 2 * m → linesFrom b (xs ++ ys) (m + n) ≡ linesFrom b xs m ++ linesFrom b ys n
+pub lines-append : (b : ℕ) (xs ys : List ℕ) (m n : ℕ) → length xs ≡ 2 * m → linesFrom b (xs ++ ys) (m + n) ≡ linesFrom b xs m ++ linesFrom b ys n
 unfolding linesFrom
 lines-append b xs ys m zero e =
     let z : m + 0 ≡ m = omega arith in
@@ -87,7 +88,7 @@ module _ (L B : List ℕ) (k m : ℕ) (within : k ≤ length B) where
       ∙ ap (λ (ws : List ℕ). openPairs L ++ ws) (told-append (plain L) (start L) 0 (take k B) (take m (drop k B)))
       ∙ rw z (sym (append-assoc (openPairs L) (told (plain L) (start L) 0 (take k B)) toldNext))
 
-  pairs-even : length (pairsOf L (take k B)) ≡ 2 * (length (pairsOf L (take k B)) / 2)
+  pub pairs-even : length (pairsOf L (take k B)) ≡ 2 * (length (pairsOf L (take k B)) / 2)
   pairs-even = omega (arith, length-append (openPairs L) (told (plain L) (start L) 0 (take k B)), openPairs-long L, told-length (plain L) (start L) 0 (take k B))
 
   pub lines-more : linesTo L B (k + m) ≡ linesTo L B k ++ linesFrom 0 toldNext (length toldNext / 2)

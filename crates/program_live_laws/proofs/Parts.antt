@@ -1,16 +1,20 @@
 -- The parts of a state after something is put into it: what was put stands there, and every other part stays. Assumes nothing.
 use Prim.Native.Nat.{ℕ, zero, suc, _+_, _*_, _-_, _%_, _^_, _≤_, _<_}
 use mathlib.Core.Path.{_≡_, refl, sym, ap, _∙_}
-use mathlib.Core.List.{List, _++_, append-assoc}
+use mathlib.Core.Bool.{Bool, true, false, _&&_, _||_}
+use mathlib.Core.List.{List, [], _∷_, _++_, append-assoc}
 use mathlib.Core.Logic.{_⊎_, inl, inr}
 use native.Mathlib.Omega.{arith}
 use lib.ListN.{length, take, drop, replicate, length-take, length-drop, length-append, length-replicate, take-append-drop}
 use lib.Seq.{take-append-seam, drop-append-seam, take-append-le, drop-append-le, drop-append-add, drop-drop}
-use Rattle.sets.specs.Set.{num, digits, placed}
-use Rattle.sets.proofs.Laws.{num-digits, length-digits}
-use Rattle.sets.proofs.Placing.{placed-fits, length-placed}
+use lib.Dec.{leb}
+use borrow.Author.Tests.{leb-true}
+use Rattle.rules.proofs.Scanning.{both}
+use Rattle.numbers.specs.Number.{num, digits, placed}
+use Rattle.numbers.proofs.Laws.{num-digits, length-digits}
+use Rattle.numbers.proofs.Placing.{placed-fits, length-placed}
 use Rattle.list_flow.specs.Flow.{flowSize}
-use Rattle.program_turn.specs.State.{stateSize, wholeNumbers, longAt, wordAt, flowOf, lengthAt, sumAt, kindAt, firstAt, beforeAt, placeAt, linesAt, flowAt, bytesKind, plusNumber, sumOf, freshState}
+use Rattle.program_turn.specs.State.{stateSize, wholeNumbers, longAt, wordAt, flowOf, lengthAt, sumAt, kindAt, firstAt, beforeAt, placeAt, linesAt, flowAt, plusNumber, sumOf, freshState}
 
 module _ (S : List ℕ) (at : ℕ) (xs : List ℕ) (fits : at + length xs ≤ length S) where
   front-long : length (take at S) ≡ at
@@ -79,6 +83,52 @@ plus-same S at n l h =
     let e : (longAt S at + n) % wholeNumbers ≡ longAt S at + n = omega (arith, h) in
     rw e (number-same S at 8 (longAt S at + n) l h)
 
+-- ---- parts put in, one after the other
+
+pub record Put : Type 0 where
+  pub at : ℕ
+  pub size : ℕ
+  pub bytes : List ℕ
+
+abbrev pub number : ℕ → ℕ → ℕ → Put
+number at k v = record { at = at; size = k; bytes = digits 8 k v }
+
+abbrev pub allPut : List ℕ → List Put → List ℕ
+allPut S [] = S
+allPut S (p ∷ ps) = allPut (placed S (p .at) (p .bytes)) ps
+
+-- each has its size, and stands within a state
+abbrev pub Fit : List Put → Type 0
+Fit [] = Unit {0}
+Fit (p ∷ ps) = (length (p .bytes) ≡ p .size) × (leb (p .at + p .size) stateSize ≡ true) × Fit ps
+
+-- none of them touches the n bytes from a on
+abbrev pub apart : ℕ → ℕ → List Put → Bool
+apart a n [] = true
+apart a n (p ∷ ps) = (leb (a + n) (p .at) || leb (p .at + p .size) a) && apart a n ps
+
+pub put-size : (ps : List Put) (S : List ℕ) → length (allPut S ps) ≡ length S
+put-size [] S = refl
+put-size (p ∷ ps) S = put-size ps (placed S (p .at) (p .bytes)) ∙ length-placed S (p .at) (p .bytes)
+
+pub put-other : (ps : List Put) (S : List ℕ) → length S ≡ stateSize → Fit ps → (a n : ℕ) → apart a n ps ≡ true → take n (drop a (allPut S ps)) ≡ take n (drop a S)
+put-other [] S z f a n h = refl
+put-other (p ∷ ps) S z f a n h =
+    let b = both (leb (a + n) (p .at) || leb (p .at + p .size) a) (apart a n ps) h in
+    put-other ps (placed S (p .at) (p .bytes)) (length-placed S (p .at) (p .bytes) ∙ z) (f .2) a n (b .1)
+    ∙ part-other S (p .at) (p .bytes) (omega (arith, f .0, leb-true (p .at + p .size) stateSize (f .1), z)) a n (side (leb (a + n) (p .at)) refl (b .0))
+  where
+    side : (l : Bool) → leb (a + n) (p .at) ≡ l → (l || leb (p .at + p .size) a) ≡ true → (a + n ≤ p .at) ⊎ (p .at + length (p .bytes) ≤ a)
+    side true e k = inl (leb-true (a + n) (p .at) e)
+    side false e k = inr (omega (arith, f .0, leb-true (p .at + p .size) a k))
+
+pub put-same : (p : Put) (ps : List Put) (S : List ℕ) → length S ≡ stateSize → Fit (p ∷ ps) → apart (p .at) (p .size) ps ≡ true
+    → take (p .size) (drop (p .at) (allPut S (p ∷ ps))) ≡ p .bytes
+put-same p ps S z f h =
+    put-other ps (placed S (p .at) (p .bytes)) (length-placed S (p .at) (p .bytes) ∙ z) (f .2) (p .at) (p .size) h
+    ∙ ap (λ (n : ℕ). take n (drop (p .at) (placed S (p .at) (p .bytes)))) (sym (f .0))
+    ∙ part-same S (p .at) (p .bytes) (omega (arith, f .0, leb-true (p .at + p .size) stateSize (f .1), z))
+
 -- ---- zeros
 
 zeros-take : (k n : ℕ) → num 8 (take k (replicate n 0)) ≡ 0
@@ -87,7 +137,7 @@ zeros-take zero n = refl
 zeros-take (suc k) zero = refl
 zeros-take (suc k) (suc n) = rw (zeros-take k n)
 
-zeros-drop : (a n : ℕ) → drop a (replicate {A = ℕ} n 0) ≡ replicate (n - a) 0
+pub zeros-drop : (a n : ℕ) → drop a (replicate {A = ℕ} n 0) ≡ replicate (n - a) 0
 zeros-drop zero n = let e : n - 0 ≡ n = omega arith in rw e
 zeros-drop (suc a) zero = let e : 0 - suc a ≡ 0 = omega arith in rw e
 zeros-drop (suc a) (suc n) = let e : suc n - suc a ≡ n - a = omega arith in rw e (zeros-drop a n)
@@ -187,37 +237,35 @@ module _ (S R : List ℕ) (size : length S ≡ stateSize) (long : length R ≡ f
             ∙ part-other S flowAt R fit₁ linesAt 8 (inl (omega arith)));
       }
 
--- ---- a fresh state: its list, the kind of bytes, and zeros
+-- ---- a fresh state: its list, its kind, and zeros
 
-module _ (L : List ℕ) where
+module _ (L : List ℕ) (kind : ℕ) where
   abbrev zeros : List ℕ
   zeros = replicate stateSize 0
 
-  abbrev F₁ : List ℕ
-  F₁ = placed zeros lengthAt (digits 8 8 (length L))
+  abbrev fresh-puts : List Put
+  fresh-puts = number lengthAt 8 (length L) ∷ number sumAt 8 (sumOf L) ∷ number kindAt 4 kind ∷ []
 
-  abbrev F₂ : List ℕ
-  F₂ = placed F₁ sumAt (digits 8 8 (sumOf L))
+  fresh-last : Fit (number kindAt 4 kind ∷ [])
+  fresh-last = (length-digits 8 4 kind, refl, tt)
+
+  fresh-fit : Fit fresh-puts
+  fresh-fit = (length-digits 8 8 (length L), refl, (length-digits 8 8 (sumOf L), refl, fresh-last))
 
   size₀ : length zeros ≡ stateSize
   size₀ = length-replicate {A = ℕ} stateSize 0
 
-  f₁ : length F₁ ≡ stateSize
-  f₁ = length-placed zeros lengthAt (digits 8 8 (length L)) ∙ size₀
+  pub fresh-size : length (freshState L kind zeros) ≡ stateSize
+  fresh-size = put-size fresh-puts zeros ∙ size₀
 
-  f₂ : length F₂ ≡ stateSize
-  f₂ = length-placed F₁ sumAt (digits 8 8 (sumOf L)) ∙ f₁
+  pub fresh-kind : kind < 2 ^ (8 * 4) → wordAt (freshState L kind zeros) kindAt ≡ kind
+  fresh-kind l =
+      ap (num 8) (put-same (number kindAt 4 kind) [] (allPut zeros (number lengthAt 8 (length L) ∷ number sumAt 8 (sumOf L) ∷ [])) (put-size (number lengthAt 8 (length L) ∷ number sumAt 8 (sumOf L) ∷ []) zeros ∙ size₀) fresh-last refl)
+      ∙ num-digits 8 4 kind l
 
-  pub fresh-size : length (freshState L bytesKind zeros) ≡ stateSize
-  fresh-size = length-placed F₂ kindAt (digits 8 4 bytesKind) ∙ f₂
+  -- each part from the first number on is zeros
+  pub fresh-part : (a n : ℕ) → apart a n fresh-puts ≡ true → take n (drop a (freshState L kind zeros)) ≡ take n (drop a zeros)
+  fresh-part a n e = put-other fresh-puts zeros size₀ fresh-fit a n e
 
-  pub fresh-kind : wordAt (freshState L bytesKind zeros) kindAt ≡ 0
-  fresh-kind = number-same F₂ kindAt 4 0 (omega (arith, f₂)) (omega arith)
-
-  pub fresh-zero : (a : ℕ) → 20 ≤ a → longAt (freshState L bytesKind zeros) a ≡ 0
-  fresh-zero a l =
-      ap (num 8)
-      (number-other F₂ kindAt 4 0 (omega (arith, f₂)) a 8 (inr (omega (arith, l)))
-      ∙ number-other F₁ sumAt 8 (sumOf L) (omega (arith, f₁)) a 8 (inr (omega (arith, l)))
-      ∙ number-other zeros lengthAt 8 (length L) (omega (arith, size₀)) a 8 (inr (omega (arith, l))))
-      ∙ zeros-part stateSize a 8
+  pub fresh-number : (a n : ℕ) → apart a n fresh-puts ≡ true → num 8 (take n (drop a (freshState L kind zeros))) ≡ 0
+  fresh-number a n e = ap (num 8) (fresh-part a n e) ∙ zeros-part stateSize a n

@@ -1,2 +1,4 @@
 pub mod Following
 pub mod Killed
+pub mod Segments
+pub mod Lists

@@ -7,7 +7,7 @@ use lib.Dec.{eqb}
 use borrow.Author.Tests.{eqb-true}
 use Rattle.feed.specs.Opening.{Opening}
 use Rattle.feed.proofs.Opening.{opens, opening-refusal}
-use Rattle.list_feed.specs.Plain.{openPairs, openRules, opened, openFlow}
+use Rattle.list_flow.specs.Opening.{openPairs, openRules, opened, openFlow}
 use Rattle.program.specs.declared.Said.{Said}
 use Rattle.program.specs.App.{Turn, openTurn, noWords, noRecord, Says}
 use Rattle.program.proofs.Feeding.{open-by}

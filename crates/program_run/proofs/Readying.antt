@@ -15,7 +15,8 @@ use Rattle.feed.specs.Fed.{Answers}
 use Rattle.feed.specs.declared.Fed.{Fed}
 use Rattle.feed.proofs.Lawful.{reached-start}
 use Rattle.list_flow.proofs.Records.{frontier-flow, flow-good}
-use Rattle.list_feed.specs.Plain.{opened, plainFeed}
+use Rattle.list_flow.specs.Opening.{opened}
+use Rattle.list_feed.specs.Plain.{plainFeed}
 use Rattle.list_feed.specs.Means.{listAutomata}
 use Rattle.matrix.specs.Matrix.{filled, Fills, matrixFeed}
 use Rattle.matrix.proofs.Exact.{filled-long}

@@ -11,8 +11,8 @@ use lib.Seq.{take-at, take-suc}
 use lib.Dec.{ltb}
 use borrow.Author.Tests.{lt-ltb, le-ltb}
 use Rattle.io.specs.Digits.{digits, Fewest}
-use Rattle.sets.specs.Set.{placed}
-use Rattle.sets.proofs.Placing.{placed-fits, length-placed, placed-none, placed-one, placed-after}
+use Rattle.numbers.specs.Number.{placed}
+use Rattle.numbers.proofs.Placing.{placed-fits, length-placed, placed-none, placed-one, placed-after}
 use Rattle.program_text.specs.Text.{mostDigits, lineSize, places, decimal, line, lines, lastLine, Puts}
 
 -- the first two pairs of "abab": `7 2`, `7 4`

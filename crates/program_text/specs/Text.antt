@@ -6,7 +6,7 @@ use mathlib.Core.List.{List, [], _∷_, _++_}
 use lib.ListN.{length, getD}
 use lib.Dec.{ltb, eqb}
 use Rattle.io.specs.Digits.{digits}
-use Rattle.sets.specs.Set.{placed}
+use Rattle.numbers.specs.Number.{placed}
 
 -- the most digits of a number; the most bytes of a line: two numbers, a space and a line feed
 abbrev pub mostDigits : ℕ

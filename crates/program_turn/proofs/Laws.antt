@@ -10,8 +10,8 @@ use lib.Seq.{take-suc, take-length}
 use lib.Dec.{eqb}
 use borrow.Author.Tests.{eq-eqb, ne-eqb, le-leb, lt-leb}
 use Rattle.io.specs.Counts.{Counts}
-use Rattle.sets.specs.Set.{placed, digits}
-use Rattle.sets.proofs.Placing.{placed-fits}
+use Rattle.numbers.specs.Number.{placed, digits}
+use Rattle.numbers.proofs.Placing.{placed-fits}
 use Rattle.segment.specs.Resend.{circle, heldSize}
 use Rattle.feed.specs.Fed.{Answers}
 use Rattle.feed.specs.declared.Fed.{Fed}

@@ -9,11 +9,11 @@ use lib.Dec.{eqb}
 use borrow.Author.Tests.{eq-eqb, ne-eqb}
 use Rattle.io.specs.Counts.{Counts}
 use Rattle.io.proofs.Counting.{counts}
-use Rattle.sets.specs.Set.{placed, digits}
+use Rattle.numbers.specs.Number.{placed, digits}
 use Rattle.feed.specs.Opening.{Opening, Opens}
 use Rattle.feed.specs.declared.Opened.{Opened}
-use Rattle.list_feed.specs.Plain.{openFlow}
-use Rattle.list_feed.proofs.Opening.{opened-fits}
+use Rattle.list_flow.specs.Opening.{openFlow}
+use Rattle.list_flow.proofs.Opening.{opened-fits}
 use Rattle.program_text.specs.Text.{lineSize, Puts}
 use Rattle.program_text.proofs.Texts.{puts-after, puts-front}
 use Rattle.program_turn.specs.State.{longAt, beforeAt, placeAt, linesAt, flowAt, lengthAt, sumAt, kindAt, sumOf, plusNumber, numbered, renewOn, isStateOf, freshState}

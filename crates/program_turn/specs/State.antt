@@ -4,7 +4,7 @@ use mathlib.Core.Bool.{Bool, false, cond}
 use mathlib.Core.List.{List, [], _∷_}
 use lib.ListN.{length, take, drop}
 use lib.Dec.{eqb, leb}
-use Rattle.sets.specs.Set.{num, digits, placed}
+use Rattle.numbers.specs.Number.{num, digits, placed}
 use Rattle.list_flow.specs.Flow.{flowSize, offsetOf}
 use Rattle.list_renew.specs.Renewal.{renewal}
 use Rattle.segment.specs.Resend.{circle, heldSize}

@@ -6,9 +6,10 @@ use mathlib.Core.List.{List, [], _∷_, _++_}
 use lib.ListN.{length, take, getD, replicate}
 use lib.Dec.{eqb}
 use Rattle.io.specs.Counts.{Counts}
-use Rattle.sets.specs.Set.{placed}
+use Rattle.numbers.specs.Number.{placed}
 use Rattle.list_flow.specs.Flow.{flowSize, offsetOf}
-use Rattle.list_feed.specs.Plain.{openFlow, plainFeed}
+use Rattle.list_flow.specs.Opening.{openFlow}
+use Rattle.list_feed.specs.Plain.{plainFeed}
 use Rattle.segment_feed.specs.Ways.{plainSegment}
 use Rattle.segment_feed.specs.Post.{sent, kept}
 use Rattle.program_text.specs.Text.{decimal, line, lineSize, lastLine}

@@ -5,7 +5,7 @@ ghost use mathlib.Core.Path.{_≡_};
 ghost use Prim.Native.Nat.{_+_, _*_, _%_, _≤_, _<_};
 ghost use lib.ListN.{length, take, drop, replicate};
 ghost use Rattle.io.specs.Counts.{Counts};
-ghost use Rattle.sets.specs.Set.{placed};
+ghost use Rattle.numbers.specs.Number.{placed};
 ghost use Rattle.list_flow.specs.Flow.{flowSize};
 ghost use Rattle.segment.specs.Resend.{heldSize};
 ghost use Rattle.program_text.specs.Text.{lineSize, line, Puts};
@@ -124,15 +124,15 @@ fn plus_number(state: &mut [u8], at: usize, n: u64)
     requires { ⌜ at + 8 ≤ length (now state) ⌝ }
     ensures { λ r. ⌜ now (state .exit) ≡ plusNumber (now (state .entry)) at n ⌝ }
 {
-    let v = sets::number_at(state, at, 8);
-    sets::put_number(state, at, 8, std::num::wrapping_add_u64(v, n));
+    let v = numbers::number_at(state, at, 8);
+    numbers::put_number(state, at, 8, std::num::wrapping_add_u64(v, n));
 }
 
 // A number of 4 bytes of the state.
 pub fn short_number(state: &[u8], at: usize) -> u32
     ensures { λ r. ⌜ r ≡ shortAt (now (state .entry)) at ⌝ }
 {
-    (sets::number_at(state, at, 4) % CIRCLE) as u32
+    (numbers::number_at(state, at, 4) % CIRCLE) as u32
 }
 
 // The first segment's number is that of the flow's first byte.
@@ -140,11 +140,11 @@ fn number(state: &mut [u8], start: u32)
     requires { ⌜ length (now state) ≡ stateSize ⌝ }
     ensures { λ r. ⌜ now (state .exit) ≡ numbered start (now (state .entry)) ⌝ }
 {
-    if sets::number_at(state, KIND_AT, 4) != SEGMENTS {
+    if numbers::number_at(state, KIND_AT, 4) != SEGMENTS {
         return;
     }
-    sets::put_number(state, FIRST_AT, 4, start as u64);
-    sets::put_number(state, KIND_AT, 4, NUMBERED);
+    numbers::put_number(state, FIRST_AT, 4, start as u64);
+    numbers::put_number(state, KIND_AT, 4, NUMBERED);
 }
 
 // Renews the record where its offset comes near the largest: the bytes since the last renewal are added to those before, and to the first number.
@@ -165,7 +165,7 @@ fn renew(state: &mut [u8])
     let first = std::num::wrapping_add_u32(short_number(state, FIRST_AT), (offset % CIRCLE) as u32);
     put_part(state, FLOW_AT, &flow);
     plus_number(state, BEFORE_AT, offset);
-    sets::put_number(state, FIRST_AT, 4, first as u64);
+    numbers::put_number(state, FIRST_AT, 4, first as u64);
 }
 
 // A state of a list that nothing is fed by yet; the array holds zeros.
@@ -173,19 +173,19 @@ pub fn fresh_state(list: &[u8], kind: u64, state: &mut [u8])
     requires { ⌜ length (now state) ≡ stateSize ⌝ }
     ensures { λ r. ⌜ now (state .exit) ≡ freshState (now (list .entry)) kind (now (state .entry)) ⌝ }
 {
-    sets::put_number(state, LENGTH_AT, 8, list.len() as u64);
-    sets::put_number(state, SUM_AT, 8, sum_of(list));
-    sets::put_number(state, KIND_AT, 4, kind);
+    numbers::put_number(state, LENGTH_AT, 8, list.len() as u64);
+    numbers::put_number(state, SUM_AT, 8, sum_of(list));
+    numbers::put_number(state, KIND_AT, 4, kind);
 }
 
 // Whether a state is one of a list.
 pub fn is_state_of(list: &[u8], state: &[u8]) -> bool
     ensures { λ r. ⌜ r ≡ isStateOf (now (list .entry)) (now (state .entry)) ⌝ }
 {
-    if sets::number_at(state, LENGTH_AT, 8) != list.len() as u64 {
+    if numbers::number_at(state, LENGTH_AT, 8) != list.len() as u64 {
         return false;
     }
-    sets::number_at(state, SUM_AT, 8) == sum_of(list)
+    numbers::number_at(state, SUM_AT, 8) == sum_of(list)
 }
 
 // ---- texts
@@ -271,8 +271,8 @@ fn keep(state: &mut [u8], flow: &[u8], held: &[u8], place: u32, count: u32)
 {
     put_part(state, FLOW_AT, flow);
     put_part(state, HELD_AT, held);
-    sets::put_number(state, HELD_START_AT, 4, place as u64);
-    sets::put_number(state, HELD_LENGTH_AT, 4, count as u64);
+    numbers::put_number(state, HELD_START_AT, 4, place as u64);
+    numbers::put_number(state, HELD_LENGTH_AT, 4, count as u64);
 }
 
 // The refusal of a flow, by that of a segment: one that has to be sent again is none.
@@ -334,7 +334,7 @@ fn give(list: &[u8], state: &mut [u8], start: u32, rest: &[u8], out: &mut [u32])
     requires { ⌜ (length (now state) ≡ stateSize) × (length (now rest) ≤ mostUnit) ⌝ }
     ensures { λ r. ⌜ Gives (givenOf (now (list .entry)) (now (state .entry)) start (now (rest .entry)) (now (out .entry))) r (now (out .exit)) (now (state .exit)) ⌝ }
 {
-    if sets::number_at(state, KIND_AT, 4) == OF_BYTES {
+    if numbers::number_at(state, KIND_AT, 4) == OF_BYTES {
         return give_plain(list, state, rest, out);
     }
     give_segment(list, state, start, rest, out)
@@ -350,7 +350,7 @@ fn is_end(state: &[u8], more: bool, n: usize) -> bool
     if n > 0 {
         return false;
     }
-    sets::number_at(state, KIND_AT, 4) == OF_BYTES
+    numbers::number_at(state, KIND_AT, 4) == OF_BYTES
 }
 
 // Whether `again` is told among the lines: where no state is kept. Where one is, what is sent again depends on when the run was cut, and the lines shall not.
@@ -370,7 +370,7 @@ fn offset_of(state: &[u8]) -> u64
 {
     let mut flow = [0u8; list_flow::FLOW_SIZE];
     take_part(state, FLOW_AT, &mut flow);
-    let before = sets::number_at(state, BEFORE_AT, 8);
+    let before = numbers::number_at(state, BEFORE_AT, 8);
     std::num::wrapping_add_u64(before, segment_feed::offset_of(&flow))
 }
 
@@ -401,7 +401,7 @@ fn say_lines(
     requires { ⌜ (length (now state) ≡ stateSize) × (textSize ≤ length (now text)) × (2 * given .pairs ≤ length (now out)) × (given .pairs ≤ mostPairs) ⌝ }
     ensures { λ r. ⌜ Says (linesTurn keeping (given .pairs) (given .done) (given .moved) (given .again) (now (out .entry)) (now (state .entry)) start) r (now (text .exit)) (now (state .exit)) ⌝ }
 {
-    let before = sets::number_at(state, BEFORE_AT, 8);
+    let before = numbers::number_at(state, BEFORE_AT, 8);
     let told = is_told(keeping, given.again);
     let length = put_turn(text, out, given.pairs, before, told, start);
     plus_number(state, PLACE_AT, given.moved as u64);
@@ -473,7 +473,7 @@ pub fn begin(keeping: bool, list: &[u8], state: &mut [u8], text: &mut [u8]) -> S
 {
     let mut flow = [0u8; list_flow::FLOW_SIZE];
     let mut out = [0u32; PAIR_WORDS];
-    let opened = list_feed::open_flow(list, &mut flow, &mut out);
+    let opened = list_flow::open_flow(list, &mut flow, &mut out);
     if opened.refusal != rules::PASSED {
         return say_last(text, state, opened.refusal);
     }

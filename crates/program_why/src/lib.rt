@@ -114,7 +114,7 @@ fn keep_records(list: &[u8], fd: i32, pieces: usize, records: &mut [u8]) -> u32 
     let mut flow = [0u8; list_flow::FLOW_SIZE];
     let mut piece = io::buffer();
     let mut out = [0u32; PAIR_WORDS];
-    let opened = list_feed::open_flow(list, &mut flow, &mut out);
+    let opened = list_flow::open_flow(list, &mut flow, &mut out);
     if opened.refusal != rules::PASSED {
         return opened.refusal;
     }

@@ -72,13 +72,13 @@ pub fn fill(call: Call, list: &[u8], table: &[u8], matrix: &mut [u8]) {
 // Replays an opening.
 pub fn open(list: &[u8], record: &mut [u8], out: &mut [u32]) {
     replay_tape::fill(out);
-    let opened = list_feed::open_flow(list, record, out);
+    let opened = list_flow::open_flow(list, record, out);
     replay_tape::put_opening(b'o', opened, out, record);
 }
 
 // Replays an opening of which the words are not told.
 pub fn open_silent(list: &[u8], record: &mut [u8], out: &mut [u32]) {
-    let opened = list_feed::open_flow(list, record, out);
+    let opened = list_flow::open_flow(list, record, out);
     replay_tape::begin(b'o');
     replay_tape::put(opened.refusal as u64);
     replay_tape::put(opened.pairs as u64);

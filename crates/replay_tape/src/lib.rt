@@ -83,7 +83,7 @@ pub fn read_command() -> u8 {
 fn read_front(b: &mut [u8], n: usize) -> u64 {
     let k = within(b, n);
     io::read_full(0, &mut b[..k]);
-    sets::number_at(b, 0, 8)
+    numbers::number_at(b, 0, 8)
 }
 
 // The next n bytes of the input, at most eight, as a number.

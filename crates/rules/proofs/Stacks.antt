@@ -9,8 +9,8 @@ use lib.ListN.{length, getD, take, drop, length-append, length-drop, List·getD-
 use lib.Seq.{drop-append-le, take-append-le, take-at, drop-at, drop-drop, drop-length, getD-drop}
 use lib.Dec.{eqb}
 use borrow.Author.Tests.{eq-eqb, ne-eqb}
-use Rattle.sets.specs.Set.{placed}
-use Rattle.sets.proofs.Placing.{placed-fits}
+use Rattle.numbers.specs.Number.{placed}
+use Rattle.numbers.proofs.Placing.{placed-fits}
 use Rattle.rules.specs.Scan.{stack}
 use Rattle.rules.proofs.Scanning.{below-suc, choose}
 

@@ -4,7 +4,7 @@ use mathlib.Core.Path.{_≡_, refl, sym, ap, _∙_}
 use mathlib.Core.Bool.{Bool, true, false, _&&_, _||_, not, cond}
 use mathlib.Core.List.{List, [], _++_}
 use native.Mathlib.Omega.{arith}
-use lib.ListN.{length, take, drop}
+use lib.ListN.{length, take, drop, length-take}
 use lib.Dec.{ltb, eqb}
 use borrow.Author.Tests.{ltb-true, ltb-false, eqb-true, eq-eqb, ne-eqb, not-false}
 use Rattle.rules.proofs.Scanning.{both, neither}
@@ -109,6 +109,11 @@ module _ (next : ℕ) (held : List ℕ) (p n q : ℕ) (seg : List ℕ) where
       → due next held p n q seg ≡ take (partDue next (length held) p n q (length seg) .length) (drop (partDue next (length held) p n q (length seg) .at) seg)
   unfolding due
   due-of-seg e = rw (ne-eqb (partDue next (length held) p n q (length seg) .source) 1 e)
+
+  -- it is short
+  pub due-short : length (due next held p n q seg) ≤ mostSegment
+  unfolding due
+  due-short = rw (length-take (partDue next (length held) p n q (length seg) .length)) (omega (arith, part-short next (length held) p n q (length seg)))
 
   pub due-bad : badSizes (length held) n (length seg) ≡ true → due next held p n q seg ≡ []
   unfolding due

@@ -23,10 +23,11 @@ use Rattle.feed.proofs.Calls.{along-more, after-more, told-more}
 use Rattle.feed.proofs.Feeds.{each-feed}
 use Rattle.feed.proofs.Opening.{opening-refusal}
 use Rattle.list_flow.specs.Flow.{offsetOf}
-use Rattle.list_feed.specs.Plain.{openRules, openPairs, opened, openFlow, plainFeed}
+use Rattle.list_flow.specs.Opening.{openRules, openPairs, opened, openFlow}
+use Rattle.list_feed.specs.Plain.{plainFeed}
 use Rattle.table.specs.Table.{Table, tableRefusal}
 use Rattle.laws.proofs.Demand1.{demand-1}
-use Rattle.laws.specs.Calls.{Call, Via, byList, Checked, wayOf}
+use Rattle.laws.specs.Calls.{Call, ListBy, Via, byList, Checked, wayOf, OnList}
 use Rattle.segment.specs.Resend.{circle, taking, due}
 use Rattle.segment.specs.Post.{Takes}
 use Rattle.segment.specs.declared.Held.{Held}
@@ -34,11 +35,10 @@ use Rattle.segment_feed.specs.Segment as segment
 use Rattle.segment_feed.specs.Segment.{Sent, Kept, Look, takeOf, dueOf, fedOf, keptOf, idle, busy, look, feedSegment}
 use Rattle.segment_feed.specs.Post.{Hears, sent, kept}
 use Rattle.segment_feed.specs.declared.Heard.{Heard}
-use Rattle.segment_feed.specs.Calls.{handed, Fits}
-use Rattle.segment_feed.specs.Streamed.{fresh, Far, whole, placed, Glance, glancing, Sees}
+use Rattle.segment_feed.specs.Calls.{handed, Fits, doorOf}
+use Rattle.segment_feed.specs.Streamed.{fresh, Far, whole, placed, Glance, glancing}
 use Rattle.segment_feed.proofs.Said.{refused-not-all, door-refused, taking-answers}
 use Rattle.segment_feed.proofs.Looking.{look-idle, look-busy, segment-fits}
-use Rattle.segment_laws.specs.Streams.{listCalls, OnList}
 use Rattle.segment_drivers.specs.Drivers.{SegmentKept, byFlag, numbersOf, Turned, farBy, SegmentsDriven, LooksDriven}
 use Rattle.segment_drivers.specs.declared.Standing.{Standing}
 use Rattle.segment_laws.proofs.Streams.{list-streams, list-restarts}
@@ -75,20 +75,20 @@ told-behind w n xs ys k h l =
 
 module _ (L : List ℕ) (via : Via) (s : ℕ) (start : ℕ) (piece : List ℕ) (so : Standing) (v : ℕ) (ws R H : List ℕ) (low : so .words ≤ v) (high : v ≤ length ws) where
   abbrev pub segmentBy : Call
-  segmentBy = record { list = L; via = via; at = start; piece = piece; out = midOf (so .words) (v - so .words) ws }
+  segmentBy = record { by = record { list = L; via = via }; at = start; piece = piece; out = midOf (so .words) (v - so .words) ws }
 
-  pub turned-fits : (h : Heard) (ys Q J : List ℕ) → Hears (feedSegment (wayOf via L) (sent s start piece) (kept R H (so .start) (so .length)) (midOf (so .words) (v - so .words) ws)) h ys Q J
+  pub turned-fits : (h : Heard) (ys Q J : List ℕ) → Hears (feedSegment (wayOf (record { list = L; via = via })) (sent s start piece) (kept R H (so .start) (so .length)) (midOf (so .words) (v - so .words) ws)) h ys Q J
       → so .words + 2 * h .pairs ≤ length ws
   turned-fits h ys Q J a =
-      let f = segment-fits (wayOf via L) (sent s start piece) (kept R H (so .start) (so .length)) (midOf (so .words) (v - so .words) ws) in
+      let f = segment-fits (wayOf (record { list = L; via = via })) (sent s start piece) (kept R H (so .start) (so .length)) (midOf (so .words) (v - so .words) ws) in
       omega (arith, f .0, a .pairs, mid-len (so .words) v ws high)
 
-  pub turned : (h : Heard) (ys Q J : List ℕ) → Hears (feedSegment (wayOf via L) (sent s start piece) (kept R H (so .start) (so .length)) (midOf (so .words) (v - so .words) ws)) h ys Q J
-      → Turned (handed listCalls s segmentBy) (kept R H (so .start) (so .length)) so ws
+  pub turned : (h : Heard) (ys Q J : List ℕ) → Hears (feedSegment (wayOf (record { list = L; via = via })) (sent s start piece) (kept R H (so .start) (so .length)) (midOf (so .words) (v - so .words) ws)) h ys Q J
+      → Turned (handed wayOf s segmentBy) (kept R H (so .start) (so .length)) so ws
       (record { start = h .start; length = h .length; words = so .words + 2 * h .pairs }) (putMid (so .words) (v - so .words) ws ys) Q J
   turned h ys Q J a =
       let out = midOf (so .words) (v - so .words) ws in
-      let f = segment-fits (wayOf via L) (sent s start piece) (kept R H (so .start) (so .length)) (midOf (so .words) (v - so .words) ws) in
+      let f = segment-fits (wayOf (record { list = L; via = via })) (sent s start piece) (kept R H (so .start) (so .length)) (midOf (so .words) (v - so .words) ws) in
       let m : length (midOf (so .words) (v - so .words) ws) ≡ v - so .words = mid-len (so .words) v ws high in
       let n : length (putMid (so .words) (v - so .words) ws ys) ≡ length ws = same-len-mid (so .words) (v - so .words) ws ys (ap length (a .words) ∙ f .1) in
       record {
@@ -136,7 +136,7 @@ module _ {A : Type 0} (ask : A → Asked Kept) (at : A → ℕ) (P : Kept → A 
 -- what a feed tells fits the words behind those told, and what opening tells fits them all
 pub fed-fits : (L R : List ℕ) (at : ℕ) (d : List ℕ) (w v : ℕ) (ws : List ℕ) → w ≤ v → v ≤ length ws → (f : Fed) (ys Q : List ℕ)
     → Answers (plainFeed L R at d (midOf w (v - w) ws)) f ys Q → w + 2 * f .pairs ≤ length ws
-fed-fits L R at d w v ws l h f ys Q a = omega (arith, each-feed (wayOf byList L) R at d (midOf w (v - w) ws) .pairs-fit, a .pairs, mid-len w v ws h)
+fed-fits L R at d w v ws l h f ys Q a = omega (arith, each-feed (wayOf (record { list = L; via = byList })) R at d (midOf w (v - w) ws) .pairs-fit, a .pairs, mid-len w v ws h)
 
 pub open-fits : (L R out : List ℕ) (f : Opened) (vs Q : List ℕ) → Opens (openFlow L R out) f vs Q → 2 * f .pairs ≤ length vs
 open-fits L R out f vs Q a = let d = demand-1 .opens L R out in rw (a .pairs, a .words) (omega (arith, d .pairs-fit, d .words-many))
@@ -150,16 +150,16 @@ open-refuses L R out f vs Q a =
 
 -- i segments so far, from the words `begun` and what is kept on
 abbrev pub Handing : List ℕ → ℕ → List ℕ → Kept → List ℕ → ℕ → Standing → List ℕ → List ℕ → List ℕ → Type 0
-Handing L s numbers = Led (handed listCalls s) (λ c. c .at) (Fits listCalls (OnList L) s) numbers
+Handing L s numbers = Led (handed wayOf s) (λ c. c .at) (λ S c. Fits (doorOf wayOf s S c ≡ 0 → OnList L (c .by)) c) numbers
 
 module _ (L : List ℕ) (b : ℕ) (T : Table) (s : ℕ) (numbers : List ℕ) where
   -- one more, by the list or through the table, where the check accepts it
   pub handing-more : (S : Kept) (begun : List ℕ) (i : ℕ) (so : Standing) (ws Q H : List ℕ) (flag : Bool) (start : ℕ) (piece out : List ℕ) (r : Standing) (vs R J : List ℕ)
       → tableRefusal L b T ≡ 0 → Handing L s numbers S begun i so ws Q H → i < length numbers → start ≡ getD numbers i 0 → start < circle → Bytes piece
-      → Turned (handed listCalls s (record { list = L; via = byFlag flag b T; at = start; piece = piece; out = out })) (kept Q H (so .start) (so .length)) so ws r vs R J
+      → Turned (handed wayOf s (record { by = record { list = L; via = byFlag flag b T }; at = start; piece = piece; out = out })) (kept Q H (so .start) (so .length)) so ws r vs R J
       → Handing L s numbers S begun (i + 1) r vs R J
   handing-more S begun i so ws Q H flag start piece out r vs R J ok k l e n h t =
-      led-more (handed listCalls s) (λ c. c .at) (Fits listCalls (OnList L) s) numbers S begun i so ws Q H (record { list = L; via = byFlag flag b T; at = start; piece = piece; out = out }) r vs R J k l e
+      led-more (handed wayOf s) (λ c. c .at) (λ S c. Fits (doorOf wayOf s S c ≡ 0 → OnList L (c .by)) c) numbers S begun i so ws Q H (record { by = record { list = L; via = byFlag flag b T }; at = start; piece = piece; out = out }) r vs R J k l e
       (record { number = n; bytes = h; fit = λ z. (refl, checked flag) }) t
     where
       checked : (flag : Bool) → Checked L (byFlag flag b T)
@@ -194,7 +194,7 @@ far-whole n e z = rw (e, ne-eqb n 2 z)
 module _ (L : List ℕ) (s start : ℕ) (piece : List ℕ) (so : Standing) (v : ℕ) (ws R H : List ℕ) (low : so .words ≤ v) (high : v ≤ length ws) (far at next : ℕ) (h : Held) (J : List ℕ)
     (offset : at ≡ offsetOf R) (number : next ≡ (s + at) % circle) (takes : Takes (taking next H (so .start) (so .length) start piece) h J) where
   abbrev W : Way
-  W = wayOf byList L
+  W = wayOf (record { list = L; via = byList })
 
   abbrev g : Sent
   g = sent s start piece
@@ -205,13 +205,13 @@ module _ (L : List ℕ) (s start : ℕ) (piece : List ℕ) (so : Standing) (v : 
   abbrev out : List ℕ
   out = midOf (so .words) (v - so .words) ws
 
-  abbrev glanceBy : Glance Call
+  abbrev glanceBy : Glance ListBy
   glanceBy = record { call = segmentBy L byList s start piece so v ws R H low high; far = farBy far }
 
   takes-here : Takes (takeOf W g S) h J
   takes-here = rw (number, offset) at takes
 
-  pub glanced-torn : far ≡ 2 → Turned (glancing listCalls s glanceBy) S so ws so ws R J
+  pub glanced-torn : far ≡ 2 → Turned (glancing wayOf s glanceBy) S so ws so ws R J
   glanced-torn e =
       rw e (record { left = rw (takes-here .bytes); told = sym (append-nil (take (so .words) ws)); room = omega arith })
 
@@ -224,11 +224,11 @@ module _ (L : List ℕ) (s start : ℕ) (piece : List ℕ) (so : Standing) (v : 
 
     -- a look that came as far as t says
     abbrev Came : Far → Standing → List ℕ → List ℕ → Type 0
-    Came t r vs Q = Turned (glancing listCalls s (record { call = segmentBy L byList s start piece so v ws R H low high; far = t })) S so ws r vs Q J
+    Came t r vs Q = Turned (glancing wayOf s (record { call = segmentBy L byList s start piece so v ws R H low high; far = t })) S so ws r vs Q J
 
     -- the place is saved, or nothing is due
     pub glanced-placed : (far ≡ 2 → ⊥) → (eqb far 1 || eqb (length d) 0) ≡ true
-        → Turned (glancing listCalls s glanceBy) S so ws (record { start = h .start; length = h .length; words = so .words }) ws R J
+        → Turned (glancing wayOf s glanceBy) S so ws (record { start = h .start; length = h .length; words = so .words }) ws R J
     glanced-placed n e = go (eqb far 1) refl e
       where
         go : (b : Bool) → eqb far 1 ≡ b → (b || eqb (length d) 0) ≡ true → Came (farBy far) (record { start = h .start; length = h .length; words = so .words }) ws R
@@ -246,7 +246,7 @@ module _ (L : List ℕ) (s start : ℕ) (piece : List ℕ) (so : Standing) (v : 
 
     -- what is due is fed
     pub glanced-whole : (far ≡ 2 → ⊥) → (eqb far 1 || eqb (length d) 0) ≡ false → (f : Fed) (ys Q : List ℕ) → Answers (plainFeed L R at d out) f ys Q
-        → Turned (glancing listCalls s glanceBy) S so ws (record { start = h .start; length = h .length; words = so .words + 2 * f .pairs }) (putMid (so .words) (v - so .words) ws ys) Q J
+        → Turned (glancing wayOf s glanceBy) S so ws (record { start = h .start; length = h .length; words = so .words + 2 * f .pairs }) (putMid (so .words) (v - so .words) ws ys) Q J
     glanced-whole n e f ys Q given =
         let t = takes-here in
         let q = neither (eqb far 1) (eqb (length d) 0) e in
@@ -270,16 +270,16 @@ module _ (L : List ℕ) (s start : ℕ) (piece : List ℕ) (so : Standing) (v : 
 
 -- i looks so far
 abbrev pub Looking : List ℕ → ℕ → List ℕ → Kept → List ℕ → ℕ → Standing → List ℕ → List ℕ → List ℕ → Type 0
-Looking L s numbers = Led (glancing listCalls s) (λ v. v .call .at) (Sees listCalls (OnList L)) numbers
+Looking L s numbers = Led (glancing wayOf s) (λ v. v .call .at) (λ S v. Fits (OnList L (v .call .by)) (v .call)) numbers
 
 module _ (L : List ℕ) (s : ℕ) (numbers : List ℕ) where
   pub looking-more : (S : Kept) (begun : List ℕ) (i : ℕ) (so : Standing) (ws Q H : List ℕ) (far start : ℕ) (piece out : List ℕ) (r : Standing) (vs R J : List ℕ)
       → Looking L s numbers S begun i so ws Q H → i < length numbers → start ≡ getD numbers i 0 → start < circle → Bytes piece
-      → Turned (glancing listCalls s (record { call = record { list = L; via = byList; at = start; piece = piece; out = out }; far = farBy far })) (kept Q H (so .start) (so .length)) so ws r vs R J
+      → Turned (glancing wayOf s (record { call = record { by = record { list = L; via = byList }; at = start; piece = piece; out = out }; far = farBy far })) (kept Q H (so .start) (so .length)) so ws r vs R J
       → Looking L s numbers S begun (i + 1) r vs R J
   looking-more S begun i so ws Q H far start piece out r vs R J k l e n h t =
-      led-more (glancing listCalls s) (λ v. v .call .at) (Sees listCalls (OnList L)) numbers S begun i so ws Q H
-      (record { call = record { list = L; via = byList; at = start; piece = piece; out = out }; far = farBy far }) r vs R J k l e
+      led-more (glancing wayOf s) (λ v. v .call .at) (λ S v. Fits (OnList L (v .call .by)) (v .call)) numbers S begun i so ws Q H
+      (record { call = record { by = record { list = L; via = byList }; at = start; piece = piece; out = out }; far = farBy far }) r vs R J k l e
       (record { number = n; bytes = h; fit = (refl, tt) }) t
 
   pub looks-driven : (R out held : List ℕ) (f : Opened) (vs Q : List ℕ) (r : Standing) (ws Z H : List ℕ) → Opens (openFlow L R out) f vs Q → Bytes held

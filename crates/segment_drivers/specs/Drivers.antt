@@ -11,16 +11,16 @@ use Rattle.feed.specs.Calls.{Way, Asked, recordAfter, allTold}
 use Rattle.feed.specs.Demands.{openTold}
 use Rattle.feed.specs.declared.Opened.{Opened}
 use Rattle.list_flow.specs.Flow.{flowLayout}
-use Rattle.list_feed.specs.Plain.{plain, openRules, openFlow}
+use Rattle.list_flow.specs.Opening.{openRules, openFlow}
+use Rattle.list_feed.specs.Plain.{plain}
 use Rattle.table.specs.Table.{Table, tableRefusal}
-use Rattle.laws.specs.Calls.{Via, byList, byTable}
+use Rattle.laws.specs.Calls.{Via, byList, byTable, wayOf}
 use Rattle.laws.specs.Demands.{Swapped}
 use Rattle.segment_feed.specs.Segment.{Sent, Kept, takeOf, dueOf, doorRules}
 use Rattle.segment_feed.specs.declared.Heard.{Heard}
 use Rattle.segment_feed.specs.Post.{kept}
 use Rattle.segment_feed.specs.Calls.{handed, looksAt}
 use Rattle.segment_feed.specs.Streamed.{fresh, Streamed, Far, whole, placed, torn, glancing, glanceAt}
-use Rattle.segment_laws.specs.Streams.{listCalls}
 use Rattle.segment_drivers.specs.declared.Standing.{Standing}
 
 -- ---- one segment
@@ -71,14 +71,14 @@ pub record SegmentsDriven (L : List ℕ) (b : ℕ) (T : Table) (s : ℕ) (number
   pub checks : checked ≡ tableRefusal L b T
   pub opens : Refuses (openRules L R out) (opened .refusal)
   pub streams : checked ≡ 0 → opened .refusal ≡ 0
-      → Driven (handed listCalls s) (λ c. c .at)
-      (Streamed (handed listCalls s) (looksAt listCalls s) listCalls flowLayout (plain L) (start L) (accepted L (start L)) (Swapped L (openFlow L R out)) (openFlow L R out) s held)
+      → Driven (handed wayOf s) (λ c. c .at)
+      (Streamed (handed wayOf s) (looksAt wayOf s) wayOf flowLayout (plain L) (start L) (accepted L (start L)) (Swapped L (openFlow L R out)) (openFlow L R out) s held)
       numbers L R out held r ws Q H
 
 -- looks with these numbers, of a caller who is killed as a list says, and starts again with what is saved: the same of them
 pub record LooksDriven (L : List ℕ) (s : ℕ) (numbers R out held : List ℕ) (opened : Opened) (r : Standing) (ws Q H : List ℕ) : Type 0 where
   pub opens : Refuses (openRules L R out) (opened .refusal)
   pub restarts : opened .refusal ≡ 0
-      → Driven (glancing listCalls s) (λ v. v .call .at)
-      (Streamed (glancing listCalls s) (glanceAt listCalls s) listCalls flowLayout (plain L) (start L) (accepted L (start L)) (Swapped L (openFlow L R out)) (openFlow L R out) s held)
+      → Driven (glancing wayOf s) (λ v. v .call .at)
+      (Streamed (glancing wayOf s) (glanceAt wayOf s) wayOf flowLayout (plain L) (start L) (accepted L (start L)) (Swapped L (openFlow L R out)) (openFlow L R out) s held)
       numbers L R out held r ws Q H

@@ -11,7 +11,6 @@ ghost use Rattle.segment_feed.specs.Ways.{plainWay, splitWay};
 ghost use Rattle.segment_feed.specs.Post.{Hears, sent, kept};
 ghost use Rattle.segment_feed.specs.Calls.{handed};
 ghost use Rattle.segment_feed.specs.Streamed.{glancing};
-ghost use Rattle.segment_laws.specs.Streams.{listCalls};
 ghost use Rattle.segment_drivers.specs.Drivers.{SegmentKept, byFlag, Turned, farBy, SegmentsDriven, LooksDriven};
 
 // Where a driver stands: the held place, and the words told.
@@ -130,7 +129,7 @@ fn hear(
     segment: &[u8],
     pairs: &mut [u32],
 ) -> Heard
-    ensures { λ r. ⌜ Hears (feedSegment (wayOf (byFlag through bound (table (now (classes .entry)) (now (parts .entry)) (now (rows .entry)) (now (splits .entry)))) (now (list .entry)))
+    ensures { λ r. ⌜ Hears (feedSegment (wayOf (record { list = now (list .entry); via = byFlag through bound (table (now (classes .entry)) (now (parts .entry)) (now (rows .entry)) (now (splits .entry))) }))
         (sent first start (now (segment .entry))) (kept (now (flow .entry)) (now (held .entry)) «held_start» «held_length») (now (pairs .entry)))
         r (now (pairs .exit)) (now (flow .exit)) (now (held .exit)) ⌝ }
 {
@@ -186,9 +185,11 @@ fn turn(
     v: usize,
 ) -> Standing
     requires { ⌜ (n ≤ e) × (e ≤ length (now bytes)) × (so .words ≤ v) × (v ≤ length (now pairs)) ⌝ }
-    ensures { λ r. ⌜ Turned (handed listCalls first (record {
-      list = now (list .entry);
-      via = byFlag through bound (table (now (classes .entry)) (now (parts .entry)) (now (rows .entry)) (now (splits .entry)));
+    ensures { λ r. ⌜ Turned (handed wayOf first (record {
+      by = record {
+        list = now (list .entry);
+        via = byFlag through bound (table (now (classes .entry)) (now (parts .entry)) (now (rows .entry)) (now (splits .entry)));
+      };
       at = start;
       piece = take (e - n) (drop n (now (bytes .entry)));
       out = take (v - so .words) (drop (so .words) (now (pairs .entry)));
@@ -245,7 +246,7 @@ fn drive_segments(
         (now (pairs .exit)) (now (flow .exit)) (now (held .exit)) ⌝ }
 {
     let checked = table::check_table(list, bound, classes, parts, rows, splits);
-    let opened = list_feed::open_flow(list, flow, pairs);
+    let opened = list_flow::open_flow(list, flow, pairs);
     let mut so = Standing {
         start: 0,
         length: 0,
@@ -306,10 +307,12 @@ fn glance(
     v: usize,
 ) -> Standing
     requires { ⌜ (so .words ≤ v) × (v ≤ length (now pairs)) ⌝ }
-    ensures { λ r. ⌜ Turned (glancing listCalls first (record {
+    ensures { λ r. ⌜ Turned (glancing wayOf first (record {
       call = record {
-        list = now (list .entry);
-        via = byList;
+        by = record {
+          list = now (list .entry);
+          via = byList;
+        };
         at = start;
         piece = now (segment .entry);
         out = take (v - so .words) (drop (so .words) (now (pairs .entry)));
@@ -365,7 +368,7 @@ fn drive_looks(
     ensures { λ r. ⌜ LooksDriven (now (list .entry)) first (now (numbers .entry)) (now (flow .entry)) (now (pairs .entry)) (now (held .entry))
         (r .opened) (r .stands) (now (pairs .exit)) (now (flow .exit)) (now (held .exit)) ⌝ }
 {
-    let opened = list_feed::open_flow(list, flow, pairs);
+    let opened = list_flow::open_flow(list, flow, pairs);
     let mut so = Standing {
         start: 0,
         length: 0,

@@ -17,10 +17,11 @@ use Rattle.feed.proofs.Feeds.{each-feed}
 use Rattle.segment.specs.Resend.{circle, mostSegment, badSizes, taking, due}
 use Rattle.segment.specs.Post.{Takes}
 use Rattle.segment.specs.declared.Held.{Held}
+use Rattle.segment.proofs.Parts.{due-short}
 use Rattle.segment_feed.specs.Segment.{Sent, Kept, Look, nextOf, takeOf, dueOf, fedOf, look, behind, more, looked, mostLooks, doorRules, atDoor, feedSegment}
 use Rattle.segment_feed.specs.Post.{Hears, Looks, More, Roomy, kept, heardAs, begunAs, idleAs, busyAs}
 use Rattle.segment_feed.specs.declared.Looked.{Looked}
-use Rattle.segment_feed.proofs.Looking.{look-idle, look-busy, feed-most, fed-down, due-short, more-on, more-off, looked-fitting}
+use Rattle.segment_feed.proofs.Looking.{look-idle, look-busy, feed-most, fed-down, more-on, more-off, looked-fitting}
 
 -- the end of the words is their rest, and what is put there stands behind the front
 pub mid-end : (w : ℕ) (xs : List ℕ) → midOf w (length xs - w) xs ≡ drop w xs

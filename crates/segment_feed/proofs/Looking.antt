@@ -4,7 +4,7 @@ use mathlib.Core.Path.{_≡_, refl}
 use mathlib.Core.Bool.{Bool, true, false}
 use mathlib.Core.List.{List, _++_}
 use native.Mathlib.Omega.{arith}
-use lib.ListN.{length, take, drop, length-take, length-drop, length-append}
+use lib.ListN.{length, take, drop, length-drop, length-append}
 use lib.Seq.{length-take-le, take-append-add}
 use lib.Dec.{eqb}
 use borrow.Author.Tests.{eqb-true, eqb-false, eq-eqb, ne-eqb}
@@ -13,15 +13,9 @@ use Rattle.feed.specs.Calls.{Way, fedBy}
 use Rattle.feed.proofs.Moves.{feed-fits, feed-length}
 use Rattle.feed.proofs.Runs.{length-take-most}
 use Rattle.feed.proofs.Whole.{by-feed}
-use Rattle.segment.specs.Resend.{mostSegment, due, partDue}
-use Rattle.segment.proofs.Parts.{part-short}
+use Rattle.segment.specs.Resend.{mostSegment}
+use Rattle.segment.proofs.Parts.{due-short}
 use Rattle.segment_feed.specs.Segment.{Sent, Kept, Heard, Look, nextOf, takeOf, dueOf, fedOf, idle, busy, look, behind, lookOn, more, looked, mostLooks, atDoor, feedSegment}
-
--- what is due is short
-pub due-short : (next : ℕ) (held : List ℕ) (p n q : ℕ) (seg : List ℕ) → length (due next held p n q seg) ≤ mostSegment
-unfolding due
-due-short next held p n q seg =
-    rw (length-take (partDue next (length held) p n q (length seg) .length)) (omega (arith, part-short next (length held) p n q (length seg)))
 
 -- a feed consumes at most its piece
 pub feed-most : (W : Way) (R : List ℕ) (at : ℕ) (piece out : List ℕ) → fedBy W R at piece out .bytes ≤ length piece

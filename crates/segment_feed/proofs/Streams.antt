@@ -9,7 +9,7 @@ use lib.Dec.{eqb}
 use borrow.Author.Tests.{eqb-true}
 use Rattle.rules.specs.Rules.{verdict}
 use Rattle.feed.specs.Engine.{Engine, Layout}
-use Rattle.feed.specs.Calls.{Bytes, Way, fedBy, Asked, asking, recordAfter, allTold, allBytes, Along, Pieces}
+use Rattle.feed.specs.Calls.{Bytes, Way, Asked, Call, ruled, asked, recordAfter, allTold, allBytes, Along, Pieces}
 use Rattle.feed.specs.Opening.{Opening}
 use Rattle.feed.specs.Demands.{Flowed}
 use Rattle.feed.proofs.Runs.{bytes-take, bytes-drop, bytes-append}
@@ -21,8 +21,8 @@ use Rattle.segment.proofs.Parts.{refuses, take-refused, take-kept, take-other}
 use Rattle.segment.proofs.Streams.{stream}
 use Rattle.segment.proofs.Carried.{carried}
 use Rattle.segment_feed.specs.Segment.{Sent, Kept, Look, nextOf, takeOf, dueOf, fedOf, keptOf, look, behind, lookOn, more, looked, mostLooks, atDoor, feedSegment}
-use Rattle.segment_feed.specs.Calls.{Calls, fed, sentOf, hears, handed, doorOf, lookAs, looksFrom, looksAt, Fits}
-use Rattle.segment_feed.specs.Streamed.{fresh, allSeen, Streamed, Streams, Far, whole, placed, torn, Glance, glanced, lookBy, glancing, glanceAt, Sees, Restarts}
+use Rattle.segment_feed.specs.Calls.{sentOf, hears, handed, doorOf, lookAs, looksFrom, looksAt, Fits}
+use Rattle.segment_feed.specs.Streamed.{fresh, allSeen, Streamed, Streams, Far, whole, placed, torn, Glance, glanced, lookBy, glancing, glanceAt, Restarts}
 use Rattle.segment_feed.proofs.Looking.{by-look, fed-down, behind-words, more-on, more-off, looked-fitting, looked-off}
 
 -- ---- bytes stay bytes
@@ -65,28 +65,26 @@ pub record Lies (W : Line) (S : Kept) (bs : List ℕ) : Type 0 where
 
 -- ---- feeds that go as an engine goes
 
--- a feed of the kind X that no rule refuses is fit
-abbrev pub Given : {C : Type 0} → Calls C → (C → Type 0) → List ℕ → C → Type 0
-Given X Fit R c = verdict (X .way c .rules R (X .at c) (X .piece c)) ≡ 0 → Fit c
+-- a feed that no rule refuses is fit
+abbrev pub Given : {B : Type 0} → (B → Way) → (B → Type 0) → List ℕ → Call B → Type 0
+Given way Fit R c = verdict (ruled way R c) ≡ 0 → Fit (c .by)
 
--- from the opening o on such feeds go as G goes from x, and `Demand` holds of them; each reads its offset as K does, and made anew it is by the same way, and as fit
-pub record Goes {C D : Type 0} (X : Calls C) (K : Layout D) (G : Engine D) (x : D) (first : ℕ) (Demand : List C → Type 0) (Fit : C → Type 0) (o : Opening) : Type 0 where
-  pub reads : (c : C) (R : List ℕ) → X .way c .layout .offset R ≡ K .offset R
-  pub again : (c : C) (at : ℕ) (piece out : List ℕ) → fed X (X .anew c at piece out) ≡ asking piece (λ R. fedBy (X .way c) R at piece out)
-  pub fits : (c : C) (at : ℕ) (piece out : List ℕ) → Fit c → Fit (X .anew c at piece out)
-  pub flows : (cs : List C) → Pieces (fed X) cs → Along (fed X) (Given X Fit) (o .saved) cs → Flowed (fed X) K G x first o cs
-  pub demand : (cs : List C) → Pieces (fed X) cs → Along (fed X) (Given X Fit) (o .saved) cs → Demand cs
+-- from the opening o on such feeds go as G goes from x, and `Demand` holds of them; each reads its offset as K does
+pub record Goes {B D : Type 0} (way : B → Way) (K : Layout D) (G : Engine D) (x : D) (first : ℕ) (Demand : List (Call B) → Type 0) (Fit : B → Type 0) (o : Opening) : Type 0 where
+  pub reads : (b : B) (R : List ℕ) → way b .layout .offset R ≡ K .offset R
+  pub flows : (cs : List (Call B)) → Pieces (asked way) cs → Along (asked way) (Given way Fit) (o .saved) cs → Flowed (asked way) K G x first o cs
+  pub demand : (cs : List (Call B)) → Pieces (asked way) cs → Along (asked way) (Given way Fit) (o .saved) cs → Demand cs
 
-module _ {C D : Type 0} (X : Calls C) (K : Layout D) (G : Engine D) (x : D) (first : ℕ) (Demand : List C → Type 0) (Fit : C → Type 0) (o : Opening)
-    (goes : Goes X K G x first Demand Fit o) (s : ℕ) (H : List ℕ) where
+module _ {B D : Type 0} (way : B → Way) (K : Layout D) (G : Engine D) (x : D) (first : ℕ) (Demand : List (Call B) → Type 0) (Fit : B → Type 0) (o : Opening)
+    (goes : Goes way K G x first Demand Fit o) (s : ℕ) (H : List ℕ) where
   -- some feeds from the opening on consumed bs, told ws and left the record of S; and the looks ls lie so
   record Came (S : Kept) (bs ws : List ℕ) (ls : List stream.Look) : Type 0 where
-    feeds : List C
-    in-bytes : Pieces (fed X) feeds
-    given : Along (fed X) (Given X Fit) (o .saved) feeds
-    eaten : allBytes (fed X) (o .saved) feeds ≡ bs
-    told : allTold (fed X) (o .saved) feeds ≡ ws
-    left : recordAfter (fed X) (o .saved) feeds ≡ S .flow
+    feeds : List (Call B)
+    in-bytes : Pieces (asked way) feeds
+    given : Along (asked way) (Given way Fit) (o .saved) feeds
+    eaten : allBytes (asked way) (o .saved) feeds ≡ bs
+    told : allTold (asked way) (o .saved) feeds ≡ ws
+    left : recordAfter (asked way) (o .saved) feeds ≡ S .flow
     held : Bytes (S .held)
     numbered : Numbered ls
     lies : Lies (looks s (begun H) ls) S bs
@@ -95,33 +93,33 @@ module _ {C D : Type 0} (X : Calls C) (K : Layout D) (G : Engine D) (x : D) (fir
   came-as p q r k = rw (← p, ← q, ← r) k
 
   -- the record's offset is the number of bytes passed down
-  came-offset : (c : C) (S : Kept) (bs ws : List ℕ) (ls : List stream.Look) → Came S bs ws ls → X .way c .layout .offset (S .flow) ≡ length bs
-  came-offset c S bs ws ls k = goes .reads c (S .flow) ∙ rw (← k .left, ← k .eaten) (goes .flows (k .feeds) (k .in-bytes) (k .given) .offset)
+  came-offset : (c : Call B) (S : Kept) (bs ws : List ℕ) (ls : List stream.Look) → Came S bs ws ls → way (c .by) .layout .offset (S .flow) ≡ length bs
+  came-offset c S bs ws ls k = goes .reads (c .by) (S .flow) ∙ rw (← k .left, ← k .eaten) (goes .flows (k .feeds) (k .in-bytes) (k .given) .offset)
 
   -- ---- one look more
 
-  module _ (c : C) (number : X .at c < circle) (sb : Bytes (X .piece c)) where
+  module _ (c : Call B) (number : c .at < circle) (sb : Bytes (c .piece)) where
     abbrev W : Way
-    W = X .way c
+    W = way (c .by)
 
     abbrev g : Sent
-    g = sentOf X s c
+    g = sentOf s c
 
     -- taking and passing on a line that lies as S says is taking and passing on S
     module _ (S : Kept) (bs : List ℕ) (offset : W .layout .offset (S .flow) ≡ length bs) (U : Line) (lies : Lies U S bs) where
       next-same : numberOf s U ≡ nextOf W g S
       next-same = rw (lies .down, offset)
 
-      taken-same : taking (numberOf s U) (U .held) (U .start) (U .length) (X .at c) (X .piece c) ≡ takeOf W g S
+      taken-same : taking (numberOf s U) (U .held) (U .start) (U .length) (c .at) (c .piece) ≡ takeOf W g S
       taken-same = rw (next-same, lies .held, lies .start, lies .length)
 
       -- a torn look leaves the place, and the buffer of the segment taken
-      lies-torn : Lies (tornBy s U (X .at c) (X .piece c)) (record { flow = S .flow; held = takeOf W g S .bytes; start = S .start; length = S .length }) bs
+      lies-torn : Lies (tornBy s U (c .at) (c .piece)) (record { flow = S .flow; held = takeOf W g S .bytes; start = S .start; length = S .length }) bs
       unfolding tornBy
       lies-torn = record { down = lies .down; start = lies .start; length = lies .length; held = ap (λ (h : Held). h .bytes) taken-same }
 
       lies-more : (m : ℕ) (F : List ℕ) (more : List ℕ) → take m (dueOf W g S) ≡ more
-          → Lies (passed s (taken s U (X .at c) (X .piece c)) (X .at c) (X .piece c) m) (keptOf W g S F) (bs ++ more)
+          → Lies (passed s (taken s U (c .at) (c .piece)) (c .at) (c .piece) m) (keptOf W g S F) (bs ++ more)
       unfolding taken passed
       lies-more m F more e =
           record {
@@ -133,16 +131,16 @@ module _ {C D : Type 0} (X : Calls C) (K : Layout D) (G : Engine D) (x : D) (fir
 
     module _ (S : Kept) (bs ws : List ℕ) (ls : List stream.Look) (k : Came S bs ws ls) where
       held-bytes : Bytes (takeOf W g S .bytes)
-      held-bytes = taking-bytes (nextOf W g S) (S .held) (S .start) (S .length) (X .at c) (X .piece c) (k .held) sb
+      held-bytes = taking-bytes (nextOf W g S) (S .held) (S .start) (S .length) (c .at) (c .piece) (k .held) sb
 
-      lies-on : (m : ℕ) (F more : List ℕ) → take m (dueOf W g S) ≡ more → Lies (looks s (begun H) (ls ++ (lookAs X c m ∷ []))) (keptOf W g S F) (bs ++ more)
+      lies-on : (m : ℕ) (F more : List ℕ) → take m (dueOf W g S) ≡ more → Lies (looks s (begun H) (ls ++ (lookAs c m ∷ []))) (keptOf W g S F) (bs ++ more)
       unfolding looks looking
       lies-on m F more e =
-          rw (looks-append s (begun H) ls (lookAs X c m ∷ []))
+          rw (looks-append s (begun H) ls (lookAs c m ∷ []))
           (lies-more S bs (came-offset c S bs ws ls k) (looks s (begun H) ls) (k .lies) m F more e)
 
       -- the segment is taken, and nothing is fed; or only the buffer of it is saved
-      came-placed : Came (keptOf W g S (S .flow)) bs ws (ls ++ (lookAs X c 0 ∷ []))
+      came-placed : Came (keptOf W g S (S .flow)) bs ws (ls ++ (lookAs c 0 ∷ []))
       came-placed =
           record {
             feeds = k .feeds;
@@ -152,12 +150,12 @@ module _ {C D : Type 0} (X : Calls C) (K : Layout D) (G : Engine D) (x : D) (fir
             told = k .told;
             left = k .left;
             held = held-bytes;
-            numbered = numbered-append ls (lookAs X c 0 ∷ []) (k .numbered) (number, tt);
+            numbered = numbered-append ls (lookAs c 0 ∷ []) (k .numbered) (number, tt);
             lies = rw (← append-nil bs) (lies-on 0 (S .flow) [] refl);
           }
 
       came-torn : Came (record { flow = S .flow; held = takeOf W g S .bytes; start = S .start; length = S .length }) bs ws
-          (ls ++ (record { start = X .at c; seg = X .piece c; eaten = 0; torn = true } ∷ []))
+          (ls ++ (record { start = c .at; seg = c .piece; eaten = 0; torn = true } ∷ []))
       unfolding looks looking
       came-torn =
           record {
@@ -168,51 +166,45 @@ module _ {C D : Type 0} (X : Calls C) (K : Layout D) (G : Engine D) (x : D) (fir
             told = k .told;
             left = k .left;
             held = held-bytes;
-            numbered = numbered-append ls (record { start = X .at c; seg = X .piece c; eaten = 0; torn = true } ∷ []) (k .numbered) (number, tt);
+            numbered = numbered-append ls (record { start = c .at; seg = c .piece; eaten = 0; torn = true } ∷ []) (k .numbered) (number, tt);
             lies =
-                rw (looks-append s (begun H) ls (record { start = X .at c; seg = X .piece c; eaten = 0; torn = true } ∷ []))
+                rw (looks-append s (begun H) ls (record { start = c .at; seg = c .piece; eaten = 0; torn = true } ∷ []))
                 (lies-torn S bs (came-offset c S bs ws ls k) (looks s (begun H) ls) (k .lies));
           }
 
-      module _ (fit : Fit c) (out : List ℕ) where
-        abbrev call : C
-        call = X .anew c (W .layout .offset (S .flow)) (dueOf W g S) out
-
-        asks : fed X call ≡ asking (dueOf W g S) (λ R. fedBy W R (W .layout .offset (S .flow)) (dueOf W g S) out)
-        asks = goes .again c (W .layout .offset (S .flow)) (dueOf W g S) out
+      module _ (fit : Fit (c .by)) (out : List ℕ) where
+        abbrev call : Call B
+        call = record { by = c .by; at = W .layout .offset (S .flow); piece = dueOf W g S; out = out }
 
         -- what is due is fed
         came-fed : let f = fedOf W g S out in
-            Came (keptOf W g S (f .saved)) (bs ++ take (f .bytes) (dueOf W g S)) (ws ++ take (2 * f .pairs) (f .words)) (ls ++ (lookAs X c (length (take (f .bytes) (dueOf W g S))) ∷ []))
+            Came (keptOf W g S (f .saved)) (bs ++ take (f .bytes) (dueOf W g S)) (ws ++ take (2 * f .pairs) (f .words)) (ls ++ (lookAs c (length (take (f .bytes) (dueOf W g S))) ∷ []))
         came-fed =
             let f = fedOf W g S out in
             record {
               feeds = k .feeds ++ (call ∷ []);
               in-bytes =
-                  pieces-more (fed X) call (k .feeds) (k .in-bytes)
-                  (subst (λ (a : Asked (List ℕ)). Bytes (a .piece)) (sym asks) (due-bytes (nextOf W g S) (takeOf W g S .bytes) (takeOf W g S .start) (takeOf W g S .length) (X .at c) (X .piece c) held-bytes sb));
-              given = along-more (fed X) call (Given X Fit) (o .saved) (k .feeds) (k .given) (λ v. goes .fits c (W .layout .offset (S .flow)) (dueOf W g S) out fit);
+                  pieces-more (asked way) call (k .feeds) (k .in-bytes)
+                  (due-bytes (nextOf W g S) (takeOf W g S .bytes) (takeOf W g S .start) (takeOf W g S .length) (c .at) (c .piece) held-bytes sb);
+              given = along-more (asked way) call (Given way Fit) (o .saved) (k .feeds) (k .given) (λ v. fit);
               eaten =
-                  eaten-more (fed X) call (o .saved) (k .feeds)
-                  ∙ ap (λ (a : Asked (List ℕ)). allBytes (fed X) (o .saved) (k .feeds) ++ a .eaten (recordAfter (fed X) (o .saved) (k .feeds))) asks ∙ rw (k .left, k .eaten);
+                  eaten-more (asked way) call (o .saved) (k .feeds) ∙ rw (k .left, k .eaten);
               told =
-                  told-more (fed X) call (o .saved) (k .feeds)
-                  ∙ ap (λ (a : Asked (List ℕ)). allTold (fed X) (o .saved) (k .feeds) ++ a .spoken (recordAfter (fed X) (o .saved) (k .feeds))) asks ∙ rw (k .left, k .told);
+                  told-more (asked way) call (o .saved) (k .feeds) ∙ rw (k .left, k .told);
               left =
-                  after-more (fed X) call (o .saved) (k .feeds)
-                  ∙ ap (λ (a : Asked (List ℕ)). a .left (recordAfter (fed X) (o .saved) (k .feeds))) asks ∙ rw (k .left);
+                  after-more (asked way) call (o .saved) (k .feeds) ∙ rw (k .left);
               held = held-bytes;
-              numbered = numbered-append ls (lookAs X c (length (take (f .bytes) (dueOf W g S))) ∷ []) (k .numbered) (number, tt);
+              numbered = numbered-append ls (lookAs c (length (take (f .bytes) (dueOf W g S))) ∷ []) (k .numbered) (number, tt);
               lies =
                   lies-on (length (take (f .bytes) (dueOf W g S))) (f .saved) (take (f .bytes) (dueOf W g S))
                   (ap (λ (n : ℕ). take n (dueOf W g S)) (fed-down W g S out));
             }
 
         came-look : let l = look W g S out .heard in
-            Came (l .kept) (bs ++ l .down) (ws ++ take (2 * l .pairs) (l .words)) (ls ++ (lookAs X c (length (l .down)) ∷ []))
+            Came (l .kept) (bs ++ l .down) (ws ++ take (2 * l .pairs) (l .words)) (ls ++ (lookAs c (length (l .down)) ∷ []))
         came-look =
             by-look W g S out
-            (λ l. Came (l .heard .kept) (bs ++ l .heard .down) (ws ++ take (2 * l .heard .pairs) (l .heard .words)) (ls ++ (lookAs X c (length (l .heard .down)) ∷ [])))
+            (λ l. Came (l .heard .kept) (bs ++ l .heard .down) (ws ++ take (2 * l .heard .pairs) (l .heard .words)) (ls ++ (lookAs c (length (l .heard .down)) ∷ [])))
             (λ e. came-as (sym (append-nil bs)) (sym (append-nil ws)) refl came-placed) (λ e. came-fed)
 
     -- ---- a segment
@@ -225,15 +217,15 @@ module _ {C D : Type 0} (X : Calls C) (K : Layout D) (G : Engine D) (x : D) (fir
       came-door : (out : List ℕ) → Heard-so (atDoor W g S out) []
       came-door out = came-as (sym (append-nil bs)) (sym (append-nil ws)) (sym (append-nil ls)) k
 
-      came-more : Fit c → (m : Look) (ms : List stream.Look) → 2 * m .heard .pairs ≤ length (m .heard .words) → Heard-so m ms
-          → Heard-so (more W g m) (ms ++ cond (m .on) (lookAs X c (length (lookOn W g m .heard .down)) ∷ []) [])
+      came-more : Fit (c .by) → (m : Look) (ms : List stream.Look) → 2 * m .heard .pairs ≤ length (m .heard .words) → Heard-so m ms
+          → Heard-so (more W g m) (ms ++ cond (m .on) (lookAs c (length (lookOn W g m .heard .down)) ∷ []) [])
       unfolding behind
       came-more fit m ms room k = go (m .on) refl
         where
           here : stream.Look
-          here = lookAs X c (length (lookOn W g m .heard .down))
+          here = lookAs c (length (lookOn W g m .heard .down))
 
-          go : (b : Bool) → m .on ≡ b → Heard-so (more W g m) (ms ++ cond b (lookAs X c (length (lookOn W g m .heard .down)) ∷ []) [])
+          go : (b : Bool) → m .on ≡ b → Heard-so (more W g m) (ms ++ cond b (lookAs c (length (lookOn W g m .heard .down)) ∷ []) [])
           go true e =
               rw (more-on W g m e)
               (came-as (append-assoc bs (m .heard .down) (lookOn W g m .heard .down))
@@ -243,25 +235,25 @@ module _ {C D : Type 0} (X : Calls C) (K : Layout D) (G : Engine D) (x : D) (fir
               (came-look (m .heard .kept) (bs ++ m .heard .down) (ws ++ take (2 * m .heard .pairs) (m .heard .words)) (ls ++ ms) k fit (drop (2 * m .heard .pairs) (m .heard .words))))
           go false e = rw (more-off W g m e) (came-as refl refl (ap (λ (xs : List stream.Look). ls ++ xs) (sym (append-nil ms))) k)
 
-      came-looked : Fit c → (n : ℕ) → Heard-so (looked n W g (atDoor W g S (X .out c))) (looksFrom X s c n (atDoor W g S (X .out c)))
+      came-looked : Fit (c .by) → (n : ℕ) → Heard-so (looked n W g (atDoor W g S (c .out))) (looksFrom way s c n (atDoor W g S (c .out)))
       unfolding looked
-      came-looked fit zero = came-door (X .out c)
+      came-looked fit zero = came-door (c .out)
       came-looked fit (suc n) =
-          let f = looked-fitting W g (length (X .out c)) n (atDoor W g S (X .out c)) (record { pairs = omega arith; words = refl; bytes = omega arith }) in
-          came-more fit (looked n W g (atDoor W g S (X .out c))) (looksFrom X s c n (atDoor W g S (X .out c))) (omega (arith, f .pairs, f .words)) (came-looked fit n)
+          let f = looked-fitting W g (length (c .out)) n (atDoor W g S (c .out)) (record { pairs = omega arith; words = refl; bytes = omega arith }) in
+          came-more fit (looked n W g (atDoor W g S (c .out))) (looksFrom way s c n (atDoor W g S (c .out))) (omega (arith, f .pairs, f .words)) (came-looked fit n)
 
       -- of a segment that is refused at the door there is no look
-      looks-none : (l : Look) → l .on ≡ false → (n : ℕ) → looksFrom X s c n l ≡ []
+      looks-none : (l : Look) → l .on ≡ false → (n : ℕ) → looksFrom way s c n l ≡ []
       looks-none l e zero = refl
       looks-none l e (suc n) = rw (looks-none l e n, looked-off n W g l e, e)
 
-      came-segment : Fits X Fit s S c → Came (hears X s S c .kept) (bs ++ hears X s S c .down) (ws ++ take (2 * hears X s S c .pairs) (hears X s S c .words)) (ls ++ looksAt X s S c)
+      came-segment : Fits (doorOf way s S c ≡ 0 → Fit (c .by)) c → Came (hears way s S c .kept) (bs ++ hears way s S c .down) (ws ++ take (2 * hears way s S c .pairs) (hears way s S c .words)) (ls ++ looksAt way s S c)
       unfolding feedSegment
-      came-segment f = go (eqb (doorOf X s S c) 0) refl
+      came-segment f = go (eqb (doorOf way s S c) 0) refl
         where
-          go : (b : Bool) → eqb (doorOf X s S c) 0 ≡ b → Heard-so (looked mostLooks W g (atDoor W g S (X .out c))) (looksFrom X s c mostLooks (atDoor W g S (X .out c)))
-          go true e = came-looked (f .fit (eqb-true (doorOf X s S c) 0 e)) mostLooks
-          go false e = rw (looked-off mostLooks W g (atDoor W g S (X .out c)) e, looks-none (atDoor W g S (X .out c)) e mostLooks) (came-door (X .out c))
+          go : (b : Bool) → eqb (doorOf way s S c) 0 ≡ b → Heard-so (looked mostLooks W g (atDoor W g S (c .out))) (looksFrom way s c mostLooks (atDoor W g S (c .out)))
+          go true e = came-looked (f .fit (eqb-true (doorOf way s S c) 0 e)) mostLooks
+          go false e = rw (looked-off mostLooks W g (atDoor W g S (c .out)) e, looks-none (atDoor W g S (c .out)) e mostLooks) (came-door (c .out))
 
   came-none : Bytes H → Came (fresh o H) [] [] []
   unfolding recordAfter allTold allBytes looks
@@ -291,7 +283,7 @@ module _ {C D : Type 0} (X : Calls C) (K : Layout D) (G : Engine D) (x : D) (fir
         (append-assoc ls (seen S c) (allSeen ask seen (ask c .left S) cs))
         (came-all cs (ask c .left S) (bs ++ ask c .eaten S) (ws ++ ask c .spoken S) (ls ++ seen S c) (f .1) (step S c bs ws ls (f .0) k))
 
-    all-streamed : Bytes H → (cs : List A) → Along ask P (fresh o H) cs → Streamed ask seen X K G x first Demand o s H cs
+    all-streamed : Bytes H → (cs : List A) → Along ask P (fresh o H) cs → Streamed ask seen way K G x first Demand o s H cs
     all-streamed hb cs f =
         let k = came-all cs (fresh o H) [] [] [] f (came-none hb) in
         let w = goes .flows (k .feeds) (k .in-bytes) (k .given) in
@@ -309,27 +301,27 @@ module _ {C D : Type 0} (X : Calls C) (K : Layout D) (G : Engine D) (x : D) (fir
         }
 
   -- one look of a caller who is killed, however far he came
-  came-glance : (S : Kept) (v : Glance C) (bs ws : List ℕ) (ls : List stream.Look) → Sees X Fit S v → Came S bs ws ls
-      → Came (glancing X s v .left S) (bs ++ glancing X s v .eaten S) (ws ++ glancing X s v .spoken S) (ls ++ glanceAt X s S v)
+  came-glance : (S : Kept) (v : Glance B) (bs ws : List ℕ) (ls : List stream.Look) → Fits (Fit (v .call .by)) (v .call) → Came S bs ws ls
+      → Came (glancing way s v .left S) (bs ++ glancing way s v .eaten S) (ws ++ glancing way s v .spoken S) (ls ++ glanceAt way s S v)
   came-glance S v bs ws ls f k = go (v .far)
     where
       go : (t : Far)
-          → Came (glanced X s S (v .call) t .kept) (bs ++ glanced X s S (v .call) t .down) (ws ++ take (2 * glanced X s S (v .call) t .pairs) (glanced X s S (v .call) t .words)) (ls ++ (lookBy X s S (v .call) t ∷ []))
-      go whole = came-look (v .call) (f .number) (f .bytes) S bs ws ls k (f .fit) (X .out (v .call))
+          → Came (glanced way s S (v .call) t .kept) (bs ++ glanced way s S (v .call) t .down) (ws ++ take (2 * glanced way s S (v .call) t .pairs) (glanced way s S (v .call) t .words)) (ls ++ (lookBy way s S (v .call) t ∷ []))
+      go whole = came-look (v .call) (f .number) (f .bytes) S bs ws ls k (f .fit) (v .call .out)
       go placed = came-as (sym (append-nil bs)) (sym (append-nil ws)) refl (came-placed (v .call) (f .number) (f .bytes) S bs ws ls k)
       go torn = came-as (sym (append-nil bs)) (sym (append-nil ws)) refl (came-torn (v .call) (f .number) (f .bytes) S bs ws ls k)
 
 -- ---- the theorems, over any way that goes as its automaton goes
 
-module _ {C D : Type 0} (X : Calls C) (K : Layout D) (G : Engine D) (x : D) (first : ℕ) (Demand : List C → Type 0) (Fit : C → Type 0) (o : Opening)
-    (goes : Goes X K G x first Demand Fit o) where
+module _ {B D : Type 0} (way : B → Way) (K : Layout D) (G : Engine D) (x : D) (first : ℕ) (Demand : List (Call B) → Type 0) (Fit : B → Type 0) (o : Opening)
+    (goes : Goes way K G x first Demand Fit o) where
   -- whatever segments come, in whatever order, cut and resent: each byte passed down is the one that first came for its place, and each pair is told once
-  pub streamed : Streams X K G x first Demand Fit o
+  pub streamed : Streams way K G x first Demand Fit o
   streamed s H hb cs f =
-      all-streamed X K G x first Demand Fit o goes s H (handed X s) (looksAt X s) (Fits X Fit s)
-      (λ S c bs ws ls p k. came-segment X K G x first Demand Fit o goes s H c (p .number) (p .bytes) S bs ws ls k p) hb cs f
+      all-streamed way K G x first Demand Fit o goes s H (handed way s) (looksAt way s) (λ S c. Fits (doorOf way s S c ≡ 0 → Fit (c .by)) c)
+      (λ S c bs ws ls p k. came-segment way K G x first Demand Fit o goes s H c (p .number) (p .bytes) S bs ws ls k p) hb cs f
 
   -- killed between any two writes and started again: nothing is told twice, and nothing is lost, up to the offset that is saved
-  pub restarted : Restarts X K G x first Demand Fit o
+  pub restarted : Restarts way K G x first Demand Fit o
   restarted s H hb gs f =
-      all-streamed X K G x first Demand Fit o goes s H (glancing X s) (glanceAt X s) (Sees X Fit) (came-glance X K G x first Demand Fit o goes s H) hb gs f
+      all-streamed way K G x first Demand Fit o goes s H (glancing way s) (glanceAt way s) (λ S v. Fits (Fit (v .call .by)) (v .call)) (came-glance way K G x first Demand Fit o goes s H) hb gs f

@@ -46,7 +46,7 @@ pub struct Looked {
 pub fn offset_of(flow: &[u8]) -> u64
     ensures { λ r. ⌜ r ≡ offsetOf (now (flow .entry)) ⌝ }
 {
-    sets::number_at(flow, sets::BYTES, 4)
+    numbers::number_at(flow, sets::BYTES, 4)
 }
 
 // The number of the byte at an offset, where the flow's first byte has number `first`.

@@ -9,7 +9,8 @@ use native.Mathlib.Decide.{ℕ-discrete}
 use lib.ListN.{length, drop}
 use lib.Dec.{lit<, eqb}
 use borrow.Author.Tests.{eqb-true, eqb-false}
-use Rattle.sets.specs.Set.{setBytes, digits}
+use Rattle.numbers.specs.Number.{digits}
+use Rattle.sets.specs.Set.{setBytes}
 use Rattle.rules.specs.Rules.{verdict}
 use Rattle.rules.proofs.Rules.{verdict-lt}
 use Rattle.feed.specs.Engine.{ended}
@@ -20,7 +21,7 @@ use Rattle.feed.proofs.Feeds.{each-feed}
 use Rattle.list_flow.specs.Flow.{offsetOf, flowBytes}
 use Rattle.index.specs.Stand.{indexed, standLayout, standRules, standFeed, stoodAt}
 use Rattle.index.specs.Right.{Right}
-use Rattle.laws.proofs.Demand1.{demand-1}
+use Rattle.laws.proofs.Demand1.{demand-prepared}
 use Rattle.segment_feed.specs.Segment.{Sent, Kept, Look, nextOf, takeOf, dueOf, look, behind, more, looked, mostLooks, doorRules, atDoor, feedSegment}
 use Rattle.segment_feed.proofs.Looking.{look-idle, look-busy, more-on, more-off}
 use Rattle.segment_feed.proofs.Streams.{due-bytes, taking-bytes}
@@ -95,7 +96,7 @@ module _ (L S X : List ℕ) (r : Right L S X) (h : ℕ) (g : Sent) (sb : Bytes (
               flow = saved-bytes;
               held = taken-bytes;
               passed = λ y. each-feed W (K .flow) at d out .all .0 y .0;
-              stands = λ f. demand-1 .stands-said L S X r h (K .flow) at d out hf piece-bytes (passes f);
+              stands = λ f. demand-prepared .stands-said L S X r h (K .flow) at d out hf piece-bytes (passes f);
             })
 
   -- ---- looks, one after the other

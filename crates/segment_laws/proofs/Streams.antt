@@ -5,35 +5,34 @@ use mathlib.Core.Path.{_≡_, refl}
 use Rattle.list.specs.Automaton.{start, accepted}
 use Rattle.feed.specs.Calls.{Bytes}
 use Rattle.list_flow.specs.Flow.{flowLayout}
-use Rattle.list_feed.specs.Plain.{plain, openFlow}
+use Rattle.list_flow.specs.Opening.{openFlow}
+use Rattle.list_feed.specs.Plain.{plain}
 use Rattle.machine.specs.Machine.{machine, first, firstAlerts}
 use Rattle.machine.specs.Record as x
 use Rattle.machine.specs.Extended.{extendedOpen}
+use Rattle.laws.specs.Calls.{wayOf, OnList}
 use Rattle.laws.specs.Demands.{Swapped}
 use Rattle.laws.proofs.Swapping.{swapped}
+use Rattle.machine_laws.specs.Calls as machines
 use Rattle.machine_laws.specs.Demands.{Demand2Opened}
 use Rattle.machine_laws.proofs.Demand2.{demand-2-opened}
 use Rattle.segment_feed.proofs.Streams.{Goes, streamed, restarted}
-use Rattle.segment_laws.specs.Streams.{listCalls, OnList, ListStreams, ListRestarts, machineCalls, OnMachine, MachineStreams, MachineRestarts}
+use Rattle.segment_laws.specs.Streams.{ListStreams, ListRestarts, MachineStreams, MachineRestarts}
 
 list-goes : (L R out : List ℕ) → openFlow L R out .refusal ≡ 0
-    → Goes listCalls flowLayout (plain L) (start L) (accepted L (start L)) (Swapped L (openFlow L R out)) (OnList L) (openFlow L R out)
+    → Goes wayOf flowLayout (plain L) (start L) (accepted L (start L)) (Swapped L (openFlow L R out)) (OnList L) (openFlow L R out)
 list-goes L R out z =
     record {
-      reads = λ c Q. refl;
-      again = λ c at piece words. refl;
-      fits = λ c at piece words f. f;
+      reads = λ b Q. refl;
       flows = λ cs hb h. swapped L R out z cs hb h .flows;
       demand = swapped L R out z;
     }
 
 machine-goes : (M P : List ℕ) → Bytes M → Bytes P → (R out : List ℕ) → extendedOpen M P R out .refusal ≡ 0
-    → Goes machineCalls x.flowLayout (machine M P) (first P) (firstAlerts P) (Demand2Opened M P (extendedOpen M P R out)) (OnMachine M P) (extendedOpen M P R out)
+    → Goes machines.wayOf x.flowLayout (machine M P) (first P) (firstAlerts P) (Demand2Opened M P (extendedOpen M P R out)) (machines.OnMachine M P) (extendedOpen M P R out)
 machine-goes M P hm hp R out z =
     record {
-      reads = λ c Q. refl;
-      again = λ c at piece words. refl;
-      fits = λ c at piece words f. f;
+      reads = λ b Q. refl;
       flows = λ cs hb h. demand-2-opened M P hm hp R out z cs hb h .flows;
       demand = demand-2-opened M P hm hp R out z;
     }

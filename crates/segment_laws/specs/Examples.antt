@@ -4,15 +4,14 @@ use mathlib.Core.Bool.{cond}
 use mathlib.Core.List.{List, [], _∷_, _++_}
 use lib.ListN.{replicate, take}
 use Rattle.laws_examples.specs.Examples.{Row, L}
-use Rattle.list_feed.specs.Plain.{openFlow}
 use Rattle.list_flow.specs.Flow.{flowSize, flowBytes, offsetOf}
+use Rattle.list_flow.specs.Opening.{openFlow}
 use Rattle.feed.specs.Calls.{recordAfter, allTold, allBytes}
-use Rattle.laws.specs.Calls.{Call, byList}
+use Rattle.laws.specs.Calls.{Call, byList, wayOf}
 use Rattle.segment.specs.Resend.{heldSize, badSizes, Held, taking, due}
 use Rattle.segment_feed.specs.Segment.{Kept}
 use Rattle.segment_feed.specs.Calls.{hears, handed}
 use Rattle.segment_feed.specs.Streamed.{fresh}
-use Rattle.segment_laws.specs.Streams.{listCalls}
 
 -- ---- taking and what is due: `next`, the held place, and a segment
 
@@ -88,14 +87,14 @@ sizeRow = (
 -- ---- whole flows of the barn list, whose first byte has number 1000 or 4,294,967,295
 
 abbrev pub segment : ℕ → List ℕ → Call
-segment q bs = record { list = L; via = byList; at = q; piece = bs; out = replicate 8 0 }
+segment q bs = record { by = record { list = L; via = byList }; at = q; piece = bs; out = replicate 8 0 }
 
 abbrev pub begun₀ : Kept
 begun₀ = fresh (openFlow L (replicate flowSize 0) []) (replicate heldSize 0)
 
 -- the bytes passed down, a dot, the words told, a dot, and how many bytes are held then
 abbrev pub heard : ℕ → List Call → List ℕ
-heard s cs = allBytes (handed listCalls s) begun₀ cs ++ (0 ∷ (allTold (handed listCalls s) begun₀ cs ++ (0 ∷ recordAfter (handed listCalls s) begun₀ cs .length ∷ [])))
+heard s cs = allBytes (handed wayOf s) begun₀ cs ++ (0 ∷ (allTold (handed wayOf s) begun₀ cs ++ (0 ∷ recordAfter (handed wayOf s) begun₀ cs .length ∷ [])))
 
 abbrev pub flowRows : List Row
 flowRows =
@@ -116,17 +115,17 @@ keptAs R p n = record { flow = R; held = holding (98 ∷ 0 ∷ 0 ∷ 0 ∷ []); 
 -- the refusal, the bytes passed down, and then the offset and how many bytes are held
 abbrev pub heardFrom : Kept → Call → List ℕ
 heardFrom S c =
-    let h = hears listCalls 1000 S c in
+    let h = hears wayOf 1000 S c in
     h .refusal ∷ (h .down ++ (offsetOf (h .kept .flow) ∷ h .kept .length ∷ []))
 
 -- the refusal, and 1 where nothing is due any more
 abbrev pub saidFrom : Kept → Call → List ℕ
 saidFrom S c =
-    let h = hears listCalls 1000 S c in h .refusal ∷ cond (h .all) 1 0 ∷ []
+    let h = hears wayOf 1000 S c in h .refusal ∷ cond (h .all) 1 0 ∷ []
 
 -- a segment with no room for pairs
 abbrev pub bare : ℕ → List ℕ → Call
-bare q bs = record { list = L; via = byList; at = q; piece = bs; out = [] }
+bare q bs = record { by = record { list = L; via = byList }; at = q; piece = bs; out = [] }
 
 abbrev pub singleRows : List Row
 singleRows =

@@ -10,74 +10,46 @@ use Rattle.rules.specs.Words.{Row, InWords}
 use Rattle.list.specs.Automaton.{start, accepted}
 use Rattle.feed.specs.Calls.{Bytes, Way}
 use Rattle.list_flow.specs.Flow.{flowLayout, frontierOf, offsetOf}
-use Rattle.list_feed.specs.Plain.{plain, openFlow}
+use Rattle.list_flow.specs.Opening.{openFlow}
+use Rattle.list_feed.specs.Plain.{plain}
 use Rattle.table.specs.Table.{splitCount}
 use Rattle.index.specs.Right.{IsAt, Right}
 use Rattle.machine.specs.Machine.{machine, first, firstAlerts}
 use Rattle.machine.specs.Record as x
 use Rattle.machine.specs.Extended.{extendedOpen}
 use Rattle.machine.specs.Words.{feedWords}
-use Rattle.laws.specs.Calls.{Via, Call, Checked, wayOf, wordsBy}
+use Rattle.laws.specs.Calls.{Via, wayOf, OnList, wordsBy}
 use Rattle.laws.specs.Demands.{Swapped}
 use Rattle.machine_laws.specs.Calls as machines
 use Rattle.machine_laws.specs.Demands.{Demand2Opened}
 use Rattle.segment.specs.Resend.{mostSegment, heldSize}
 use Rattle.segment_feed.specs.Segment.{Sent, Kept, takeOf, dueOf, unheard, doorRules, feedSegment}
-use Rattle.segment_feed.specs.Calls.{Calls}
 use Rattle.segment_feed.specs.Streamed.{Streams, Restarts}
 use Rattle.segment_index.specs.Standing.{standWay, standSegment, stoodBy}
 
 -- ---- a flow of a list, each segment by the list alone, through a table, by a matrix or by an index
 
-abbrev pub listCalls : Calls Call
-listCalls =
-    record {
-      way = λ c. wayOf (c .via) (c .list);
-      at = λ c. c .at;
-      piece = λ c. c .piece;
-      out = λ c. c .out;
-      anew = λ c at piece out. record { list = c .list; via = c .via; at = at; piece = piece; out = out };
-    }
-
--- on L, by what is checked
-abbrev pub OnList : List ℕ → Call → Type 0
-OnList L c = (c .list ≡ L) × Checked L (c .via)
-
 abbrev pub ListStreams : Type 0
 ListStreams =
     (L R out : List ℕ) → openFlow L R out .refusal ≡ 0
-    → Streams listCalls flowLayout (plain L) (start L) (accepted L (start L)) (Swapped L (openFlow L R out)) (OnList L) (openFlow L R out)
+    → Streams wayOf flowLayout (plain L) (start L) (accepted L (start L)) (Swapped L (openFlow L R out)) (OnList L) (openFlow L R out)
 
 abbrev pub ListRestarts : Type 0
 ListRestarts =
     (L R out : List ℕ) → openFlow L R out .refusal ≡ 0
-    → Restarts listCalls flowLayout (plain L) (start L) (accepted L (start L)) (Swapped L (openFlow L R out)) (OnList L) (openFlow L R out)
+    → Restarts wayOf flowLayout (plain L) (start L) (accepted L (start L)) (Swapped L (openFlow L R out)) (OnList L) (openFlow L R out)
 
 -- ---- a flow of a machine
-
-abbrev pub machineCalls : Calls machines.Call
-machineCalls =
-    record {
-      way = λ c. machines.wayOf (c .moves) (c .programs);
-      at = λ c. c .at;
-      piece = λ c. c .piece;
-      out = λ c. c .out;
-      anew = λ c at piece out. record { moves = c .moves; programs = c .programs; at = at; piece = piece; out = out };
-    }
-
--- by the lists M and P
-abbrev pub OnMachine : List ℕ → List ℕ → machines.Call → Type 0
-OnMachine M P c = (c .moves ≡ M) × (c .programs ≡ P)
 
 abbrev pub MachineStreams : Type 0
 MachineStreams =
     (M P : List ℕ) → Bytes M → Bytes P → (R out : List ℕ) → extendedOpen M P R out .refusal ≡ 0
-    → Streams machineCalls x.flowLayout (machine M P) (first P) (firstAlerts P) (Demand2Opened M P (extendedOpen M P R out)) (OnMachine M P) (extendedOpen M P R out)
+    → Streams machines.wayOf x.flowLayout (machine M P) (first P) (firstAlerts P) (Demand2Opened M P (extendedOpen M P R out)) (machines.OnMachine M P) (extendedOpen M P R out)
 
 abbrev pub MachineRestarts : Type 0
 MachineRestarts =
     (M P : List ℕ) → Bytes M → Bytes P → (R out : List ℕ) → extendedOpen M P R out .refusal ≡ 0
-    → Restarts machineCalls x.flowLayout (machine M P) (first P) (firstAlerts P) (Demand2Opened M P (extendedOpen M P R out)) (OnMachine M P) (extendedOpen M P R out)
+    → Restarts machines.wayOf x.flowLayout (machine M P) (first P) (firstAlerts P) (Demand2Opened M P (extendedOpen M P R out)) (machines.OnMachine M P) (extendedOpen M P R out)
 
 -- ---- demand 1 of segments, by any way whose rules for a feed of no bytes are in words the rows `ws`
 
@@ -98,12 +70,12 @@ pub record SegmentRefuses (W : Way) (ws : List Row) (g : Sent) (S : Kept) (out :
 -- by the list alone, through a table, by a matrix or by an index
 abbrev pub SegmentsRefuse : Type 0
 SegmentsRefuse =
-    (v : Via) (L : List ℕ) (g : Sent) (S : Kept) (out : List ℕ) → SegmentRefuses (wayOf v L) (wordsBy v L (S .flow) (offsetOf (S .flow)) []) g S out
+    (v : Via) (L : List ℕ) (g : Sent) (S : Kept) (out : List ℕ) → SegmentRefuses (wayOf (record { list = L; via = v })) (wordsBy v L (S .flow) (offsetOf (S .flow)) []) g S out
 
 -- by a machine
 abbrev pub MachineSegmentsRefuse : Type 0
 MachineSegmentsRefuse =
-    (M P : List ℕ) (g : Sent) (S : Kept) (out : List ℕ) → SegmentRefuses (machines.wayOf M P) (feedWords M P (S .flow) (x.offsetOf (S .flow)) []) g S out
+    (M P : List ℕ) (g : Sent) (S : Kept) (out : List ℕ) → SegmentRefuses (machines.wayOf (record { moves = M; programs = P })) (feedWords M P (S .flow) (x.offsetOf (S .flow)) []) g S out
 
 -- the split that a segment by an index answers: with a refusal at the door the hint handed in
 abbrev pub HintsKept : Type 0

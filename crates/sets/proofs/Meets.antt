@@ -12,8 +12,9 @@ use lib.Dec.{eqb}
 use lib.Arith.{digits-mod}
 use lib.Bits.{bitAnd, and-shr, and-mod, and-step}
 use borrow.Author.Tests.{eqb-true, eq-eqb, ne-eqb, not-false}
-use Rattle.sets.specs.Set.{num, bit, holds, meets}
-use Rattle.sets.proofs.Laws.{two-pos}
+use Rattle.numbers.specs.Number.{num, bit}
+use Rattle.sets.specs.Set.{holds, meets}
+use Rattle.numbers.proofs.Laws.{two-pos}
 use Rattle.sets.proofs.Sets.{Words, holds-empty, set-ext, word-holds}
 use Rattle.sets.proofs.Words.{Laid, word-at}
 

@@ -10,11 +10,12 @@ use lib.ListN.{getD, take, drop}
 use lib.Dec.{eqb}
 use lib.Bits.{bitOr, bitXor, or-shr, or-mod, or-add-and, xor-add-and, xor-self, and-le-l, and-le-r}
 use borrow.Author.Tests.{eqb-true, eq-eqb, ne-eqb}
-use Rattle.sets.specs.Set.{setWords, num, holds, join, within, setAt}
-use Rattle.sets.proofs.Laws.{Small, length-digits, small-digits}
+use Rattle.numbers.specs.Number.{num}
+use Rattle.sets.specs.Set.{setWords, holds, join, within, setAt}
+use Rattle.numbers.proofs.Laws.{Small, length-digits, small-digits}
 use Rattle.sets.proofs.Sets.{Words, holds-join, set-ext}
 use Rattle.sets.proofs.Words.{Laid, word-at, join-words}
-use Rattle.sets.proofs.Bytes.{wordsIn, words-in, words-in-at}
+use Rattle.sets.proofs.Standing.{wordsIn, words-in, words-in-at}
 
 -- a is within b exactly when each of its members is one of b
 pub within-exactly : (a b : ℕ) → within a b ≡ true ↔ ((s : ℕ) → holds a s ≡ true → holds b s ≡ true)

@@ -9,8 +9,9 @@ use lib.Dec.{eqb, lit<}
 use lib.ListN.{getD}
 use lib.Pow.{pow-add, shl-shr, shr-shr, field, mod-mod-pow}
 use lib.Bits.{bitOr, shifted-even}
-use Rattle.sets.specs.Set.{num, bit, holds, join}
-use Rattle.sets.proofs.Laws.{Small}
+use Rattle.numbers.specs.Number.{num, bit}
+use Rattle.sets.specs.Set.{holds, join}
+use Rattle.numbers.proofs.Laws.{Small}
 use Rattle.sets.proofs.Sets.{holds-join, holds-num}
 
 pub bit-up : (S d q : ℕ) → bit (S * 2 ^ d) (d + q) ≡ bit S q

@@ -12,8 +12,9 @@ use lib.Seq.{getD-set-same, getD-set-other}
 use lib.Pow.{pow-pos}
 use lib.Bits.{bitOr}
 use borrow.Author.Tests.{le-leb, lt-leb, lt-ltb, le-ltb}
-use Rattle.sets.specs.Set.{states, setWords, num, bit, holds}
-use Rattle.sets.proofs.Laws.{Small}
+use Rattle.numbers.specs.Number.{num, bit}
+use Rattle.sets.specs.Set.{states, setWords, holds}
+use Rattle.numbers.proofs.Laws.{Small}
 use Rattle.sets.proofs.Sets.{Words, or-false, holds-empty, holds-past, set-ext, words-lt}
 use Rattle.sets_words.specs.inner.Further.{further, Strides, Straddles}
 use Rattle.sets_words.proofs.Bits.{bit-up, bit-under, bit-mod, join-or, up-in, up-under, down, word-bit}

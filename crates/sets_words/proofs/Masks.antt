@@ -11,8 +11,9 @@ use lib.Pow.{pow-pos, ones-split, ones-lt, high}
 use lib.Bits.{bitOr, bitXor, xor-shr, xor-mod}
 use lib.ListN.{getD}
 use borrow.Author.Tests.{le-leb, lt-leb}
-use Rattle.sets.specs.Set.{sigWords, signatures, num, bit, holds}
-use Rattle.sets.proofs.Laws.{Small}
+use Rattle.numbers.specs.Number.{num, bit}
+use Rattle.sets.specs.Set.{byteWords, byteCount, holds}
+use Rattle.numbers.proofs.Laws.{Small}
 use Rattle.sets.proofs.Sets.{Words, holds-past, holds-empty}
 use Rattle.sets_words.proofs.Bits.{join-or, up-in, up-under, down, word-bit}
 
@@ -110,7 +111,7 @@ others-bit x s h =
 abbrev pub Reads : (ℕ → Bool) → ℕ → ℕ → Type 0
 Reads f i r = (s : ℕ) → s < 64 → holds r s ≡ f (64 * i + s)
 
-pub reads-all : (f : ℕ → Bool) (w : List ℕ) → Words sigWords w → ((i : ℕ) → i < sigWords → Reads f i (getD w i 0)) → (c : ℕ) → c < signatures → holds (num 64 w) c ≡ f c
+pub reads-all : (f : ℕ → Bool) (w : List ℕ) → Words byteWords w → ((i : ℕ) → i < byteWords → Reads f i (getD w i 0)) → (c : ℕ) → c < byteCount → holds (num 64 w) c ≡ f c
 reads-all f w v h c l =
     let e : 64 * (c / 64) + c % 64 ≡ c = omega arith in
     word-bit w (c / 64) (c % 64) c (v .small) (omega arith) (sym e) ∙ h (c / 64) (omega arith) (c % 64) (omega arith) ∙ ap f e

@@ -10,8 +10,9 @@ use lib.Dec.{eqb}
 use lib.Count.{trailingZeros, under}
 use lib.Pow.{pow-pos}
 use lib.ListN.{getD}
-use Rattle.sets.specs.Set.{num, bit, holds}
-use Rattle.sets.proofs.Laws.{Small, bit-half, bit-zero, bits-ext}
+use Rattle.numbers.specs.Number.{num, bit}
+use Rattle.sets.specs.Set.{holds}
+use Rattle.numbers.proofs.Laws.{Small, bit-half, bit-zero, bits-ext}
 use Rattle.sets.proofs.Sets.{holds-empty, holds-past}
 use Rattle.sets_words.specs.inner.Next.{Next}
 use Rattle.sets_words.proofs.Bits.{down, word-bit}

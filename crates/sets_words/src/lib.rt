@@ -1,13 +1,14 @@
 // Sets by whole words: the next member from a place on, the bytes from one to another, those that are not in a set, and a set with every member
 // further on. A word without members costs one test.
-use sets::SigSet;
+use sets::ByteSet;
 use sets::StateSet;
 ghost use mathlib.Core.Path.{_≡_};
 ghost use mathlib.Core.Bool.{true, false, _&&_, _||_, not};
 ghost use Prim.Native.Nat.{ℕ, _+_, _-_, _*_, _^_, _<_, _≤_};
 ghost use lib.Dec.{leb};
 ghost use lib.ListN.{length, getD};
-ghost use Rattle.sets.specs.Set.{states, signatures, setWords, num, setOf, sigsOf, holds};
+ghost use Rattle.numbers.specs.Number.{num};
+ghost use Rattle.sets.specs.Set.{states, byteCount, setWords, setOf, byteSetOf, holds};
 ghost use Rattle.sets_words.specs.inner.Next.{Next};
 ghost use Rattle.sets_words.specs.inner.Further.{further, Straddles, Strides};
 
@@ -64,8 +65,8 @@ pub fn next_state(set: StateSet, s: usize, end: usize) -> usize
 }
 
 // The first byte of a set from c on; where there is none, 256.
-pub fn next_byte(set: SigSet, c: usize) -> usize
-    ensures { λ r. ⌜ Next (sigsOf set) c signatures r ⌝ }
+pub fn next_byte(set: ByteSet, c: usize) -> usize
+    ensures { λ r. ⌜ Next (byteSetOf set) c byteCount r ⌝ }
 {
     let w = set.words;
     next_bit(&w, c)
@@ -113,27 +114,27 @@ fn ones_in(low: usize, high: usize, i: usize) -> u64
 }
 
 // The bytes from one to another, too.
-pub fn span(set: SigSet, low: usize, high: usize) -> SigSet
-    ensures { λ r. ⌜ ((c : ℕ) → c < 256 → holds (sigsOf r) c ≡ (holds (sigsOf set) c || (leb low c && leb c high))) ⌝ }
+pub fn span(set: ByteSet, low: usize, high: usize) -> ByteSet
+    ensures { λ r. ⌜ ((c : ℕ) → c < 256 → holds (byteSetOf r) c ≡ (holds (byteSetOf set) c || (leb low c && leb c high))) ⌝ }
 {
     let a = set.words;
     let mut w = a;
-    for i in 0..sets::SIG_WORDS {
+    for i in 0..sets::BYTE_WORDS {
         w[i] = a[i] | ones_in(low, high, i);
     }
-    SigSet::of_words(w)
+    ByteSet::of_words(w)
 }
 
 // The bytes that are not in the set.
-pub fn others(set: SigSet) -> SigSet
-    ensures { λ r. ⌜ ((c : ℕ) → c < 256 → holds (sigsOf r) c ≡ not (holds (sigsOf set) c)) ⌝ }
+pub fn others(set: ByteSet) -> ByteSet
+    ensures { λ r. ⌜ ((c : ℕ) → c < 256 → holds (byteSetOf r) c ≡ not (holds (byteSetOf set) c)) ⌝ }
 {
     let a = set.words;
     let mut w = a;
-    for i in 0..sets::SIG_WORDS {
+    for i in 0..sets::BYTE_WORDS {
         w[i] = a[i] ^ ALL;
     }
-    SigSet::of_words(w)
+    ByteSet::of_words(w)
 }
 
 // ---- every member further on

@@ -10,9 +10,10 @@ use native.Mathlib.Decide.{decLt}
 use lib.ListN.{length, getD, length-take, length-drop}
 use lib.Dec.{eqb, ltb}
 use borrow.Author.Tests.{eqb-false, eq-eqb, ne-eqb, ltb-true, lt-ltb, le-ltb, le-leb, not-true}
-use Rattle.sets.specs.Set.{setSize, bytesAt, before}
-use Rattle.sets.specs.Order.{Smaller}
-use Rattle.sets.proofs.Order.{before-exactly}
+use Rattle.numbers.specs.Number.{before}
+use Rattle.sets.specs.Set.{setSize, bytesAt}
+use Rattle.numbers.specs.Order.{Smaller}
+use Rattle.numbers.proofs.Order.{before-exactly}
 use Rattle.sets.proofs.Sets.{byte-in}
 use Rattle.rules.specs.Scan.{every}
 use Rattle.rules.specs.Rules.{Refuses}

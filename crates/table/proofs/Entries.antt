@@ -10,10 +10,11 @@ use native.Mathlib.Nat.{suc-inj, lt-of-not-le, mul-le-mul, mul-le-mul-right, suc
 use native.Mathlib.Decide.{decLt}
 use lib.ListN.{length, getD, drop, length-take, length-drop, drop-of-length-le}
 use lib.Seq.{drop-cons, getD-drop}
-use Rattle.sets.specs.Set.{states, setSize, num, digits, holds, setBytes, bytesAt, setAt, before}
-use Rattle.sets.proofs.Laws.{Small, small-take, digits-num}
+use Rattle.numbers.specs.Number.{num, digits, before}
+use Rattle.sets.specs.Set.{states, setSize, holds, setBytes, bytesAt, setAt}
+use Rattle.numbers.proofs.Laws.{Small, small-take, digits-num}
 use Rattle.sets.proofs.Sets.{set-at-holds}
-use Rattle.sets.proofs.Bytes.{set-at-past}
+use Rattle.sets.proofs.Standing.{set-at-past}
 use Rattle.rules.proofs.Scanning.{equal-words}
 use Rattle.table.specs.Table.{mostParts, splitSize, largest, classCount, partCount, splitCount, part, rowAt, row, splitSet, slot, slots, unusedSlot, inOrder, table}
 

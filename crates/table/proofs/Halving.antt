@@ -7,11 +7,12 @@ use native.Mathlib.Omega.{arith}
 use lib.ListN.{length}
 use lib.Dec.{eqb}
 use borrow.Author.Tests.{eq-eqb, ne-eqb}
-use Rattle.sets.specs.Set.{setSize, num, setBytes, bytesAt, before, compare}
-use Rattle.sets.proofs.Laws.{Small, num-digits, length-digits}
+use Rattle.numbers.specs.Number.{num, before, compare}
+use Rattle.sets.specs.Set.{setSize, setBytes, bytesAt}
+use Rattle.numbers.proofs.Laws.{Small, num-digits, length-digits}
 use Rattle.sets.proofs.Sets.{set-at-lt}
-use Rattle.sets.proofs.Order.{before-trans, compare-exactly}
-use Rattle.sets.proofs.Halving.{Between, before-other, between-other}
+use Rattle.numbers.proofs.Order.{before-trans, compare-exactly}
+use Rattle.numbers.proofs.Halving.{Between, before-other, between-other}
 use Rattle.rules.specs.Scan.{every}
 use Rattle.rules.proofs.Scanning.{below-suc, choose, some-none, every-at, first-at, first-none}
 use Rattle.table.specs.Table.{splitSize, splitCount, splitSet, splitOf, inOrder}

@@ -1,6 +1,7 @@
 pub mod Joined
 pub mod Accepted
 pub mod Entries
+pub mod Ends
 pub mod Slots
 pub mod Turns
 pub mod Found

@@ -4,7 +4,8 @@ use mathlib.Core.Bool.{Bool, true, _&&_, _||_, not, cond}
 use mathlib.Core.List.{List, [], _∷_, _++_}
 use lib.ListN.{length, getD}
 use lib.Dec.{leb, ltb, eqb}
-use Rattle.sets.specs.Set.{setSize, bytesAt, setAt, before, join}
+use Rattle.numbers.specs.Number.{before}
+use Rattle.sets.specs.Set.{setSize, bytesAt, setAt, join}
 use Rattle.rules.specs.Scan.{some, every, first, rising}
 use Rattle.rules.specs.Rules.{Rule, verdict}
 use Rattle.list.specs.List.{word, listRules}

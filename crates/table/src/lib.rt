@@ -5,7 +5,7 @@ ghost use mathlib.Core.Bool.{true, false, _&&_, cond};
 ghost use Prim.Native.Nat.{_+_, _*_, _^_, _<_, _≤_, max};
 ghost use lib.ListN.{length, getD};
 ghost use lib.Dec.{ltb, eqb};
-ghost use Rattle.sets.specs.Set.{setSize, setOf, join};
+ghost use Rattle.sets.specs.Set.{setSize, setOf, setAt, join};
 ghost use Rattle.rules.specs.Scan.{every};
 ghost use Rattle.rules.specs.Rules.{verdict};
 ghost use Rattle.list.specs.List.{listRefusal};
@@ -76,12 +76,37 @@ pub fn split_count(splits: &[u8]) -> usize
     splits.len() / SPLIT_SIZE
 }
 
+// The set at the end of a list, from a place on behind which no whole set stands; bytes past the list's end are 0.
+fn end_set(b: &[u8], at: usize) -> StateSet
+    requires { ⌜ (at ≤ length (now b)) × (length (now b) < at + setSize) ⌝ }
+    ensures { λ r. ⌜ setOf r ≡ setAt (now (b .entry)) at ⌝ }
+{
+    let mut block = [0u8; sets::BYTES];
+    for i in 0..b.len() - at {
+        block[i] = b[at + i];
+    }
+    StateSet::from_bytes(&block, 0)
+}
+
+// The set that stands at a place of a list that may end before it does; bytes past the list's end are 0.
+fn set_at(b: &[u8], at: usize) -> StateSet
+    ensures { λ r. ⌜ setOf r ≡ setAt (now (b .entry)) at ⌝ }
+{
+    if b.len() < at {
+        return StateSet::EMPTY;
+    }
+    if b.len() - at < sets::BYTES {
+        return end_set(b, at);
+    }
+    StateSet::from_bytes(b, at)
+}
+
 // Part p; past the list's end that is the empty set.
 fn part_set(parts: &[u8], p: usize) -> StateSet
     ensures { λ r. ⌜ setOf r ≡ part (now (parts .entry)) p ⌝ }
 {
     if p <= part_count(parts) {
-        StateSet::load(parts, sets::BYTES * p)
+        set_at(parts, sets::BYTES * p)
     } else {
         StateSet::EMPTY
     }
@@ -92,7 +117,7 @@ pub fn split_set(splits: &[u8], i: usize) -> StateSet
     ensures { λ r. ⌜ setOf r ≡ splitSet (now (splits .entry)) i ⌝ }
 {
     if i <= split_count(splits) {
-        StateSet::load(splits, SPLIT_SIZE * i)
+        set_at(splits, SPLIT_SIZE * i)
     } else {
         StateSet::EMPTY
     }
@@ -103,7 +128,7 @@ pub fn slot(splits: &[u8], i: usize, j: usize) -> usize
     requires { ⌜ (i < splitCount (now splits)) × (j < 4) ⌝ }
     ensures { λ r. ⌜ r ≡ getD (slots (now (splits .entry)) i) j 0 ⌝ }
 {
-    sets::whole_number(splits, SPLIT_SIZE * i + sets::BYTES + 2 * j, 2) as usize
+    numbers::whole_number(splits, SPLIT_SIZE * i + sets::BYTES + 2 * j, 2) as usize
 }
 
 // The row of part p and class q, where there are k classes and that row is there.
@@ -111,7 +136,7 @@ pub fn whole_row(rows: &[u8], k: usize, p: usize, q: usize) -> StateSet
     requires { ⌜ setSize * (p * k + q) + setSize ≤ length (now rows) ⌝ }
     ensures { λ r. ⌜ setOf r ≡ rowAt (now (rows .entry)) k p q ⌝ }
 {
-    StateSet::whole(rows, sets::BYTES * (p * k + q))
+    StateSet::from_bytes(rows, sets::BYTES * (p * k + q))
 }
 
 // The row of part p, below the most parts, that byte c selects, where the bytes have k classes.
@@ -120,7 +145,7 @@ fn row_set(classes: &[u8], rows: &[u8], k: usize, p: usize, c: u8) -> StateSet
     ensures { λ r. ⌜ setOf r ≡ row (now (classes .entry)) (now (rows .entry)) p c ⌝ }
 {
     let q = p * k + list::byte_at(classes, c as usize) as usize;
-    StateSet::load(rows, sets::BYTES * q)
+    set_at(rows, sets::BYTES * q)
 }
 
 // Says whether the list of classes has the wrong length, or a class is too large.
@@ -387,10 +412,10 @@ pub fn find_sorted(splits: &[u8], f: StateSet) -> usize
     while lo < hi {
         let mid = (lo + hi) / 2;
         let met = f.compare_whole(splits, SPLIT_SIZE * mid);
-        if met == sets::SAME {
+        if met == numbers::SAME {
             return mid;
         }
-        if met == sets::BEFORE {
+        if met == numbers::BEFORE {
             lo = mid + 1;
         } else {
             hi = mid;

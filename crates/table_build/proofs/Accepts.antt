@@ -10,13 +10,14 @@ use lib.Seq.{take-at, getD-append-add}
 use lib.Arith.{digits-lt, digits-div, digits-mod}
 use lib.Dec.{eqb, lit<}
 use borrow.Author.Tests.{eq-eqb, ne-eqb, lt-ltb, le-ltb, le-leb}
-use Rattle.sets.specs.Set.{states, setSize, setBytes, num, digits, bytesAt, setAt}
-use Rattle.sets.proofs.Laws.{num-digits, length-digits}
+use Rattle.numbers.specs.Number.{num, digits}
+use Rattle.sets.specs.Set.{states, setSize, setBytes, bytesAt, setAt}
+use Rattle.numbers.proofs.Laws.{num-digits, length-digits}
 use Rattle.sets.proofs.Sets.{join-comm, join-empty}
 use Rattle.list.specs.List.{word, listRefusal}
 use Rattle.list.specs.Automaton.{start, step}
-use Rattle.sets.specs.Order.{Smaller}
-use Rattle.sets.proofs.Order.{before-exactly}
+use Rattle.numbers.specs.Order.{Smaller}
+use Rattle.numbers.proofs.Order.{before-exactly}
 use Rattle.rules.proofs.Scanning.{some-intro}
 use Rattle.rules.proofs.Stacks.{stack-length, stack-entry, stack-part, stack-at}
 use Rattle.list.proofs.Steps.{step-lt}

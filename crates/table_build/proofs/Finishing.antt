@@ -10,7 +10,7 @@ use native.Mathlib.Decide.{decLt}
 use lib.ListN.{length, getD, take, replicate, length-append, length-replicate, getD-replicate, List·getD-append}
 use lib.Seq.{ext-getD, getD-append-add}
 use Rattle.sets.specs.Set.{setSize, setBytes}
-use Rattle.sets.proofs.Laws.{Small, length-digits}
+use Rattle.numbers.proofs.Laws.{Small, length-digits}
 use Rattle.rules.specs.Scan.{stack}
 use Rattle.rules.proofs.Stacks.{stack-length}
 use Rattle.list.specs.List.{listRefusal}

@@ -6,7 +6,7 @@ use native.Mathlib.Omega.{arith}
 use native.Mathlib.Nat.{mul-le-mul-left, mul-suc}
 use lib.ListN.{length, take, drop}
 use lib.Seq.{take-add}
-use Rattle.sets.specs.Set.{placed}
+use Rattle.numbers.specs.Number.{placed}
 use Rattle.rules.specs.Scan.{stack}
 use Rattle.rules.proofs.Scanning.{below-suc, choose}
 use Rattle.table_classes.proofs.Fronts.{placed-here, placed-before}

@@ -9,8 +9,9 @@ use native.Mathlib.Decide.{decLt, ℕ-discrete}
 use lib.ListN.{length, getD}
 use lib.Dec.{eqb}
 use borrow.Author.Tests.{eqb-true, eq-eqb}
-use Rattle.sets.specs.Set.{states, setBytes, before}
-use Rattle.sets.proofs.Order.{before-irrefl, before-trans}
+use Rattle.numbers.specs.Number.{before}
+use Rattle.sets.specs.Set.{states, setBytes}
+use Rattle.numbers.proofs.Order.{before-irrefl, before-trans}
 use Rattle.rules.specs.Scan.{first}
 use Rattle.list.specs.Automaton.{start, step}
 use Rattle.rules.proofs.Scanning.{some-intro, first-found}

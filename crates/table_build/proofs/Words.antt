@@ -18,7 +18,7 @@ use Rattle.table_classes.specs.Classes.{mostClasses, classesOf, classTotal}
 use Rattle.table_classes.proofs.Totals.{class-length}
 use Rattle.table_classes.proofs.Numbers.{zeros-get}
 use Rattle.table_build.specs.Build.{mostRows, Many, partsOf, rowsOf, splitsOf, Building, tooShort, earlyRules, over, Builds, refuses, passesLimits, builds}
-use Rattle.table_build.specs.Words.{fronts, Tabled, Nowhere, Untouched, Ends, ZerosBehind}
+use Rattle.table_build.specs.Words.{fronts, Tabled, unbuilt, Ends, ZerosBehind}
 use Rattle.table_build.proofs.Reached.{not-both}
 use Rattle.table_build.proofs.Accepts.{tabled, part-length, row-length, split-length}
 use Rattle.table_build.proofs.Outcomes.{fronts-of, enough}
@@ -111,18 +111,18 @@ module _ (L : List ℕ) (T : Table) (o : Building) where
       (λ z. absurd (omega (arith, sym (ap (λ (x : Building). x .refusal) e) ∙ z)), λ w. absurd (omega (arith, sym v ∙ short-17 L T (w .0) (w .1))))
 
   -- a refusal other than 16 answers no lengths and leaves the lists as they were
-  pub keeps : Builds L T o → (o .refusal ≡ 0 → ⊥) → (o .refusal ≡ 16 → ⊥) → Untouched T o
-  keeps (refuses n e) z y = rw e (record { classes = refl; parts = refl; rows = refl; splits = refl; lists = refl })
+  pub keeps : Builds L T o → (o .refusal ≡ 0 → ⊥) → (o .refusal ≡ 16 → ⊥) → o ≡ unbuilt (o .refusal) T
+  keeps (refuses n e) z y = rw e refl
   keeps (passesLimits v m e) z y = absurd (y (ap (λ (x : Building). x .refusal) e))
   keeps (builds v c xs n a e) z y = absurd (z (ap (λ (x : Building). x .refusal) e))
 
   -- 16 answers no lengths either, and leaves zeros alone
-  pub empties : Builds L T o → o .refusal ≡ 16 → Nowhere o × ZerosBehind T o
+  pub empties : Builds L T o → o .refusal ≡ 16 → (o ≡ unbuilt 16 (o .lists)) × ZerosBehind T o
   unfolding verdict first-of
   empties (refuses n e) z = absurd (not-16 (badLength L) (badRecord L) (noStart L) (tooShort T) (sym (ap (λ (x : Building). x .refusal) e) ∙ z))
   empties (passesLimits v m e) z =
       rw e (
-        record { classes = refl; parts = refl; rows = refl; splits = refl },
+        refl,
         record {
           classes = over-ends [] (T .classes) (omega arith);
           parts = over-ends [] (T .parts) (omega arith);

@@ -6,7 +6,8 @@ use mathlib.Core.List.{List, [], _∷_, _++_}
 use mathlib.Core.Logic.{_⊎_}
 use lib.ListN.{length, getD, replicate}
 use lib.Dec.{ltb}
-use Rattle.sets.specs.Set.{setSize, setBytes, digits, before}
+use Rattle.numbers.specs.Number.{digits, before}
+use Rattle.sets.specs.Set.{setSize, setBytes}
 use Rattle.rules.specs.Scan.{stack}
 use Rattle.rules.specs.Rules.{Rule, verdict}
 use Rattle.list.specs.List.{listRules}
@@ -93,23 +94,15 @@ earlyRules L T = listRules L ++ ((17, tooShort T) ∷ [])
 abbrev pub over : List ℕ → List ℕ → List ℕ
 over front lent = front ++ replicate (length lent - length front) 0
 
+-- each list of a table so, over the one lent for it
+abbrev pub overEach : Table → Table → Table
+overEach T lent =
+    record { classes = over (T .classes) (lent .classes); parts = over (T .parts) (lent .parts); rows = over (T .rows) (lent .rows); splits = over (T .splits) (lent .splits) }
+
 -- a table laid into the lists lent, under a refusal's number
 abbrev pub laid : ℕ → Table → Table → Building
-laid n front lent =
-    record {
-      refusal = n;
-      classes = length (front .classes);
-      parts = length (front .parts);
-      rows = length (front .rows);
-      splits = length (front .splits);
-      lists =
-          record {
-            classes = over (front .classes) (lent .classes);
-            parts = over (front .parts) (lent .parts);
-            rows = over (front .rows) (lent .rows);
-            splits = over (front .splits) (lent .splits);
-          };
-    }
+laid n T lent =
+    record { refusal = n; classes = length (T .classes); parts = length (T .parts); rows = length (T .rows); splits = length (T .splits); lists = overEach T lent }
 
 abbrev pub nothing : Table
 nothing = record { classes = []; parts = []; rows = []; splits = [] }

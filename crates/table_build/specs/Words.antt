@@ -4,7 +4,7 @@ use mathlib.Core.Path.{_≡_}
 use mathlib.Core.List.{List, [], _∷_}
 use lib.ListN.{length, getD, take}
 use Rattle.sets.specs.Set.{setSize, setBytes}
-use Rattle.sets.specs.Order.{Smaller}
+use Rattle.numbers.specs.Order.{Smaller}
 use Rattle.list.specs.Automaton.{step}
 use Rattle.table.specs.Table.{Table, byteValues, partCount, splitCount, part, row, splitSet, slots}
 use Rattle.table_classes.specs.Classes.{classOf}
@@ -35,20 +35,9 @@ pub record Tabled (L : List ℕ) (T : Table) : Type 0 where
   pub coarsest : Coarsest L (T .classes)
   pub row-of : (p c : ℕ) → p < partCount (T .parts) → c < byteValues → row (T .classes) (T .rows) p c ≡ step L (part (T .parts) p) c
 
--- no lengths
-pub record Nowhere (o : Building) : Type 0 where
-  pub classes : o .classes ≡ 0
-  pub parts : o .parts ≡ 0
-  pub rows : o .rows ≡ 0
-  pub splits : o .splits ≡ 0
-
--- no lengths, and the lists as they were lent
-pub record Untouched (T : Table) (o : Building) : Type 0 where
-  pub classes : o .classes ≡ 0
-  pub parts : o .parts ≡ 0
-  pub rows : o .rows ≡ 0
-  pub splits : o .splits ≡ 0
-  pub lists : o .lists ≡ T
+-- refused with n: no lengths, and T in the lists
+abbrev pub unbuilt : ℕ → Table → Building
+unbuilt n T = record { refusal = n; classes = 0; parts = 0; rows = 0; splits = 0; lists = T }
 
 -- b is as long as the list lent, and has zeros from n, which lies in it, to its very end
 abbrev pub Ends : List ℕ → List ℕ → ℕ → Type 0

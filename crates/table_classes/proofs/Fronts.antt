@@ -8,8 +8,9 @@ use native.Mathlib.Decide.{decLt, ℕ-discrete}
 use lib.ListN.{length, getD, take, drop, set, replicate, length-set, length-append, length-drop, length-replicate, getD-replicate, List·getD-append}
 use lib.Seq.{getD-set-same, getD-set-other, getD-take, getD-append-add, ext-getD, take-append-le, drop-append-le, drop-append-add, drop-at, take-at, drop-drop, length-take-le}
 use borrow.Author.Tests.{le-leb}
-use Rattle.sets.specs.Set.{states, setSize, num, setBytes, setAt, placed}
-use Rattle.sets.proofs.Laws.{length-digits, num-digits}
+use Rattle.numbers.specs.Number.{num, placed}
+use Rattle.sets.specs.Set.{states, setSize, setBytes, setAt}
+use Rattle.numbers.proofs.Laws.{length-digits, num-digits}
 use Rattle.table.specs.Table.{part}
 
 -- ---- zeros from a place on

@@ -29,7 +29,7 @@ pub fn is_set(b: &[u8], i: usize, f: StateSet) -> bool
     requires { ⌜ setSize * i + setSize ≤ length (now b) ⌝ }
     ensures { λ r. ⌜ r ≡ eqb (part (now (b .entry)) i) (setOf f) ⌝ }
 {
-    StateSet::whole(b, sets::BYTES * i).same(f)
+    StateSet::from_bytes(b, sets::BYTES * i).same(f)
 }
 
 // Writes a set for each byte.
@@ -113,7 +113,7 @@ fn add_steps(list: &[u8], f: StateSet, rows: &mut [u8])
     for c in low..end {
         let b = c as u8;
         if list::edge(list, b, list::exchanged(b), 0) {
-            let t = StateSet::whole(rows, sets::BYTES * c).union(list::step(list, f, b));
+            let t = StateSet::from_bytes(rows, sets::BYTES * c).union(list::step(list, f, b));
             t.store(rows, sets::BYTES * c);
         }
     }
@@ -153,7 +153,7 @@ fn first_like(classes: &[u8], rows: &[u8], c: usize) -> usize
     ensures { λ r. ⌜ (r ≡ parted (now (classes .entry)) (now (rows .entry)) c) × (r ≤ c) ⌝ }
 {
     let x = classes[c];
-    let f = StateSet::whole(rows, sets::BYTES * c);
+    let f = StateSet::from_bytes(rows, sets::BYTES * c);
     for d in 0..c {
         if is_like(classes, rows, x, f, d) {
             return d;

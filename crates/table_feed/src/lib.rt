@@ -1,7 +1,7 @@
 // The split feed: each byte is moved by the rows of the split that is the frontier, and the list gives the pairs.
 use feed::Fed;
+use feed::Told;
 use list_flow::Ran;
-use list_flow::Told;
 use sets::StateSet;
 ghost use mathlib.Core.Path.{_≡_};
 ghost use mathlib.Core.Bool.{true};
@@ -202,7 +202,7 @@ pub fn feed(
     if refusal != rules::PASSED {
         return feed::refused(refusal);
     }
-    let first = StateSet::load(flow, 0);
+    let first = StateSet::from_bytes(flow, 0);
     let ran = feed_bytes(
         list,
         bound,

@@ -4,7 +4,7 @@ use mathlib.Core.Bool.{Bool, true, false, _&&_, _||_, not, cond}
 use mathlib.Core.List.{List, [], _∷_, _++_}
 use lib.ListN.{length}
 use lib.Dec.{T, leb, ltb, eqb}
-use Rattle.sets.specs.Set.{before}
+use Rattle.numbers.specs.Number.{before}
 use Rattle.rules.specs.Scan.{some}
 use Rattle.text.specs.Exp.{times, size, null, letter, first, last, follows, edge, accepts}
 use Rattle.text.specs.Grammar.{spell, spellMember, spellMembers, spellLeaf, spellMark, reads, amid, isDigit, isHex, hexValue, value, okSingle, okMember, okMembers, okLeaf, allDigits, numberFrom, okNumber, okMark, okBody, memberHas, membersHave, leafHas, marked, exp}

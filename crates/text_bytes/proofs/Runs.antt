@@ -8,7 +8,7 @@ use native.Mathlib.Nat.{lt-of-not-le}
 use native.Mathlib.Decide.{decLt}
 use lib.Dec.{eqb}
 use borrow.Author.Tests.{ne-eqb}
-use Rattle.sets.specs.Set.{signatures, holds}
+use Rattle.sets.specs.Set.{byteCount, holds}
 use Rattle.text.specs.Records.{runs}
 use Rattle.sets_words.specs.inner.Next.{Next}
 
@@ -92,11 +92,11 @@ not-true a true e h = sym h ∙ e
 not-true a false e h = refl
 
 module _ (s g : ℕ) (apart : (c : ℕ) → c < 256 → holds g c ≡ not (holds s c)) where
-  pub runs-first : (c : ℕ) → Next s 0 signatures c → runs (holds s) 256 0 0 ≡ runs (holds s) (256 - c) c 0
+  pub runs-first : (c : ℕ) → Next s 0 byteCount c → runs (holds s) 256 0 0 ≡ runs (holds s) (256 - c) c 0
   runs-first c n = runs-skip (holds s) 0 c (omega arith) (n .most) (n .skipped)
 
   -- the run that begins at c ends before e, which is past c; the next begins at d
-  pub run-past : (c e : ℕ) → c < 256 → holds s c ≡ true → Next g c signatures e → c < e
+  pub run-past : (c e : ℕ) → c < 256 → holds s c ≡ true → Next g c byteCount e → c < e
   run-past c e l h n = elim (decLt c e) [ yes k ↦ k | no k ↦ absurd (no-gap (omega (arith, n .least (omega arith), lt-of-not-le (λ (z : suc c ≤ e). k z)))) ]
     where
       no-gap : e ≡ c → ⊥
@@ -106,7 +106,7 @@ module _ (s g : ℕ) (apart : (c : ℕ) → c < 256 → holds g c ≡ not (holds
           let z : _≡_ {A = Bool} true false = sym h ∙ b in
           let w : _≡_ {A = ℕ} 0 1 = cc in omega arith
 
-  pub runs-next : (c e d : ℕ) → c < 256 → holds s c ≡ true → Next g c signatures e → Next s e signatures d → runs (holds s) (256 - c) c 0 ≡ (c, e - 1) ∷ runs (holds s) (256 - d) d 0
+  pub runs-next : (c e d : ℕ) → c < 256 → holds s c ≡ true → Next g c byteCount e → Next s e byteCount d → runs (holds s) (256 - c) c 0 ≡ (c, e - 1) ∷ runs (holds s) (256 - d) d 0
   runs-next c e d l h n m =
       runs-one (holds s) c e (run-past c e l h n) (n .most) (λ q u v. not-false (holds g q) (holds s q) (apart q (omega (arith, n .most))) (n .skipped q u v)) (λ k. not-true (holds g e) (holds s e) (apart e k) (n .there k))
       ∙ ap (λ z. (c, e - 1) ∷ z) (runs-skip (holds s) e d (m .least (n .most)) (m .most) (m .skipped))

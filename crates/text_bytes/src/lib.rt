@@ -1,5 +1,5 @@
 // The byte set of a leaf of a good text, and how many longest runs of bytes a set has.
-use sets::SigSet;
+use sets::ByteSet;
 use sets_words::next_byte;
 use sets_words::others;
 use sets_words::span;
@@ -11,7 +11,7 @@ ghost use lib.Dec.{leb, eqb};
 ghost use lib.ListN.{length, drop, getD};
 ghost use Rattle.text.specs.Records.{runs};
 ghost use Rattle.text.specs.inner.Heads.{headOf};
-ghost use Rattle.sets.specs.Set.{sigsOf, holds, join};
+ghost use Rattle.sets.specs.Set.{byteSetOf, holds, join};
 ghost use Rattle.text.specs.Grammar.{Single, Member, Leaf, amid, value, okSingle, okMembers, okLeaf, spell, spellMembers, spellLeaf, membersHave, memberHas, okMember, spellMember, leafHas};
 
 // A single byte's value, and the place after it.
@@ -22,7 +22,7 @@ struct One {
 
 // A set with a member's bytes added, and the place after the member.
 struct Added {
-    set: SigSet,
+    set: ByteSet,
     next: usize,
 }
 
@@ -63,9 +63,9 @@ fn white(text: &[u8], at: usize) -> bool
 }
 
 // A set, with the bytes of the member at a place.
-fn member_of(text: &[u8], at: usize, set: SigSet) -> Added
+fn member_of(text: &[u8], at: usize, set: ByteSet) -> Added
     requires { ⌜ at ≤ length (now text) ⌝ }
-    ensures { λ r. ⌜ (at < r .next) × (r .next ≤ length (now (text .entry)) + 8) × ((m : Member) (y : List ℕ) → okMember m ≡ true → eqb (headOf 0 y) 45 ≡ false → drop at (now (text .entry)) ≡ spellMember m ++ y → ((c : ℕ) → c < 256 → holds (sigsOf (r .set)) c ≡ (holds (sigsOf set) c || memberHas m c)) × (drop (r .next) (now (text .entry)) ≡ y)) ⌝ }
+    ensures { λ r. ⌜ (at < r .next) × (r .next ≤ length (now (text .entry)) + 8) × ((m : Member) (y : List ℕ) → okMember m ≡ true → eqb (headOf 0 y) 45 ≡ false → drop at (now (text .entry)) ≡ spellMember m ++ y → ((c : ℕ) → c < 256 → holds (byteSetOf (r .set)) c ≡ (holds (byteSetOf set) c || memberHas m c)) × (drop (r .next) (now (text .entry)) ≡ y)) ⌝ }
 {
     if white(text, at) {
         let more = span(set, 32, 32);
@@ -92,12 +92,12 @@ fn member_of(text: &[u8], at: usize, set: SigSet) -> Added
 }
 
 // The bytes of a class's members, from a place on.
-fn class_set(text: &[u8], at: usize) -> SigSet
+fn class_set(text: &[u8], at: usize) -> ByteSet
     requires { ⌜ at ≤ length (now text) ⌝ }
-    ensures { λ r. ⌜ ((ms : List Member) (y : List ℕ) → okMembers ms ≡ true → drop at (now (text .entry)) ≡ spellMembers ms ++ (93 ∷ y) → (c : ℕ) → c < 256 → holds (sigsOf r) c ≡ membersHave ms c) ⌝ }
+    ensures { λ r. ⌜ ((ms : List Member) (y : List ℕ) → okMembers ms ≡ true → drop at (now (text .entry)) ≡ spellMembers ms ++ (93 ∷ y) → (c : ℕ) → c < 256 → holds (byteSetOf r) c ≡ membersHave ms c) ⌝ }
 {
     let mut next = at;
-    let mut set = SigSet::EMPTY;
+    let mut set = ByteSet::EMPTY;
     while next < text.len() {
         if text[next] == b']' {
             return set;
@@ -110,11 +110,11 @@ fn class_set(text: &[u8], at: usize) -> SigSet
 }
 
 // The byte set of the leaf at a place.
-pub fn leaf_set(text: &[u8], at: usize) -> SigSet
+pub fn leaf_set(text: &[u8], at: usize) -> ByteSet
     requires { ⌜ at < length (now text) ⌝ }
-    ensures { λ r. ⌜ ((l : Leaf) (y : List ℕ) → okLeaf l ≡ true → drop at (now (text .entry)) ≡ spellLeaf l ++ y → (c : ℕ) → c < 256 → holds (sigsOf r) c ≡ leafHas l c) ⌝ }
+    ensures { λ r. ⌜ ((l : Leaf) (y : List ℕ) → okLeaf l ≡ true → drop at (now (text .entry)) ≡ spellLeaf l ++ y → (c : ℕ) → c < 256 → holds (byteSetOf r) c ≡ leafHas l c) ⌝ }
 {
-    let none = SigSet::EMPTY;
+    let none = ByteSet::EMPTY;
     let c = text[at];
     if c == b'.' {
         return span(none, 0, 255);
@@ -140,8 +140,8 @@ pub fn leaf_set(text: &[u8], at: usize) -> SigSet
 // ---- longest runs of bytes
 
 // How many longest runs of bytes a set has: each goes on to the next byte that is not in it.
-pub fn run_count(set: SigSet) -> usize
-    ensures { λ r. ⌜ (r ≡ length (runs (holds (sigsOf set)) 256 0 0)) × (r ≤ 256) ⌝ }
+pub fn run_count(set: ByteSet) -> usize
+    ensures { λ r. ⌜ (r ≡ length (runs (holds (byteSetOf set)) 256 0 0)) × (r ≤ 256) ⌝ }
 {
     let gaps = others(set);
     let mut n: usize = 0;

@@ -1,5 +1,5 @@
 // From signature text to a list.
-use sets::SigSet;
+use sets::ByteSet;
 use sets::StateSet;
 use sets_words::span;
 use text_bytes::run_count;
@@ -16,7 +16,7 @@ ghost use mathlib.Core.Path.{_≡_};
 ghost use mathlib.Core.Bool.{true, cond};
 ghost use Prim.Native.Nat.{ℕ, suc, _≤_, _<_, _+_, _*_};
 ghost use lib.ListN.{length};
-ghost use Rattle.sets.specs.Set.{states, setOf, sigsOf, holds, insert};
+ghost use Rattle.sets.specs.Set.{states, setOf, byteSetOf, holds, insert};
 ghost use Rattle.text.specs.Exp.{size};
 ghost use Rattle.text.specs.Grammar.{Text, textReads, okBody};
 ghost use Rattle.text.specs.Records.{each, edgesTo, recordsOf};
@@ -36,7 +36,7 @@ pub struct Compiled {
 // The states that the edges to a state leave, and the bytes that they are taken on.
 struct Incoming {
     from: StateSet,
-    letter: SigSet,
+    letter: ByteSet,
 }
 
 // Says whether one `^` binds a good text to the front.
@@ -51,10 +51,10 @@ fn is_bound(text: &[u8]) -> bool
 
 // The edges from state 0 to itself: on any byte, unless the text is bound.
 fn any_arrows(bound: bool) -> Incoming
-    ensures { λ r. ⌜ (setOf (r .from) ≡ cond bound 0 (insert states 0 0)) × ((c : ℕ) → c < 256 → holds (sigsOf (r .letter)) c ≡ true) ⌝ }
+    ensures { λ r. ⌜ (setOf (r .from) ≡ cond bound 0 (insert states 0 0)) × ((c : ℕ) → c < 256 → holds (byteSetOf (r .letter)) c ≡ true) ⌝ }
 {
     let none = StateSet::EMPTY;
-    let letter = span(SigSet::EMPTY, 0, 255);
+    let letter = span(ByteSet::EMPTY, 0, 255);
     if bound {
         return Incoming {
             from: none,
@@ -70,13 +70,13 @@ fn any_arrows(bound: bool) -> Incoming
 // The edges to state t of a good text's position automaton, whose rows stand in the work place.
 fn arrows(rows: &[u8], shape: Shape, bound: bool, t: usize) -> Incoming
     requires { ⌜ (t < states) × (length (now rows) ≡ rowsSize) ⌝ }
-    ensures { λ r. ⌜ ((x : Text) → Walked (now (rows .entry)) shape bound x → size (expOf x) < states → t ≤ size (expOf x) → Arrive (freeOf x) (expOf x) t (setOf (r .from)) (holds (sigsOf (r .letter))) × Below (setOf (r .from)) (suc (size (expOf x)))) ⌝ }
+    ensures { λ r. ⌜ ((x : Text) → Walked (now (rows .entry)) shape bound x → size (expOf x) < states → t ≤ size (expOf x) → Arrive (freeOf x) (expOf x) t (setOf (r .from)) (holds (byteSetOf (r .letter))) × Below (setOf (r .from)) (suc (size (expOf x)))) ⌝ }
 {
     if t == 0 {
         return any_arrows(bound);
     }
-    let from = StateSet::whole(rows, text_walk::ROW * t);
-    let letter = SigSet::whole(rows, text_walk::ROW * t + sets::BYTES);
+    let from = StateSet::from_bytes(rows, text_walk::ROW * t);
+    let letter = ByteSet::from_bytes(rows, text_walk::ROW * t + sets::BYTES);
     let first = shape.first;
     if first.has(t) {
         return Incoming {

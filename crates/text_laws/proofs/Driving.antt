@@ -6,14 +6,15 @@ use native.Mathlib.Omega.{arith}
 use native.Mathlib.Decide.{ℕ-discrete}
 use lib.ListN.{length, take, drop, length-append}
 use Rattle.feed.specs.Engine.{Outcome}
-use Rattle.feed.specs.Calls.{Bytes, allBytes, allTold}
+use Rattle.feed.specs.Calls.{Bytes, allBytes, allTold, asked, Pieces, Along}
 use Rattle.feed.specs.Fed.{Answers}
 use Rattle.feed.specs.Opening.{Opening, Opens}
 use Rattle.feed.specs.Demands.{openTold}
 use Rattle.feed.specs.declared.Fed.{Fed}
 use Rattle.feed.specs.declared.Opened.{Opened}
-use Rattle.list_feed.specs.Plain.{openFlow, plainFeed}
-use Rattle.laws.specs.Calls.{byList, Call, bytesOf, wordsOf, InBytes, Each}
+use Rattle.list_flow.specs.Opening.{openFlow}
+use Rattle.list_feed.specs.Plain.{plainFeed}
+use Rattle.laws.specs.Calls.{byList, Call, wayOf}
 use Rattle.laws.specs.Demands.{Swaps}
 use Rattle.text.specs.Grammar.{Text}
 use Rattle.text.specs.Records.{listOf}
@@ -41,7 +42,7 @@ module _ (L R out piece more : List ℕ) (r : Served) (ws vs : List ℕ) (t : Tr
   o = openFlow L R out
 
   abbrev c : Call
-  c = record { list = L; via = byList; at = 0; piece = piece; out = more }
+  c = record { by = record { list = L; via = byList }; at = 0; piece = piece; out = more }
 
   fed : Answers (plainFeed L (o .saved) 0 piece more) (r .fed) vs (t .end)
   fed = subst (λ Q. Answers (plainFeed L Q 0 piece more) (r .fed) vs (t .end)) (t .opens .saved) (t .feeds)
@@ -54,11 +55,11 @@ module _ (L R out piece more : List ℕ) (r : Served) (ws vs : List ℕ) (t : Tr
     subst Past (sym (fed .refusal)) (p .feeds (o .saved) 0 piece more),
   )
 
-  eaten : bytesOf (o .saved) (c ∷ []) ≡ take (r .fed .bytes) piece
+  eaten : allBytes (asked wayOf) (o .saved) (c ∷ []) ≡ take (r .fed .bytes) piece
   unfolding allBytes
   eaten = append-nil (take (plainFeed L (o .saved) 0 piece more .bytes) piece) ∙ ap (λ (n : ℕ). take n piece) (sym (fed .bytes))
 
-  told : wordsOf (o .saved) (c ∷ []) ≡ take (2 * r .fed .pairs) vs
+  told : allTold (asked wayOf) (o .saved) (c ∷ []) ≡ take (2 * r .fed .pairs) vs
   unfolding allTold
   told =
       append-nil (take (2 * plainFeed L (o .saved) 0 piece more .pairs) (plainFeed L (o .saved) 0 piece more .words))
@@ -69,8 +70,8 @@ module _ (L R out piece more : List ℕ) (r : Served) (ws vs : List ℕ) (t : Tr
 
   -- what holds of the bytes and words of every flow under the list holds of those of these calls
   pub tried-tells : (P : List ℕ → List ℕ → Type 0)
-      → ((R out : List ℕ) → openFlow L R out .refusal ≡ 0 → (cs : List Call) → InBytes cs → Each (Swaps L) (openFlow L R out .saved) cs
-      → P (bytesOf (openFlow L R out .saved) cs) (openTold (openFlow L R out) ++ wordsOf (openFlow L R out .saved) cs))
+      → ((R out : List ℕ) → openFlow L R out .refusal ≡ 0 → (cs : List Call) → Pieces (asked wayOf) cs → Along (asked wayOf) (Swaps L) (openFlow L R out .saved) cs
+      → P (allBytes (asked wayOf) (openFlow L R out .saved) cs) (openTold (openFlow L R out) ++ allTold (asked wayOf) (openFlow L R out .saved) cs))
       → Bytes piece → r .opened .refusal ≡ 0 → P (take (r .fed .bytes) piece) (take (2 * r .opened .pairs) ws ++ take (2 * r .fed .pairs) vs)
   tried-tells P f bytes z = rw (eaten, told, opened) at (f R out (sym (t .opens .refusal) ∙ z) (c ∷ []) (bytes, tt) ((λ v. (refl, tt)), tt))
 

@@ -11,18 +11,19 @@ use lib.Seq.{take-append-seam}
 use Rattle.rules.specs.Rules as rules
 use Rattle.rules.proofs.Rules.{verdict-then}
 use Rattle.list.specs.List.{listRules, listRefusal}
-use Rattle.feed.specs.Calls.{Bytes}
+use Rattle.feed.specs.Calls.{Bytes, outcome, asked, allBytes, allTold, Pieces, Along}
 use Rattle.list_flow.specs.Flow.{offsetOf}
-use Rattle.list_feed.specs.Plain.{openPairs, openFlow, plainFeed, pairsOf, opened}
+use Rattle.list_flow.specs.Opening.{openPairs, openFlow, opened}
+use Rattle.list_feed.specs.Plain.{plainFeed, pairsOf}
 use Rattle.table.specs.Table.{Table}
 use Rattle.table_feed.specs.Split.{splitFeed}
 use Rattle.machine.specs.Machine.{badMachine, machineRules}
 use Rattle.machine_certificate.specs.Certificate.{badCertificate}
 use Rattle.rules.specs.Words.{Row, None, First, InWords}
-use Rattle.laws.specs.Words.{listWords, openingRows, Foreign, flowWords, lengthWords, sizeWords, entryWords, orderWords, lentWords}
+use Rattle.laws.specs.Words.{listWords, openingRows, Foreign, flowWords, lengthWords, sizeWords, entryWords, Unordered, lentWords}
 use Rattle.feed.specs.Demands.{openTold}
 use Rattle.laws.proofs.Engines.{calls-bytes}
-use Rattle.laws.specs.Calls.{Via, byList, byTable, byMatrix, wordsBy, Call, outcome, bytesOf, wordsOf, InBytes, Each}
+use Rattle.laws.specs.Calls.{Via, byList, byTable, byMatrix, wordsBy, Call, wayOf}
 use Rattle.laws.specs.Demands.{Swaps}
 use Rattle.laws.proofs.Demand1.{demand-1}
 use Rattle.laws.proofs.Swapping.{swapped}
@@ -90,11 +91,11 @@ module _ (L : List ℕ) (z : listRefusal L ≡ 0) where
       }
     where
       callBy : Via → ℕ → List ℕ → List ℕ → Call
-      callBy via at piece out = record { list = L; via = via; at = at; piece = piece; out = out }
+      callBy via at piece out = record { by = record { list = L; via = via }; at = at; piece = piece; out = out }
 
       -- a feed whose words begin with those of the list
-      fed-past : (R : List ℕ) (c : Call) (ws : List Row) → Over ws → ((n : ℕ) → First (wordsBy (c .via) (c .list) R (c .at) (c .piece)) n → First (listWords L ++ ws) n)
-          → (n : ℕ) → outcome R c .refusal ≡ n → Past n
+      fed-past : (R : List ℕ) (c : Call) (ws : List Row) → Over ws → ((n : ℕ) → First (wordsBy (c .by .via) (c .by .list) R (c .at) (c .piece)) n → First (listWords L ++ ws) n)
+          → (n : ℕ) → outcome wayOf R c .refusal ≡ n → Past n
       fed-past R c ws o f zero e = inl refl
       fed-past R c ws o f (suc n) e = elim (ℕ-discrete (suc n) 14) [
         | yes q ↦ inr (omega (arith, q))
@@ -107,7 +108,7 @@ module _ (L : List ℕ) (z : listRefusal L ≡ 0) where
 
       split : (b : ℕ) (T : Table) (R : List ℕ) (at : ℕ) (piece out : List ℕ) → Past (splitFeed L b T R at piece out .refusal)
       split b T R at piece out =
-          fed-past R (callBy (byTable b T) at piece out) (flowWords (Foreign L R) R at piece ++ (sizeWords b T ++ orderWords T))
+          fed-past R (callBy (byTable b T) at piece out) (flowWords (Foreign L R) R at piece ++ (sizeWords b T ++ ((9, Unordered (T .splits)) ∷ [])))
           (omega arith, (omega arith, (omega arith, (omega arith, (omega arith, (omega arith, tt)))))) (λ n f. f) _ refl
 
 -- ---- the list of a text
@@ -116,13 +117,13 @@ module _ (x : Text) (g room : ℕ) (ok : okBody (x .body) ≡ true) (small : g <
   abbrev L : List ℕ
   L = listOf x g
 
-  tells : (R out : List ℕ) → openFlow L R out .refusal ≡ 0 → (cs : List Call) → InBytes cs → Each (Swaps L) (openFlow L R out .saved) cs
-      → Tells x g (bytesOf (openFlow L R out .saved) cs) (openTold (openFlow L R out) ++ wordsOf (openFlow L R out .saved) cs)
+  tells : (R out : List ℕ) → openFlow L R out .refusal ≡ 0 → (cs : List Call) → Pieces (asked wayOf) cs → Along (asked wayOf) (Swaps L) (openFlow L R out .saved) cs
+      → Tells x g (allBytes (asked wayOf) (openFlow L R out .saved) cs) (openTold (openFlow L R out) ++ allTold (asked wayOf) (openFlow L R out .saved) cs)
   unfolding openPairs
   tells R out z cs hb h =
       let d = swapped L R out z cs hb h .flows .due in
-      let eaten : Bytes (bytesOf (openFlow L R out .saved) cs) = calls-bytes (openFlow L R out .saved) cs hb in
-      let p = compiled-pairs x g room ok small fits (bytesOf (openFlow L R out .saved) cs) eaten in
+      let eaten : Bytes (allBytes (asked wayOf) (openFlow L R out .saved) cs) = calls-bytes (openFlow L R out .saved) cs hb in
+      let p = compiled-pairs x g room ok small fits (allBytes (asked wayOf) (openFlow L R out .saved) cs) eaten in
       record { told = λ h k. rw (d .tells) (p h k); ordered = d .ordered }
 
   pub list-serves : Serves x g L

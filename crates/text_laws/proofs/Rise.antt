@@ -6,7 +6,8 @@ use mathlib.Core.List.{List, [], _∷_, _++_}
 use mathlib.Core.Logic.{_⊎_, inl, inr}
 use native.Mathlib.Omega.{arith}
 use lib.ListN.{length, getD}
-use Rattle.sets.specs.Set.{states, before}
+use Rattle.numbers.specs.Number.{before}
+use Rattle.sets.specs.Set.{states}
 use Rattle.list.specs.List.{records}
 use Rattle.text.specs.Exp.{Exp, size, edge, accepts}
 use Rattle.text.specs.Records.{runs, edgeRecord, edgeRecords, startRecord, acceptRecord, each, edgesFrom, edgesTo, acceptsOf, allRecords, insert, sortInto}

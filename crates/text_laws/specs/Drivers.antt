@@ -6,7 +6,8 @@ use lib.ListN.{take}
 use Rattle.list.specs.List.{listRefusal}
 use Rattle.feed.specs.Fed.{Answers}
 use Rattle.feed.specs.Opening.{Opens}
-use Rattle.list_feed.specs.Plain.{openFlow, plainFeed}
+use Rattle.list_flow.specs.Opening.{openFlow}
+use Rattle.list_feed.specs.Plain.{plainFeed}
 use Rattle.text.specs.Grammar.{Text}
 use Rattle.text_compile.specs.Words.{Reading}
 use Rattle.text_laws.specs.declared.Served.{Served}

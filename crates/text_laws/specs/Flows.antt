@@ -6,9 +6,10 @@ use mathlib.Core.List.{List, _++_}
 use mathlib.Core.Logic.{_⊎_, _↔_}
 use lib.ListN.{length, take}
 use Rattle.list.specs.List.{listRefusal}
-use Rattle.feed.specs.Calls.{Bytes}
+use Rattle.feed.specs.Calls.{Bytes, asked, allBytes, allTold}
 use Rattle.feed.specs.Pairs.{Pair, Before}
-use Rattle.list_feed.specs.Plain.{openFlow, plainFeed}
+use Rattle.list_flow.specs.Opening.{openFlow}
+use Rattle.list_feed.specs.Plain.{plainFeed}
 use Rattle.table.specs.Table.{Table, tableRefusal}
 use Rattle.table_feed.specs.Split.{splitFeed}
 use Rattle.matrix.specs.Matrix.{Fills, matrixFeed}
@@ -17,8 +18,8 @@ use Rattle.table_build.specs.Build.{Building, Builds}
 use Rattle.machine_certificate.specs.Certificate.{certificateRefusal}
 use Rattle.segment_feed.specs.Segment.{Sent, Kept, Heard}
 use Rattle.segment_feed.specs.Ways.{plainSegment, splitSegment}
-use Rattle.feed.specs.Demands.{openTold}
-use Rattle.laws.specs.Calls.{Call, bytesOf, wordsOf, InBytes, Each}
+use Rattle.feed.specs.Demands.{openTold, Onward}
+use Rattle.laws.specs.Calls.{wayOf}
 use Rattle.laws.specs.Demands.{Swaps}
 use Rattle.text.specs.Grammar.{Text}
 use Rattle.text_compile.specs.declared.Compiled.{Compiled}
@@ -59,8 +60,7 @@ pub record Serves (x : Text) (g : ℕ) (L : List ℕ) : Type 0 where
   pub rises : RecordsRise L
   pub passes : PassesAll L
   -- a flow opened on L and fed by any calls, cut anywhere: plain, through tables that the check accepts, by the filler's matrix, with refused calls between
-  pub tells : (R out : List ℕ) → openFlow L R out .refusal ≡ 0 → (cs : List Call) → InBytes cs → Each (Swaps L) (openFlow L R out .saved) cs
-      → Tells x g (bytesOf (openFlow L R out .saved) cs) (openTold (openFlow L R out) ++ wordsOf (openFlow L R out .saved) cs)
+  pub tells : Onward (asked wayOf) (openFlow L) (Swaps L) (λ o cs. Tells x g (allBytes (asked wayOf) (o .saved) cs) (openTold o ++ allTold (asked wayOf) (o .saved) cs))
 
 -- where compiling T under the signature g, into the lent list A, answered r without a refusal and left B: its front is a list for the language of the text's reading
 abbrev pub CompiledServes : Type 0

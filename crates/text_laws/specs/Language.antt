@@ -4,7 +4,7 @@ use mathlib.Core.Path.{_≡_}
 use mathlib.Core.Bool.{Bool, true, cond}
 use mathlib.Core.List.{List, [], _++_}
 use lib.ListN.{take, drop}
-use Rattle.sets.specs.Set.{before}
+use Rattle.numbers.specs.Number.{before}
 use Rattle.list.specs.List.{recordSize, records}
 use Rattle.text.specs.Grammar.{Text}
 use Rattle.text.specs.Means.{Means}

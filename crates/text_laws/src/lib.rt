@@ -30,7 +30,7 @@ pub fn serve(
     ensures { λ r. ⌜ Tries (now (list .entry)) (now (flow .entry)) (now (words .entry)) (now (piece .entry)) (now (pairs .entry)) r (now (words .exit)) (now (pairs .exit)) ⌝ }
 {
     let checked = list::check_list(list);
-    let opened = list_feed::open_flow(list, flow, words);
+    let opened = list_flow::open_flow(list, flow, words);
     let fed = list_feed::feed(list, flow, 0, piece, pairs);
     Served {
         checked: checked,

@@ -90,7 +90,7 @@ fn feed_behind(list: &[u8], record: &mut [u8], piece: &[u8], out: &mut [u32], pa
 fn match_words(list: &[u8], piece: &[u8], out: &mut [u32]) {
     replay_tape::fill(out);
     let mut record = [0u8; 144];
-    let opened = list_feed::open_flow(list, &mut record, out);
+    let opened = list_flow::open_flow(list, &mut record, out);
     let pairs = opened.pairs;
     let fed = feed_behind(list, &mut record, piece, out, pairs);
     put_match(opened, fed, out);

@@ -8,9 +8,10 @@ use native.Mathlib.Decide.{decLt}
 use native.Mathlib.Nat.{lt-of-not-le}
 use lib.ListN.{length, take, drop, length-append}
 use lib.Seq.{take-at, drop-at, take-take, drop-drop, length-take-le}
-use Rattle.sets.specs.Set.{states, signatures, setSize, sigSize, num, setBytes, sigBytes, setAt, sigsAt, placed}
-use Rattle.sets.proofs.Laws.{Small, small-drop, num-take-lt, drop-take, length-digits, num-digits}
-use Rattle.sets.proofs.Placing.{placed-fits, length-placed}
+use Rattle.numbers.specs.Number.{num, placed}
+use Rattle.sets.specs.Set.{states, byteCount, setSize, byteSetSize, setBytes, byteSetBytes, setAt, byteSetAt}
+use Rattle.numbers.proofs.Laws.{Small, small-drop, num-take-lt, drop-take, length-digits, num-digits}
+use Rattle.numbers.proofs.Placing.{placed-fits, length-placed}
 use Rattle.text_walk.specs.inner.Rows.{rowSize, rowsSize, priorAt, bytesOf}
 
 module _ (b : List ℕ) (at : ℕ) (xs : List ℕ) (fits : at + length xs ≤ length b) where
@@ -73,14 +74,14 @@ module _ (A : List ℕ) (t : ℕ) (h : t < states) (l : length A ≡ rowsSize) (
       go (inr k) = ap (λ (z : List ℕ). num 8 (take setSize z)) (placed-behind A (rowSize * t) (setBytes S) set-fits (rowSize * u) (omega (arith, set-long)))
 
   pub prior-bytes : (u : ℕ) → bytesOf (placed A (rowSize * t) (setBytes S)) u ≡ bytesOf A u
-  unfolding sigsAt
+  unfolding byteSetAt
   prior-bytes u = elim (decLt u t) [ yes k ↦ early k | no g ↦ late (lt-of-not-le (λ (l : suc u ≤ t). g l)) ]
     where
-      early : u < t → num 8 (take sigSize (drop (rowSize * u + setSize) (placed A (rowSize * t) (setBytes S)))) ≡ num 8 (take sigSize (drop (rowSize * u + setSize) A))
-      early k = ap (num 8) (placed-before A (rowSize * t) (setBytes S) set-fits (rowSize * u + setSize) sigSize (omega arith))
+      early : u < t → num 8 (take byteSetSize (drop (rowSize * u + setSize) (placed A (rowSize * t) (setBytes S)))) ≡ num 8 (take byteSetSize (drop (rowSize * u + setSize) A))
+      early k = ap (num 8) (placed-before A (rowSize * t) (setBytes S) set-fits (rowSize * u + setSize) byteSetSize (omega arith))
 
-      late : t < suc u → num 8 (take sigSize (drop (rowSize * u + setSize) (placed A (rowSize * t) (setBytes S)))) ≡ num 8 (take sigSize (drop (rowSize * u + setSize) A))
-      late k = ap (λ (z : List ℕ). num 8 (take sigSize z)) (placed-behind A (rowSize * t) (setBytes S) set-fits (rowSize * u + setSize) (omega (arith, set-long)))
+      late : t < suc u → num 8 (take byteSetSize (drop (rowSize * u + setSize) (placed A (rowSize * t) (setBytes S)))) ≡ num 8 (take byteSetSize (drop (rowSize * u + setSize) A))
+      late k = ap (λ (z : List ℕ). num 8 (take byteSetSize z)) (placed-behind A (rowSize * t) (setBytes S) set-fits (rowSize * u + setSize) (omega (arith, set-long)))
 
   pub prior-long : length (placed A (rowSize * t) (setBytes S)) ≡ length A
   prior-long = length-placed A (rowSize * t) (setBytes S)
@@ -88,39 +89,39 @@ module _ (A : List ℕ) (t : ℕ) (h : t < states) (l : length A ≡ rowsSize) (
 -- ---- a byte set written at a row
 
 module _ (A : List ℕ) (t : ℕ) (h : t < states) (l : length A ≡ rowsSize) (S : ℕ) where
-  sig-long : length (sigBytes S) ≡ sigSize
-  sig-long = length-digits 8 sigSize S
+  byte-set-long : length (byteSetBytes S) ≡ byteSetSize
+  byte-set-long = length-digits 8 byteSetSize S
 
-  sig-fits : rowSize * t + setSize + length (sigBytes S) ≤ length A
-  sig-fits = omega (arith, sig-long)
+  byte-set-fits : rowSize * t + setSize + length (byteSetBytes S) ≤ length A
+  byte-set-fits = omega (arith, byte-set-long)
 
-  pub bytes-there : S < 2 ^ signatures → bytesOf (placed A (rowSize * t + setSize) (sigBytes S)) t ≡ S
-  unfolding sigsAt
+  pub bytes-there : S < 2 ^ byteCount → bytesOf (placed A (rowSize * t + setSize) (byteSetBytes S)) t ≡ S
+  unfolding byteSetAt
   bytes-there s =
-      ap (λ (n : ℕ). num 8 (take n (drop (rowSize * t + setSize) (placed A (rowSize * t + setSize) (sigBytes S))))) (sym sig-long)
-      ∙ ap (num 8) (placed-there A (rowSize * t + setSize) (sigBytes S) sig-fits) ∙ num-digits 8 sigSize S s
+      ap (λ (n : ℕ). num 8 (take n (drop (rowSize * t + setSize) (placed A (rowSize * t + setSize) (byteSetBytes S))))) (sym byte-set-long)
+      ∙ ap (num 8) (placed-there A (rowSize * t + setSize) (byteSetBytes S) byte-set-fits) ∙ num-digits 8 byteSetSize S s
 
-  pub bytes-other : (u : ℕ) → (u ≡ t → ⊥) → bytesOf (placed A (rowSize * t + setSize) (sigBytes S)) u ≡ bytesOf A u
-  unfolding sigsAt
+  pub bytes-other : (u : ℕ) → (u ≡ t → ⊥) → bytesOf (placed A (rowSize * t + setSize) (byteSetBytes S)) u ≡ bytesOf A u
+  unfolding byteSetAt
   bytes-other u n = go (below-above u t n)
     where
-      go : (u < t) ⊎ (t < u) → num 8 (take sigSize (drop (rowSize * u + setSize) (placed A (rowSize * t + setSize) (sigBytes S)))) ≡ num 8 (take sigSize (drop (rowSize * u + setSize) A))
-      go (inl k) = ap (num 8) (placed-before A (rowSize * t + setSize) (sigBytes S) sig-fits (rowSize * u + setSize) sigSize (omega arith))
-      go (inr k) = ap (λ (z : List ℕ). num 8 (take sigSize z)) (placed-behind A (rowSize * t + setSize) (sigBytes S) sig-fits (rowSize * u + setSize) (omega (arith, sig-long)))
+      go : (u < t) ⊎ (t < u) → num 8 (take byteSetSize (drop (rowSize * u + setSize) (placed A (rowSize * t + setSize) (byteSetBytes S)))) ≡ num 8 (take byteSetSize (drop (rowSize * u + setSize) A))
+      go (inl k) = ap (num 8) (placed-before A (rowSize * t + setSize) (byteSetBytes S) byte-set-fits (rowSize * u + setSize) byteSetSize (omega arith))
+      go (inr k) = ap (λ (z : List ℕ). num 8 (take byteSetSize z)) (placed-behind A (rowSize * t + setSize) (byteSetBytes S) byte-set-fits (rowSize * u + setSize) (omega (arith, byte-set-long)))
 
-  pub bytes-prior : (u : ℕ) → priorAt (placed A (rowSize * t + setSize) (sigBytes S)) u ≡ priorAt A u
+  pub bytes-prior : (u : ℕ) → priorAt (placed A (rowSize * t + setSize) (byteSetBytes S)) u ≡ priorAt A u
   unfolding setAt
   bytes-prior u = elim (decLt t u) [ yes k ↦ late k | no g ↦ early (lt-of-not-le (λ (l : suc t ≤ u). g l)) ]
     where
-      early : u < suc t → num 8 (take setSize (drop (rowSize * u) (placed A (rowSize * t + setSize) (sigBytes S)))) ≡ num 8 (take setSize (drop (rowSize * u) A))
-      early k = ap (num 8) (placed-before A (rowSize * t + setSize) (sigBytes S) sig-fits (rowSize * u) setSize (omega arith))
+      early : u < suc t → num 8 (take setSize (drop (rowSize * u) (placed A (rowSize * t + setSize) (byteSetBytes S)))) ≡ num 8 (take setSize (drop (rowSize * u) A))
+      early k = ap (num 8) (placed-before A (rowSize * t + setSize) (byteSetBytes S) byte-set-fits (rowSize * u) setSize (omega arith))
 
-      late : t < u → num 8 (take setSize (drop (rowSize * u) (placed A (rowSize * t + setSize) (sigBytes S)))) ≡ num 8 (take setSize (drop (rowSize * u) A))
-      late k = ap (λ (z : List ℕ). num 8 (take setSize z)) (placed-behind A (rowSize * t + setSize) (sigBytes S) sig-fits (rowSize * u) (omega (arith, sig-long)))
+      late : t < u → num 8 (take setSize (drop (rowSize * u) (placed A (rowSize * t + setSize) (byteSetBytes S)))) ≡ num 8 (take setSize (drop (rowSize * u) A))
+      late k = ap (λ (z : List ℕ). num 8 (take setSize z)) (placed-behind A (rowSize * t + setSize) (byteSetBytes S) byte-set-fits (rowSize * u) (omega (arith, byte-set-long)))
 
-  pub bytes-long : length (placed A (rowSize * t + setSize) (sigBytes S)) ≡ length A
-  bytes-long = length-placed A (rowSize * t + setSize) (sigBytes S)
+  pub bytes-long : length (placed A (rowSize * t + setSize) (byteSetBytes S)) ≡ length A
+  bytes-long = length-placed A (rowSize * t + setSize) (byteSetBytes S)
 
-pub sigs-at-lt : (b : List ℕ) (at : ℕ) → Small 8 b → sigsAt b at < 2 ^ signatures
-unfolding sigsAt
-sigs-at-lt b at h = num-take-lt 8 (drop at b) (small-drop 8 at b h) sigSize
+pub byte-set-at-lt : (b : List ℕ) (at : ℕ) → Small 8 b → byteSetAt b at < 2 ^ byteCount
+unfolding byteSetAt
+byte-set-at-lt b at h = num-take-lt 8 (drop at b) (small-drop 8 at b h) byteSetSize

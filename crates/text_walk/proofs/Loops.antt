@@ -10,7 +10,8 @@ use native.Mathlib.Nat.{lt-of-not-le}
 use lib.ListN.{length}
 use lib.Pow.{pow-pos}
 use lib.Bits.{or-lt}
-use Rattle.sets.specs.Set.{states, signatures, setSize, setBytes, sigBytes, holds, join, placed}
+use Rattle.numbers.specs.Number.{placed}
+use Rattle.sets.specs.Set.{states, byteCount, setSize, setBytes, byteSetBytes, holds, join}
 use Rattle.sets.proofs.Sets.{holds-join, or-false}
 use Rattle.text_walk.specs.inner.Rows.{rowSize, rowsSize, priorAt, bytesOf, Leafed, Entered, Seamed, Copied}
 use Rattle.text_walk.proofs.Buffer.{prior-there, prior-other, prior-bytes, prior-long, bytes-there, bytes-other, bytes-prior, bytes-long}
@@ -24,8 +25,8 @@ join-lt m a b = or-lt m a b
 
 -- ---- a leaf
 
-pub leafed : (A B C : List ℕ) (t S : ℕ) → length A ≡ rowsSize → t < states → S < 2 ^ signatures
-    → B ≡ placed A (rowSize * t) (setBytes 0) → C ≡ placed B (rowSize * t + setSize) (sigBytes S) → Leafed t S A C
+pub leafed : (A B C : List ℕ) (t S : ℕ) → length A ≡ rowsSize → t < states → S < 2 ^ byteCount
+    → B ≡ placed A (rowSize * t) (setBytes 0) → C ≡ placed B (rowSize * t + setSize) (byteSetBytes S) → Leafed t S A C
 leafed A B C t S l h s e f =
     let lB : length B ≡ length A = ap length e ∙ prior-long A t h l 0 in
     let lB2 : length B ≡ rowsSize = lB ∙ l in
@@ -113,8 +114,8 @@ module _ (F G low : ℕ) (A : List ℕ) where
 
 -- ---- rows written again
 
-pub copied-one : (A B C : List ℕ) (t d S L : ℕ) → length A ≡ rowsSize → t + d < states → S ≡ further d (priorAt A t) → L ≡ bytesOf A t → L < 2 ^ signatures
-    → B ≡ placed A (rowSize * (t + d)) (setBytes S) → C ≡ placed B (rowSize * (t + d) + setSize) (sigBytes L) → Copied t 1 d A C
+pub copied-one : (A B C : List ℕ) (t d S L : ℕ) → length A ≡ rowsSize → t + d < states → S ≡ further d (priorAt A t) → L ≡ bytesOf A t → L < 2 ^ byteCount
+    → B ≡ placed A (rowSize * (t + d)) (setBytes S) → C ≡ placed B (rowSize * (t + d) + setSize) (byteSetBytes L) → Copied t 1 d A C
 copied-one A B C t d S L l h p q s e f =
     let lB : length B ≡ length A = ap length e ∙ prior-long A (t + d) h l S in
     let lB2 : length B ≡ rowsSize = lB ∙ l in

@@ -1,7 +1,7 @@
 // The second pass over a good text, in one walk: how many positions a part has, whether it can be empty, which states may begin it and which may
 // end it; and, in a lent work place, for each state the states that it may come after and the bytes that lead to it. A repeat is not read again:
 // its rows are written again, further on.
-use sets::SigSet;
+use sets::ByteSet;
 use sets::StateSet;
 use sets_words::next_state;
 use sets_words::shifted;
@@ -15,7 +15,7 @@ ghost use mathlib.Core.Bool.{Bool, true, false, _&&_, _||_, cond};
 ghost use Prim.Native.Nat.{ℕ, _≤_, _<_, _+_, _*_, _-_};
 ghost use lib.Dec.{eqb};
 ghost use lib.ListN.{length, drop, getD};
-ghost use Rattle.sets.specs.Set.{states, setWords, setOf, sigsOf, holds};
+ghost use Rattle.sets.specs.Set.{states, setWords, setOf, byteSetOf, holds};
 ghost use mathlib.Core.List.{List, _∷_, _++_};
 ghost use Rattle.text.specs.Exp.{Exp, eps, cat, opt, times, size};
 ghost use Rattle.text.specs.Grammar.{Text, textReads, Mark, Body, okMark, okBody, spellMark, reads, marked, exp};
@@ -25,7 +25,7 @@ ghost use Rattle.text_marks.specs.inner.Marks.{Atom, okAtom, atomThen};
 ghost use Rattle.text_walk.specs.inner.Trees.{expAtom, seq, rest};
 
 // Bytes of a state's row: the set of the states that it may come after, and its byte set.
-pub const ROW: usize = sets::BYTES + sets::SIG_BYTES;
+pub const ROW: usize = sets::BYTES + sets::BYTE_SET_BYTES;
 
 // Bytes of the work place.
 pub const ROWS: usize = ROW * sets::STATES;
@@ -63,9 +63,9 @@ fn only(c: bool, s: StateSet) -> StateSet
 // ---- rows
 
 // The row of a leaf at a state, if it is one.
-fn put_leaf(rows: &mut [u8], t: usize, letter: SigSet)
+fn put_leaf(rows: &mut [u8], t: usize, letter: ByteSet)
     requires { ⌜ length (now rows) ≡ rowsSize ⌝ }
-    ensures { λ r. ⌜ Leafed t (sigsOf letter) (now (rows .entry)) (now (rows .exit)) ⌝ }
+    ensures { λ r. ⌜ Leafed t (byteSetOf letter) (now (rows .entry)) (now (rows .exit)) ⌝ }
 {
     if t < sets::STATES {
         let none = StateSet::EMPTY;
@@ -79,7 +79,7 @@ fn enter(rows: &mut [u8], t: usize, from: StateSet)
     requires { ⌜ (t < states) × (length (now rows) ≡ rowsSize) ⌝ }
     ensures { λ r. ⌜ Entered (setOf from) t (now (rows .entry)) (now (rows .exit)) ⌝ }
 {
-    let old = StateSet::whole(rows, ROW * t);
+    let old = StateSet::from_bytes(rows, ROW * t);
     let more = old.union(from);
     more.store(rows, ROW * t);
 }
@@ -101,8 +101,8 @@ fn copy_row(rows: &mut [u8], t: usize, d: usize)
     requires { ⌜ (t + d < states) × (length (now rows) ≡ rowsSize) ⌝ }
     ensures { λ r. ⌜ Copied t 1 d (now (rows .entry)) (now (rows .exit)) ⌝ }
 {
-    let old = StateSet::whole(rows, ROW * t);
-    let letter = SigSet::whole(rows, ROW * t + sets::BYTES);
+    let old = StateSet::from_bytes(rows, ROW * t);
+    let letter = ByteSet::from_bytes(rows, ROW * t + sets::BYTES);
     let more = shifted(old, d);
     more.store(rows, ROW * (t + d));
     letter.store(rows, ROW * (t + d) + sets::BYTES);

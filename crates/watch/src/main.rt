@@ -52,13 +52,13 @@ fn run() {
     program_run::start(&path[..m]);
 }
 
-// `watch check DIR`: checks the list of a folder.
+// `watch check DIR [STATE]`: checks what the programs read of a box.
 fn check() {
     let mut folder = io::buffer();
     let n = os::arg(2, &mut folder);
-    let mut path = io::buffer();
-    let m = program_files::put_both(&mut path, &folder[..n], b"/rules.bin");
-    program_files::check_folder(&path[..m]);
+    let mut state = io::buffer();
+    let m = os::arg(3, &mut state);
+    program_check::check_folder(&folder[..n], &state[..m]);
 }
 
 // `watch compile FILE [OUT]`: compiles a file of texts.
@@ -67,7 +67,7 @@ fn compile() {
     let n = os::arg(2, &mut file);
     let mut out = io::buffer();
     let m = os::arg(3, &mut out);
-    program_files::compile_file(&file[..n], &out[..m]);
+    program_compile::compile_file(&file[..n], &out[..m]);
 }
 
 // `watch why DIR FLOW SIGNATURE OFFSET`: says why a pair is told.
@@ -88,7 +88,7 @@ fn why() {
 // Says how the program is called.
 fn usage() {
     io::write_all(2, b"usage: watch run DIR < input\n");
-    io::write_all(2, b"       watch check DIR\n");
+    io::write_all(2, b"       watch check DIR [STATE]\n");
     io::write_all(2, b"       watch compile FILE [OUT]\n");
     io::write_all(2, b"       watch why DIR FLOW SIGNATURE OFFSET\n");
     live::usage();
@@ -101,12 +101,12 @@ fn answer(word: &[u8], words: usize) {
             run();
             return;
         }
+    }
+    if (words == 3) | (words == 4) {
         if is_check(word) {
             check();
             return;
         }
-    }
-    if (words == 3) | (words == 4) {
         if is_compile(word) {
             compile();
             return;

@@ -23,18 +23,10 @@ use Rattle.watch_c.specs.declared.WatchCompiled.{WatchCompiled}
 use Rattle.watch_c.specs.declared.WatchFed.{WatchFed}
 use Rattle.watch_c.specs.declared.WatchMade.{WatchMade}
 use Rattle.watch_c.specs.declared.WatchOpened.{WatchOpened}
-use Rattle.watch_c.specs.Face.{Faces, FaceAnswers, FaceOpens, faceBuilt, faceMade, faceCompiled}
+use Rattle.watch_c.specs.Face.{Faces, held, FaceAnswers, FaceOpens, faceBuilt, faceMade, faceCompiled}
 
 pub faced : {o : Outcome} {f : Fed} {w : WatchFed} {ws sv : List ℕ} → Answers o f ws sv → Faces f w → FaceAnswers o w ws sv
-faced a h =
-    record {
-      bytes = h .bytes ∙ a .bytes;
-      pairs = h .pairs ∙ a .pairs;
-      refusal = h .refusal ∙ a .refusal;
-      all = h .all ∙ a .all;
-      words = a .words;
-      saved = a .saved;
-    }
+faced a h = rw (h .refusal, h .bytes, h .pairs, h .all, a .refusal, a .bytes, a .pairs, a .all, a .words, a .saved)
 
 -- the split that a feed by an index answers fits the face
 pub stood-fits : (S X : List ℕ) (h : ℕ) (R : List ℕ) (at : ℕ) (piece out : List ℕ) (n : ℕ) → n ≡ stoodAt S X h R at piece out → h < 4294967296 → n ≤ 4294967295
@@ -43,16 +35,10 @@ stood-fits S X h R at piece out n e l = rw e (stood-few S X h R at piece out 429
 -- two faces, words and records that answer one outcome are the same
 pub unique-face : (o : Outcome) (v w : WatchFed) (vs ws rv rw2 : List ℕ) → FaceAnswers o v vs rv → FaceAnswers o w ws rw2 → (v ≡ w) × (vs ≡ ws) × (rv ≡ rw2)
 unique-face o v w vs ws rv rw2 a b =
-    let p : v .bytes ≡ w .bytes = a .bytes ∙ sym (b .bytes) in
-    let q : v .pairs ≡ w .pairs = a .pairs ∙ sym (b .pairs) in
-    let r : v .refusal ≡ w .refusal = a .refusal ∙ sym (b .refusal) in
-    let s : v .all ≡ w .all = a .all ∙ sym (b .all) in (
-      ap {B = WatchFed} (λ (n : ℕ). record { bytes = n; pairs = v .pairs; refusal = v .refusal; all = v .all }) p
-          ∙ ap {B = WatchFed} (λ (n : ℕ). record { bytes = w .bytes; pairs = n; refusal = v .refusal; all = v .all }) q
-          ∙ ap {B = WatchFed} (λ (n : ℕ). record { bytes = w .bytes; pairs = w .pairs; refusal = n; all = v .all }) r
-          ∙ ap {B = WatchFed} (λ (t : Bool). record { bytes = w .bytes; pairs = w .pairs; refusal = w .refusal; all = t }) s,
-      a .words ∙ sym (b .words),
-      a .saved ∙ sym (b .saved),
+    let p : held v vs rv ≡ held w ws rw2 = a ∙ sym b in (
+      ap {B = WatchFed} (λ (x : Outcome). record { bytes = x .bytes; pairs = x .pairs; refusal = x .refusal; all = x .all }) p,
+      ap (λ (x : Outcome). x .words) p,
+      ap (λ (x : Outcome). x .saved) p,
     )
 
 -- so of an opening

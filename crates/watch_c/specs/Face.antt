@@ -30,14 +30,14 @@ pub record Faces (f : Fed) (w : WatchFed) : Type 0 where
   pub refusal : w .refusal ≡ f .refusal
   pub all : w .all ≡ f .all
 
+-- what a caller of a feed holds: the answer, and the words and the record at exit
+abbrev pub held : WatchFed → List ℕ → List ℕ → Outcome
+held w words saved =
+    record { refusal = w .refusal; bytes = w .bytes; pairs = w .pairs; all = w .all; words = words; saved = saved }
+
 -- the face answers w, and leaves the words `ws` and the record `sv`: those of an outcome
-pub record FaceAnswers (o : Outcome) (w : WatchFed) (ws sv : List ℕ) : Type 0 where
-  pub bytes : w .bytes ≡ o .bytes
-  pub pairs : w .pairs ≡ o .pairs
-  pub refusal : w .refusal ≡ o .refusal
-  pub all : w .all ≡ o .all
-  pub words : ws ≡ o .words
-  pub saved : sv ≡ o .saved
+abbrev pub FaceAnswers : Outcome → WatchFed → List ℕ → List ℕ → Type 0
+FaceAnswers o w ws sv = held w ws sv ≡ o
 
 -- what a feed by an index answers as every feed does: all but the split
 abbrev pub stoodFed : WatchStood → WatchFed

@@ -4,7 +4,8 @@ use index_feed::Stood;
 ghost use mathlib.Core.Path.{_≡_};
 ghost use Prim.Native.Nat.{_≤_};
 ghost use Rattle.list.specs.List.{listRefusal};
-ghost use Rattle.list_feed.specs.Plain.{openFlow, plainFeed};
+ghost use Rattle.list_flow.specs.Opening.{openFlow};
+ghost use Rattle.list_feed.specs.Plain.{plainFeed};
 ghost use Rattle.table.specs.Table.{table, tableRefusal};
 ghost use Rattle.table_feed.specs.Split.{splitFeed};
 ghost use Rattle.matrix.specs.Matrix.{Fills, matrixFeed};
@@ -142,7 +143,7 @@ pub extern "C" fn watch_check_list(list: &[u8]) -> u32
 pub extern "C" fn watch_open(list: &[u8], flow: &mut [u8], pairs: &mut [u32]) -> WatchOpened
     ensures { λ r. ⌜ FaceOpens (openFlow (now (list .entry)) (now (flow .entry)) (now (pairs .entry))) r (now (pairs .exit)) (now (flow .exit)) ⌝ }
 {
-    let opened = list_feed::open_flow(list, flow, pairs);
+    let opened = list_flow::open_flow(list, flow, pairs);
     WatchOpened {
         pairs: opened.pairs as u64,
         refusal: opened.refusal,

@@ -6,11 +6,11 @@ use Rattle.feed.specs.Engine.{Outcome}
 use Rattle.feed.specs.Opening.{Opening}
 use Rattle.watch_c.specs.declared.WatchFed.{WatchFed}
 use Rattle.watch_c.specs.declared.WatchOpened.{WatchOpened}
-use Rattle.watch_c.specs.Face.{FaceAnswers, FaceOpens}
-use Rattle.watch_c_laws.specs.Faced.{held, heldOpen}
+use Rattle.watch_c.specs.Face.{held, FaceAnswers, FaceOpens}
+use Rattle.watch_c_laws.specs.Faced.{heldOpen}
 
 pub held-so : (o : Outcome) (w : WatchFed) (words saved : List ℕ) → FaceAnswers o w words saved → held w words saved ≡ o
-held-so o w words saved a = rw (a .refusal, a .bytes, a .pairs, a .all, a .words, a .saved)
+held-so o w words saved a = a
 
 pub held-open-so : (o : Opening) (w : WatchOpened) (words saved : List ℕ) → FaceOpens o w words saved → heldOpen w words saved ≡ o
 held-open-so o w words saved a = rw (a .refusal, a .pairs, a .words, a .saved)

@@ -13,7 +13,8 @@ use watch_c::WatchPart;
 use watch_c::WatchStood;
 ghost use mathlib.Core.Path.{_≡_};
 ghost use Rattle.list.specs.List.{listRefusal};
-ghost use Rattle.list_feed.specs.Plain.{openFlow, plainFeed};
+ghost use Rattle.list_flow.specs.Opening.{openFlow};
+ghost use Rattle.list_feed.specs.Plain.{plainFeed};
 ghost use Rattle.table.specs.Table.{table, tableRefusal};
 ghost use Rattle.table_feed.specs.Split.{splitFeed};
 ghost use Rattle.matrix.specs.Matrix.{Fills, matrixFeed};
@@ -26,7 +27,7 @@ ghost use Rattle.machine.specs.Extended.{extendedOpen, extendedFeed};
 ghost use lib.ListN.{length};
 ghost use Rattle.segment.specs.Resend.{taking, due};
 ghost use Rattle.machine_certificate.specs.Certificate.{certificateRefusal};
-ghost use Rattle.watch_c.specs.Face.{version, stoodFed, faceBuilt, faceMade, faceCompiled, faceJoined, faceFolded};
+ghost use Rattle.watch_c.specs.Face.{version, held, stoodFed, faceBuilt, faceMade, faceCompiled, faceJoined, faceFolded};
 ghost use Rattle.text_compile.specs.Compile.{Compiles};
 ghost use Rattle.list_join.specs.Join.{Joins};
 ghost use Rattle.list_fold.specs.Fold.{FoldAnswers};
@@ -39,7 +40,7 @@ ghost use Rattle.segment_feed.specs.Post.{Hears, sent, kept};
 ghost use Rattle.segment_index.specs.Standing.{standSegment, stoodBy};
 ghost use Rattle.segment_machine.specs.Ways.{machineSegment};
 ghost use Rattle.watch_c.specs.Segments.{faceHeard, faceHeardAt};
-ghost use Rattle.watch_c_laws.specs.Faced.{held, heldOpen};
+ghost use Rattle.watch_c_laws.specs.Faced.{heldOpen};
 ghost use Rattle.watch_c_laws.specs.Resent.{heldPlace, partOf};
 
 // What the calls answered: the two checks, the opening, and both feeds.

@@ -121,6 +121,18 @@ def join_limits(tape, dice):
             tape.join(len(first))
 
 
+def join_nothing(tape, dice):
+    """Lists that add no record: joined where they fit, and 28 with more bytes in use than are lent."""
+    for _ in range(20):
+        stays = dice.chance(50)
+        front = start(0) + (edge(0, 255, 0, 0) if stays else edge(97, 98, 0, 1)) + accept(1, dice.below(256))
+        tape.load_other(start(0) + (edge(0, 255, 0, 0) if stays else b""))
+        tape.lend(front + behind(dice))
+        tape.join(len(front))
+        tape.lend(front)
+        tape.join(len(front) + dice.pick([1, 8, 2 ** 32, 2 ** 64 - 1 - len(front)]))
+
+
 # Folding
 
 def folded_lists(tape, dice):
@@ -164,4 +176,4 @@ def fold_limits(tape, dice):
         tape.fold()
 
 
-GROUPS = [joined_lists, join_rooms, bad_fronts, bad_others, join_limits, folded_lists, fold_rooms, bad_folds, fold_limits]
+GROUPS = [joined_lists, join_rooms, bad_fronts, bad_others, join_limits, join_nothing, folded_lists, fold_rooms, bad_folds, fold_limits]

@@ -36,6 +36,7 @@ WRONG = [
     ("27 before 1 to 3", "    if refusal == 0 and model.list_refusal(other) != 0:\n", "    if model.list_refusal(other) != 0:\n"),
     ("the other list's own refusal", "        refusal = 27\n", "        refusal = model.list_refusal(other)\n"),
     ("a list that just fits does not", ROOM, ROOM.replace("size > len(lent)", "size >= len(lent)")),
+    ("more bytes in use than are lent", ROOM, ROOM.replace("used > len(lent) or ", "")),
     ("one record more may be", ROOM, ROOM.replace("> sizes.MOST_RECORDS", "> sizes.MOST_RECORDS + 1")),
     ("one record fewer may be", ROOM, ROOM.replace("> sizes.MOST_RECORDS", ">= sizes.MOST_RECORDS")),
     ("one state more may be", ROOM, ROOM.replace(">= sizes.STATES", "> sizes.STATES")),

@@ -22,7 +22,7 @@ GROUPS = [
     table_cases.slots_taken, table_cases.fed_order, table_cases.low_and_high,
     table_cases.lengths_of_splits, table_cases.no_split, cases.zero_records, cases.old_content,
     cases.long_pauses, cases.capitals, cases.first_pairs, cases.foreign, table_cases.swaps,
-    matrix_cases.matrices, *index_cases.GROUPS,
+    *matrix_cases.GROUPS, *index_cases.GROUPS,
 ]
 
 

@@ -147,3 +147,19 @@ def matrices(tape, dice):
             tape.load_list(many.data)
             tape.load_matrix(good)
             assert tape.fill_matrix() == 8
+
+
+def past_highest(tape, dice):
+    """Frontiers with states past the highest and without the highest, whose sets lead elsewhere: they add nothing."""
+    for _ in range(20):
+        sample = few_states(dice, 3)
+        highest = matrix_states(sample.data) - 1
+        past = dice.pick([highest + 1, highest + 64, STATES - 1])
+        own = [pack_set(frozenset([past, 0 if state < highest else highest])) for state in range(highest + 1) for _ in range(BYTE_VALUES)]
+        tape.load_list(sample.data)
+        tape.load_matrix(b"".join(own))
+        tape.load_record(pack_flow(Flow(frozenset([0]), 0, 0)))
+        tape.matrix_feed(0, ENOUGH_WORDS, a_piece(dice, sample, 3))
+
+
+GROUPS = [matrices, past_highest]

@@ -33,6 +33,8 @@ WRONG = [
     ("matrix feed: 8 before 4", [(LOOKS_FOR_8, LOOKS_FOR_8.replace("not refusal and", "refusal in (0, 4, 5, 6) and"))]),
     ("matrix feed: the sets of the next state", [(FINDS_SET, "((state + 1) % states * BYTE_VALUES + byte)")]),
     ("matrix feed: the highest has no sets", [("for state in frontier if state < states]", "for state in frontier if state < states - 1]")]),
+    ("matrix feed: a state past the highest takes the highest's sets", [
+        ("(state * BYTE_VALUES + byte) for state in frontier if state < states]", "(min(state, states - 1) * BYTE_VALUES + byte) for state in frontier]")]),
     ("matrix feed: rows by the states that have sets", [("in places), len(frontier)", "in places), len(places)")]),
     ("matrix feed: rows by the sets that are not empty", [
         ("in places), len(frontier)", "in places), sum(any(matrix[at:at + SET_SIZE]) for at in places)")]),

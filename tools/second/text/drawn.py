@@ -1,8 +1,5 @@
 """Signature texts and pieces at random."""
 
-import sys
-
-from second.dice import Dice
 from second.text import model as texts
 
 PLAIN = [bytes([b]) for b in range(256) if b not in texts.SPECIAL]
@@ -92,12 +89,3 @@ def good_text(dice, depth=3, most=4, limit=40):
 
 def piece_of(dice, length):
     return bytes(dice.pick([97, 98, 99, 97, 98, 10, 32, dice.below(256)]) for _ in range(length))
-
-
-def write(number, seed):
-    """Writes so many texts that fit, each behind its length of two bytes."""
-    dice = Dice(seed)
-    for _ in range(number):
-        text = good_text(dice, limit=dice.pick([5, 30, 80]))
-        sys.stdout.buffer.write(len(text).to_bytes(2, "little") + text)
-    return 0

@@ -1,8 +1,8 @@
 """Tests how a program makes one list of a file of texts: the list is that of its texts joined and
 folded by the second program, its pairs are those of its texts, and each line that is refused is said.
 
-The program takes a file of texts and a file for the list behind it; bindings/c/signatures.c says what
-they hold. Files are made in a folder.
+The program takes a file of texts and a file for the list behind it; docs/signatures.md says what they
+hold. Files are made in a folder.
 """
 
 import subprocess

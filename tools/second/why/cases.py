@@ -166,4 +166,20 @@ def small_numbers(tape, dice):
                 tape.ask(0, dice.chance(30), number, count, *enough(count))
 
 
-GROUPS = [worked, questions, against_all, lengths, refusals, edges, longer, small_numbers]
+def other_kinds(tape, dice):
+    """Signatures that are due but for a higher byte, and edges at byte 0 where the numbers are those of a start or an accept record."""
+    for _ in range(30):
+        sample = drawn.any_list(dice)
+        piece = some_piece(dice, sample, 4)
+        tape.load_all(sample.data, opened(sample.data), piece)
+        for count in range(len(piece) + 1):
+            for signature in dice.some(sorted({a.signature for a in sample.nfa.accepts}), 2):
+                tape.ask(0, False, signature, count, *enough(count))
+                tape.ask(0, False, signature + 256 * dice.pick([1, 3, 2 ** 24 - 1]), count, *enough(count))
+        for one in dice.some(sorted(sample.nfa.accepts), 3):
+            tape.edge(one.state, 0, one.signature)
+        for state in dice.some(sorted(sample.nfa.starts), 2):
+            tape.edge(0, 0, state)
+
+
+GROUPS = [worked, questions, against_all, lengths, refusals, edges, longer, small_numbers, other_kinds]

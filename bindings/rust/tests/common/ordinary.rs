@@ -376,6 +376,17 @@ fn run(
     answer
 }
 
+/// The automaton and the flow of a feed, or the first of the rules 1 to 6 that refuses it.
+fn ready<'a>(
+    list: &'a Result<Automaton, u32>,
+    record: &[u8],
+    start: u64,
+    piece: &[u8],
+) -> Result<(&'a Automaton, Flow), u32> {
+    let automaton = list.as_ref().map_err(|refusal| *refusal)?;
+    Ok((automaton, flow_for(automaton, record, start, piece)?))
+}
+
 pub fn feed(
     list: &Result<Automaton, u32>,
     record: &mut Vec<u8>,
@@ -383,12 +394,8 @@ pub fn feed(
     piece: &[u8],
     words: &mut [u32],
 ) -> Answer {
-    let automaton = match list {
-        Ok(automaton) => automaton,
-        Err(refusal) => return refused(*refusal),
-    };
-    let flow = match flow_for(automaton, record, start, piece) {
-        Ok(flow) => flow,
+    let (automaton, flow) = match ready(list, record, start, piece) {
+        Ok(ready) => ready,
         Err(refusal) => return refused(refusal),
     };
     run(automaton, flow, piece, words, record, |frontier, byte| {
@@ -405,12 +412,8 @@ pub fn split_feed(
     piece: &[u8],
     words: &mut [u32],
 ) -> Answer {
-    let automaton = match list {
-        Ok(automaton) => automaton,
-        Err(refusal) => return refused(*refusal),
-    };
-    let flow = match flow_for(automaton, record, start, piece) {
-        Ok(flow) => flow,
+    let (automaton, flow) = match ready(list, record, start, piece) {
+        Ok(ready) => ready,
         Err(refusal) => return refused(refusal),
     };
     if !(1..=MOST_BOUND).contains(&bound) {

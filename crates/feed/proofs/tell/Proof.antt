@@ -2,7 +2,8 @@
 use borrow.Author.Needs.{needs}
 use Prim.Native.Nat.{_≤_, _-_, _*_, _/_, _^_}
 use native.Mathlib.Omega.{arith}
-use Rattle.sets.specs.Set.{sigWords, num}
+use Rattle.numbers.specs.Number.{num}
+use Rattle.sets.specs.Set.{sigWords}
 use Rattle.sets.proofs.Sets.{Words}
 use Rattle.sets.proofs.Whole.{sigs-valid-of}
 use Rattle.feed.proofs.Telling.{Left, words-all, words-low, words-more, words-none}

@@ -4,8 +4,9 @@ use borrow.Author.Tests.{eq-eqb}
 use mathlib.Core.Path.{_≡_, sym, _∙_}
 use Prim.Native.Nat.{ℕ, _+_, _-_, _*_, _/_, _^_, _<_}
 use native.Mathlib.Omega.{arith}
-use Rattle.sets.specs.Set.{setWords, setSize, setOf, setBytes, compare}
-use Rattle.sets.proofs.Laws.{Small}
+use Rattle.numbers.specs.Number.{compare}
+use Rattle.sets.specs.Set.{setWords, setSize, setOf, setBytes}
+use Rattle.numbers.proofs.Laws.{Small}
 use Rattle.sets.proofs.Sets.{words-lt}
 use Rattle.sets.proofs.Whole.{valid-of}
 use Rattle.table.specs.Table.{splitSet}

@@ -13,8 +13,8 @@ returns : tie.Need-returns
 unfolding knownIn
 returns c = sym (rw (lt-ltb (length (c .before .before .args .index .now)) setSize (c .if1 .taken)))
 
-whole-requires : tie.Need-whole-requires
-whole-requires c κs = search needs
+from-bytes-requires : tie.Need-from-bytes-requires
+from-bytes-requires c κs = search needs
 
 union-requires : tie.Need-union-requires
 union-requires c κs = search needs
@@ -27,7 +27,7 @@ unfolding knownIn within
 returns-2 c =
     let read = c .before .before in
     let a = read .before .before .before .args in
-    c .same .ensures ∙ rw (c .before .union .ensures, read .whole .ensures) (sym (rw (le-ltb (length (a .index .now)) setSize (omega (arith, read .before .if1 .left)))))
+    c .same .ensures ∙ rw (c .before .union .ensures, read .from-bytes .ensures) (sym (rw (le-ltb (length (a .index .now)) setSize (omega (arith, read .before .if1 .left)))))
 
 pub known-spec : {M : Type 1} → statement M
-known-spec = tie.close (tie.spec returns whole-requires union-requires same-requires returns-2)
+known-spec = tie.close (tie.spec returns from-bytes-requires union-requires same-requires returns-2)

@@ -88,7 +88,7 @@ holds-at-requires : tie.Need-holds-at-requires
 holds-at-requires c κs = omega (arith, c .before .if1 .left)
 
 named-by-requires : tie.Need-named-by-requires
-named-by-requires c κs = c .before .holds-at .ensures
+named-by-requires c κs = (c .before .holds-at .ensures, omega (arith, c .before .before .before .if1 .left))
 
 feed-refusal-requires : tie.Need-feed-refusal-requires
 feed-refusal-requires c κs =
@@ -116,7 +116,7 @@ split-count-requires : tie.Need-split-count-requires
 split-count-requires c κs = search needs
 
 begin-requires : tie.Need-begin-requires
-begin-requires c κs = search needs
+begin-requires c κs = omega (arith, good-flow (entry (c .before .before .before) .args .flow .now) (known (c .before .before) .0) .0)
 
 run-from-requires : tie.Need-run-from-requires
 run-from-requires c κs =

@@ -3,7 +3,8 @@ use borrow.Author.Needs.{needs}
 use mathlib.Core.Path.{ap, _∙_}
 use Prim.Native.Nat.{ℕ}
 use native.Mathlib.Omega.{arith}
-use Rattle.sets.specs.Set.{setBytes, placed}
+use Rattle.numbers.specs.Number.{placed}
+use Rattle.sets.specs.Set.{setBytes}
 use Rattle.table.specs.Table.{splitSet}
 use Rattle.index_feed.proofs.put_frontier.Statement.{statement}
 use Rattle.index_feed.proofs.put_frontier.Tie as tie

@@ -4,9 +4,10 @@ use mathlib.Core.Path.{_≡_, refl, ap, _∙_}
 use Prim.Native.Nat.{_≤_, _<_, _-_, _+_}
 use native.Mathlib.Omega.{arith}
 use lib.ListN.{length, take, drop}
-use Rattle.sets.specs.Set.{setSize, placed}
-use Rattle.sets.proofs.Laws.{Small}
-use Rattle.sets.proofs.Placing.{placed-none, length-placed}
+use Rattle.numbers.specs.Number.{placed}
+use Rattle.sets.specs.Set.{setSize}
+use Rattle.numbers.proofs.Laws.{Small}
+use Rattle.numbers.proofs.Placing.{placed-none, length-placed}
 use Rattle.index_feed.proofs.Saving.{put-more, put-all}
 use Rattle.index_feed.proofs.put_set.Statement.{statement}
 use Rattle.index_feed.proofs.put_set.Tie as tie

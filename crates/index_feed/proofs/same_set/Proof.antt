@@ -5,7 +5,7 @@ use Prim.Native.Nat.{_≤_, _<_, _-_, _+_}
 use native.Mathlib.Omega.{arith}
 use lib.ListN.{getD}
 use Rattle.sets.specs.Set.{setSize}
-use Rattle.sets.proofs.Laws.{Small}
+use Rattle.numbers.proofs.Laws.{Small}
 use Rattle.sets.proofs.Words.{Alike, alike-none, alike-more}
 use Rattle.index_feed.proofs.Saving.{set-alike}
 use Rattle.index_feed.proofs.same_set.Statement.{statement}

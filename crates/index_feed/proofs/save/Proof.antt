@@ -3,7 +3,8 @@ use borrow.Author.Needs.{needs}
 use mathlib.Core.Path.{sym, ap, _∙_}
 use mathlib.Core.List.{List}
 use Prim.Native.Nat.{ℕ, _+_}
-use Rattle.sets.specs.Set.{setBytes, placed}
+use Rattle.numbers.specs.Number.{placed}
+use Rattle.sets.specs.Set.{setBytes}
 use Rattle.list_flow.specs.Flow.{frontierOf, rowsOf}
 use Rattle.table.specs.Table.{splitSet}
 use Rattle.index_feed.proofs.Saving.{front-over}

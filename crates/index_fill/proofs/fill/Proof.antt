@@ -4,7 +4,7 @@ use borrow.Author.Tests.{eq-eqb, ne-eqb}
 use mathlib.Core.Path.{_≡_, sym, _∙_}
 use native.Mathlib.Omega.{arith}
 use lib.ListN.{length}
-use Rattle.sets.proofs.Placing.{placed-all}
+use Rattle.numbers.proofs.Placing.{placed-all}
 use Rattle.table.specs.Table.{Table, table, splitCount}
 use Rattle.index.specs.Entry.{entryPlace}
 use Rattle.index_fill.specs.Filled.{indexOf, indexRefusal}

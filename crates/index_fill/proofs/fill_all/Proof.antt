@@ -5,8 +5,9 @@ use mathlib.Core.List.{List}
 use Prim.Native.Nat.{ℕ, _-_, _≤_, _<_}
 use native.Mathlib.Omega.{arith}
 use lib.ListN.{length}
-use Rattle.sets.specs.Set.{setSize, placed}
-use Rattle.sets.proofs.Placing.{placed-none, length-placed}
+use Rattle.numbers.specs.Number.{placed}
+use Rattle.sets.specs.Set.{setSize}
+use Rattle.numbers.proofs.Placing.{placed-none, length-placed}
 use Rattle.rules.specs.Scan.{stack}
 use Rattle.table.specs.Table.{splitCount}
 use Rattle.index_fill.specs.Filled.{entryOf}

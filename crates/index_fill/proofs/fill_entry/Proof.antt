@@ -5,7 +5,8 @@ use mathlib.Core.Bool.{Bool}
 use mathlib.Core.List.{List}
 use Prim.Native.Nat.{ℕ, _+_, _≤_, _<_}
 use native.Mathlib.Omega.{arith}
-use Rattle.sets.specs.Set.{setOf, sigBytes, sigsOf, within, placed}
+use Rattle.numbers.specs.Number.{placed}
+use Rattle.sets.specs.Set.{setOf, sigBytes, sigsOf, within}
 use Rattle.list.specs.Automaton.{step, named}
 use Rattle.list.proofs.Steps.{step-lt}
 use Rattle.table.specs.Table.{byteValues, splitSet, part}

@@ -4,7 +4,8 @@ use mathlib.Core.Path.{_≡_, ap, _∙_}
 use Prim.Native.Nat.{ℕ, _+_, _*_}
 use native.Mathlib.Omega.{arith}
 use lib.ListN.{getD}
-use Rattle.sets.specs.Set.{setOf, digits, placed}
+use Rattle.numbers.specs.Number.{digits, placed}
+use Rattle.sets.specs.Set.{setOf}
 use Rattle.table.specs.Table.{part}
 use Rattle.index_fill.specs.Filled.{wordOf}
 use Rattle.index_fill.proofs.fill_word.Statement.{statement}
@@ -52,15 +53,15 @@ returns c =
     ∙ ap (λ (v : ℕ). placed (a .index .now) (a .at + 4 * a .c) (digits 8 4 v))
     (number .whole-number .ensures ∙ s .pre .9 (getD (a .lows .now) (a .c) 0) (low .if1 .taken) ∙ ap (wordOf (a .list .now) (a .splits .now)) (s .pre .7 (low .if1 .taken)))
 
-mul-whole : tie.Need-mul-whole
-mul-whole c = omega (arith, entry (c .before) .pre .5)
+mul-from-bytes : tie.Need-mul-from-bytes
+mul-from-bytes c = omega (arith, entry (c .before) .pre .5)
 
-whole-requires : tie.Need-whole-requires
-whole-requires c κs = let s = entry (c .before) in omega (arith, s .pre .4, s .pre .5)
+from-bytes-requires : tie.Need-from-bytes-requires
+from-bytes-requires c κs = let s = entry (c .before) in omega (arith, s .pre .4, s .pre .5)
 
 word-of-requires : tie.Need-word-of-requires
 unfolding part
-word-of-requires c κs = let s = entry (c .before .before) in (s .pre .0, s .pre .1, s .pre .2, rw (c .whole .ensures) (s .pre .8))
+word-of-requires c κs = let s = entry (c .before .before) in (s .pre .0, s .pre .1, s .pre .2, rw (c .from-bytes .ensures) (s .pre .8))
 
 mul-put-number-2 : tie.Need-mul-put-number-2
 mul-put-number-2 c = omega (arith, entry (c .before .before .before .before) .pre .5)
@@ -81,7 +82,7 @@ returns-2 c =
     let word = put .before .before in
     let a = entry (word .before .before .before) .args in
     put .put-number2 .ensures
-    ∙ ap (λ (v : ℕ). placed (a .index .now) (a .at + 4 * a .c) (digits 8 4 v)) (word .word-of .ensures ∙ ap (wordOf (a .list .now) (a .splits .now)) (word .before .whole .ensures))
+    ∙ ap (λ (v : ℕ). placed (a .index .now) (a .at + 4 * a .c) (digits 8 4 v)) (word .word-of .ensures ∙ ap (wordOf (a .list .now) (a .splits .now)) (word .before .from-bytes .ensures))
 
 pub fill-word-spec : {M : Type 1} → statement M
 fill-word-spec =
@@ -97,8 +98,8 @@ fill-word-spec =
     put-number-requires
     same-length
     returns
-    mul-whole
-    whole-requires
+    mul-from-bytes
+    from-bytes-requires
     word-of-requires
     mul-put-number-2
     add-put-number-2

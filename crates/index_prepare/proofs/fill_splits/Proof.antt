@@ -23,11 +23,11 @@ abbrev μ-loop : tie.MeasureT-loop
 loop-holds : tie.Need-loop-holds Inv-loop μ-loop
 loop-holds c = (omega arith, refl, laid-none _ splitSize (c .before .before .args .splits .now))
 
-mul-whole : tie.Need-mul-whole Inv-loop μ-loop
-mul-whole c = omega (arith, c .before .loop-test, c .before .before .before .before .before .pre .1)
+mul-from-bytes : tie.Need-mul-from-bytes Inv-loop μ-loop
+mul-from-bytes c = omega (arith, c .before .loop-test, c .before .before .before .before .before .pre .1)
 
-whole-requires : tie.Need-whole-requires Inv-loop μ-loop
-whole-requires c κs = omega (arith, c .before .loop-test, c .before .before .before .before .before .pre .0)
+from-bytes-requires : tie.Need-from-bytes-requires Inv-loop μ-loop
+from-bytes-requires c κs = omega (arith, c .before .loop-test, c .before .before .before .before .before .pre .0)
 
 put-split-requires : tie.Need-put-split-requires Inv-loop μ-loop
 put-split-requires c κs = let s = c .before .before .before .before .before .before in omega (arith, c .before .before .loop-test, c .before .before .before .loop .inv .1, s .pre .1, s .pre .2)
@@ -43,7 +43,7 @@ unfolding part
 loop-again c =
     let s = c .before .before .before .before .before .before .before .before .before in
     let l = c .before .before .before .before .before .before .loop in
-    let w = c .before .before .before .whole in
+    let w = c .before .before .before .from-bytes in
     let xs = bareSplit (setOf (w .result)) in
     let n = bare-size (setOf (w .result)) in
     let r : splitSize * l .i + splitSize ≤ length (l .splits) = omega (arith, c .before .before .before .before .before .loop-test, l .inv .1, s .pre .1, s .pre .2) in (
@@ -61,4 +61,4 @@ returns c =
     (l .inv .1, λ i h. l .inv .2 i (omega (arith, h, c .loop-test)))
 
 pub fill-splits-spec : {M : Type 1} → statement M
-fill-splits-spec = tie.close (tie.spec Inv-loop μ-loop loop-holds mul-whole whole-requires put-split-requires add-i loop-less loop-again same-length returns)
+fill-splits-spec = tie.close (tie.spec Inv-loop μ-loop loop-holds mul-from-bytes from-bytes-requires put-split-requires add-i loop-less loop-again same-length returns)

@@ -6,7 +6,7 @@ use Prim.Native.Nat.{ℕ, _*_, _≤_}
 use native.Mathlib.Omega.{arith}
 use lib.ListN.{length, take}
 use lib.Seq.{length-take-le}
-use Rattle.sets.proofs.Placing.{length-placed}
+use Rattle.numbers.proofs.Placing.{length-placed}
 use Rattle.table.specs.Table.{splitSize}
 use Rattle.table_build.specs.Build.{over}
 use Rattle.table_build.specs.inner.Loops.{setsOf}

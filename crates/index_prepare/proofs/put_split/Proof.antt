@@ -5,8 +5,9 @@ use mathlib.Core.List.{List}
 use Prim.Native.Nat.{ℕ, _+_, _*_}
 use native.Mathlib.Omega.{arith}
 use lib.ListN.{replicate, length-replicate}
-use Rattle.sets.specs.Set.{setSize, setOf, digits, setBytes, placed}
-use Rattle.sets.proofs.Laws.{length-digits}
+use Rattle.numbers.specs.Number.{digits, placed}
+use Rattle.sets.specs.Set.{setSize, setOf, setBytes}
+use Rattle.numbers.proofs.Laws.{length-digits}
 use Rattle.table.specs.Table.{splitSize}
 use Rattle.table_classes.proofs.Fronts.{placed-twice}
 use Rattle.index_prepare.proofs.put_split.Statement.{statement}

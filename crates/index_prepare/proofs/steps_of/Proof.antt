@@ -32,7 +32,7 @@ head c = c .before .before .before .before .before
 -- the sets of `work` are the steps
 steps : (c : tie.At-loop Inv-loop μ-loop) → let a = start c .args in (d : ℕ) → d < byteValues → part (filled c .fill-steps .last .1 .1 .0) d ≡ step (a .list .now) (part (a .queue .now) (a .i)) d
 unfolding part
-steps c d h = let a = start c .args in filled c .fill-steps .ensures .1 d h ∙ ap (λ (F : ℕ). step (a .list .now) F d) (filled c .before .before .whole .ensures)
+steps c d h = let a = start c .args in filled c .fill-steps .ensures .1 d h ∙ ap (λ (F : ℕ). step (a .list .now) F d) (filled c .before .before .from-bytes .ensures)
 
 -- a byte is still to come
 to-come : (c : tie.In-loop Inv-loop μ-loop) → c .before .loop .c < byteValues
@@ -57,11 +57,11 @@ turned c =
     (rw (steps h (l .c) k) (reach-step (a .list .now) F (l .c) k (s .pre .4 .reached (a .i) (s .pre .5))))
     (there (a .list .now) (a .queue .now) (a .parts .now) (l .queue) (l .parts) v (a .n) (l .m) (a .i) (l .c) (steps h) k (a .lows .now) g (s .pre .6 F (l .c) k)))
 
-mul-whole : tie.Need-mul-whole Inv-loop μ-loop
-mul-whole c = let s = c .before .before .before .before .before .before in omega (arith, s .pre .4 .few, s .pre .5)
+mul-from-bytes : tie.Need-mul-from-bytes Inv-loop μ-loop
+mul-from-bytes c = let s = c .before .before .before .before .before .before in omega (arith, s .pre .4 .few, s .pre .5)
 
-whole-requires : tie.Need-whole-requires Inv-loop μ-loop
-whole-requires c κs = let s = c .before .before .before .before .before .before in omega (arith, s .pre .4 .few, s .pre .5, s .pre .2)
+from-bytes-requires : tie.Need-from-bytes-requires Inv-loop μ-loop
+from-bytes-requires c κs = let s = c .before .before .before .before .before .before in omega (arith, s .pre .4 .few, s .pre .5, s .pre .2)
 
 fill-steps-requires : tie.Need-fill-steps-requires Inv-loop μ-loop
 fill-steps-requires c κs = c .before .before .before .before .before .before .before .before .pre .1
@@ -149,8 +149,8 @@ steps-of-spec =
     (tie.spec
     Inv-loop
     μ-loop
-    mul-whole
-    whole-requires
+    mul-from-bytes
+    from-bytes-requires
     fill-steps-requires
     loop-holds
     add-set-requires

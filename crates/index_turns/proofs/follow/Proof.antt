@@ -26,14 +26,14 @@ returns-2 c =
     let h = le-ltb (a .word - telling) (limit (a .index .now)) (c .if2 .taken) in
     (sym (rw l), none-told (a .index .now) (a .word) (rw (l, h)) _ _ _)
 
-add-whole : tie.Need-add-whole
-add-whole c = search needs
+add-from-bytes : tie.Need-add-from-bytes
+add-from-bytes c = search needs
 
-whole-requires : tie.Need-whole-requires
-whole-requires c κs = search needs
+from-bytes-requires : tie.Need-from-bytes-requires
+from-bytes-requires c κs = search needs
 
-tell-set-requires : tie.Need-tell-set-requires
-tell-set-requires c κs = search needs
+tell-all-requires : tie.Need-tell-all-requires
+tell-all-requires c κs = search needs
 
 same-length : tie.Need-same-length
 same-length c = search needs
@@ -42,11 +42,12 @@ returns-3 : tie.Need-returns-3
 unfolding toldOf
 returns-3 c =
     let told = c .before .before in
-    let read = told .before .before in
-    let a = read .before .before .before .before .before .args in
-    let l = le-ltb (a .word) telling (read .before .before .if1 .left) in
-    let h = lt-ltb (a .word - telling) (limit (a .index .now)) (read .before .if2 .left) in
-    (sym (rw l), rw (l, h) (rw (read .whole .ensures) at (told .tell-set .ensures)))
+    let read = told .before in
+    let passed = read .before .before in
+    let a = passed .before .before .before .before .args in
+    let l = le-ltb (a .word) telling (passed .before .if1 .left) in
+    let h = lt-ltb (a .word - telling) (limit (a .index .now)) (passed .if2 .left) in
+    (sym (rw l), rw (l, h) (rw (read .from-bytes .ensures) at (told .tell-all .ensures)))
 
 pub follow-spec : {M : Type 1} → statement M
 follow-spec =
@@ -55,8 +56,8 @@ follow-spec =
     returns
     sub-if2
     returns-2
-    add-whole
-    whole-requires
-    tell-set-requires
+    add-from-bytes
+    from-bytes-requires
+    tell-all-requires
     same-length
     returns-3)

@@ -5,7 +5,7 @@ use Prim.Native.Nat.{ℕ, _*_}
 use mathlib.Core.Path.{ap, _∙_}
 use mathlib.Core.List.{[], _∷_}
 use lib.ListN.{length-set}
-use Rattle.sets.specs.Set.{placed}
+use Rattle.numbers.specs.Number.{placed}
 use Rattle.laws.proofs.Driving.{four-placed}
 use Rattle.laws.proofs.note.Statement.{statement}
 use Rattle.laws.proofs.note.Tie as tie

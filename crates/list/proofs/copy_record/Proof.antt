@@ -3,8 +3,8 @@ use borrow.Author.Needs.{needs}
 use native.Mathlib.Omega.{arith}
 use Prim.Native.Nat.{_+_, _*_}
 use mathlib.Core.Path.{_≡_, ap, _∙_}
-use Rattle.sets.specs.Set.{digits, placed}
-use Rattle.sets.proofs.Laws.{Small}
+use Rattle.numbers.specs.Number.{digits, placed}
+use Rattle.numbers.proofs.Laws.{Small}
 use Rattle.list.proofs.Copied.{copied-at}
 use Rattle.list.proofs.copy_record.Statement.{statement}
 use Rattle.list.proofs.copy_record.Tie as tie

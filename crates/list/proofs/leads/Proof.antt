@@ -1,7 +1,7 @@
 -- `leads` is the definition, test by test; a record whose state has no place in a word is not looked at further. Assumes nothing.
 use borrow.Author.Needs.{needs}
 use mathlib.Core.Path.{refl, sym, _∙_}
-use Rattle.sets.specs.Set.{num}
+use Rattle.numbers.specs.Number.{num}
 use Rattle.rules.proofs.Scanning.{and-false}
 use Rattle.list.specs.List.{from}
 use Rattle.list.specs.Automaton.{edge}

@@ -4,7 +4,8 @@ use mathlib.Core.Path.{_≡_, sym, ap, _∙_}
 use Prim.Native.Nat.{ℕ, _≤_, _-_, _+_}
 use native.Mathlib.Omega.{arith}
 use lib.ListN.{length}
-use Rattle.sets.specs.Set.{setWords, num}
+use Rattle.numbers.specs.Number.{num}
+use Rattle.sets.specs.Set.{setWords}
 use Rattle.sets.proofs.Sets.{empty-words}
 use Rattle.list.specs.List.{records}
 use Rattle.list.specs.Automaton.{namedBy}

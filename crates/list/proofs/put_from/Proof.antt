@@ -7,7 +7,8 @@ use native.Mathlib.Omega.{arith}
 use native.Mathlib.Numerals.{add-one}
 use lib.ListN.{length}
 use borrow.Author.Tests.{not-true, not-false}
-use Rattle.sets.specs.Set.{setWords, num}
+use Rattle.numbers.specs.Number.{num}
+use Rattle.sets.specs.Set.{setWords}
 use Rattle.rules.specs.Scan.{every}
 use Rattle.rules.proofs.Scanning.{every-fails}
 use Rattle.list.specs.List.{goodRecord}

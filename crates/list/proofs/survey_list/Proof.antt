@@ -9,7 +9,8 @@ use native.Mathlib.Decide.{decLt}
 use lib.ListN.{length}
 use lib.Dec.{ltb}
 use borrow.Author.Tests.{not-true, not-false, ltb-true, ltb-false}
-use Rattle.sets.specs.Set.{setWords, num, setAt}
+use Rattle.numbers.specs.Number.{num}
+use Rattle.sets.specs.Set.{setWords, setAt}
 use Rattle.sets.proofs.Sets.{empty-words}
 use Rattle.rules.specs.Scan.{every}
 use Rattle.rules.proofs.Rules.{skip, stop, last}

@@ -3,7 +3,7 @@ use borrow.Author.Needs.{needs}
 use mathlib.Core.Path.{_∙_}
 use Prim.Native.Nat.{_+_, _*_}
 use native.Mathlib.Omega.{arith}
-use Rattle.sets.proofs.Bytes.{num-two}
+use Rattle.numbers.proofs.Bytes.{num-two}
 use Rattle.list.specs.List.{recordSize}
 use Rattle.list.proofs.word_of.Statement.{statement}
 use Rattle.list.proofs.word_of.Tie as tie

@@ -12,6 +12,7 @@ use Rattle.feed.specs.Engine.{mostOffset}
 use Rattle.feed.proofs.Looping.{rows-most, answers-refused}
 use Rattle.list_flow.specs.Flow.{frontierOf, offsetOf, badFlow, flowLayout, feedRules}
 use Rattle.list_flow.proofs.Passing.{feed-passes}
+use Rattle.list_flow.proofs.Records.{good-flow}
 use Rattle.list_flow.proofs.Ending.{fits, finishes}
 use Rattle.list_feed.specs.Plain.{plain}
 use Rattle.list_feed.proofs.Plain.{plain-cheap}
@@ -62,8 +63,8 @@ returns c =
     answers-refused (plain (a .list .now)) flowLayout (a .flow .now) (a .piece .now) (a .pairs .now) (feedRules (a .list .now) (a .flow .now) (a .start) (a .piece .now)) _
     (λ z. c .before .if1 .taken (e ∙ z)) (rw e at (c .refused .ensures))
 
-load-requires : tie.Need-load-requires
-load-requires c κs = search needs
+from-bytes-requires : tie.Need-from-bytes-requires
+from-bytes-requires c κs = omega (arith, good-flow (entry (c .before .before) .args .flow .now) (passes (c .before) .0) .0)
 
 feed-bytes-requires : tie.Need-feed-bytes-requires
 feed-bytes-requires c κs = let p = passes (c .before .before .before) in omega (arith, p .1, p .2)
@@ -89,7 +90,7 @@ returns-2 c =
     let p = passes (passed ran) in
     finishes (a .flow .now) (a .piece .now) (p .0) (ran .feed-bytes .result) (plain (a .list .now)) (a .pairs .now)
     (feedRules (a .list .now) (a .flow .now) (a .start) (a .piece .now)) _ _ _ (verdict-0 (passed ran))
-    (rw (ran .before .before .load .ensures, p .1) at (ran .feed-bytes .ensures)) (end .finish .ensures)
+    (rw (ran .before .before .from-bytes .ensures, p .1) at (ran .feed-bytes .ensures)) (end .finish .ensures)
 
 pub feed-spec : {M : Type 1} → statement M
 feed-spec =
@@ -99,7 +100,7 @@ feed-spec =
     refused-requires
     same-length
     returns
-    load-requires
+    from-bytes-requires
     feed-bytes-requires
     finish-requires
     same-length-2

@@ -13,8 +13,9 @@ use Rattle.list.specs.Automaton.{accepted}
 use Rattle.feed.specs.inner.Going.{Going}
 use Rattle.feed.proofs.Going.{start, finish, length-kept}
 use Rattle.feed.proofs.Looping.{words-fit, rows-most, refused-free}
-use Rattle.list_flow.specs.inner.Told.{TellsAll}
-use Rattle.list_flow.proofs.Accepting.{all-quiet, told-as, goes-on, stops}
+use Rattle.feed.specs.inner.Told.{TellsAll}
+use Rattle.feed.proofs.Fitting.{told-as, goes-on, stops}
+use Rattle.list_flow.proofs.Accepting.{all-quiet}
 use Rattle.list_flow.proofs.Ending.{leaves}
 use Rattle.list_feed.specs.Plain.{plain}
 use Rattle.list_feed.proofs.Plain.{plain-cheap}

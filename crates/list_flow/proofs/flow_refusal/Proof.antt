@@ -1,29 +1,11 @@
--- `flow_refusal` tests the rules in their order, so each return is the table's verdict. Assumes nothing.
+-- `flow_refusal` tests rule 4 and then the piece, so each return is the table's verdict. Assumes nothing.
 use borrow.Author.Needs.{needs}
-use mathlib.Core.Path.{_≡_, sym, ap, _∙_}
-use mathlib.Core.Bool.{false, _||_, not}
-use Prim.Native.Nat.{_+_, _≤_}
+use mathlib.Core.Path.{sym, _∙_}
 use native.Mathlib.Omega.{arith}
-use lib.ListN.{length}
-use borrow.Author.Tests.{eq-eqb, ne-eqb, lt-ltb, le-ltb}
-use Rattle.rules.proofs.Rules.{skip, stop, last}
-use Rattle.feed.specs.Engine.{mostOffset}
-use Rattle.list_flow.specs.Flow.{offsetOf, badFlow, otherStart}
+use Rattle.rules.proofs.Rules.{skip, stop}
 use Rattle.list_flow.proofs.Records.{offset-lt}
 use Rattle.list_flow.proofs.flow_refusal.Statement.{statement}
 use Rattle.list_flow.proofs.flow_refusal.Tie as tie
-
--- rules 4 and 5 do not apply where the code has passed them
-good : (c : tie.Else1) → (badFlow (c .before .before .before .before .args .flow .now) || not (c .before .before .before .before .args .known)) ≡ false
-good c = rw (← c .before .bad-flow .ensures) (c .if1 .left)
-
-at-offset : (c : tie.Else2) → otherStart (c .before .before .before .before .before .before .args .flow .now) (c .before .before .before .before .before .before .args .start) ≡ false
-at-offset c = ap not (eq-eqb _ _ (c .if2 .left ∙ c .before .offset-of .ensures))
-
--- the offset is at most the largest
-most : (c : tie.Else2) → offsetOf (c .before .before .before .before .before .before .args .flow .now) ≤ mostOffset
-most c =
-    offset-lt (c .before .before .before .before .before .before .args .flow .now) (λ i. c .before .before .before .before .before .shared-slice-known .given i .fits)
 
 bad-flow-requires : tie.Need-bad-flow-requires
 bad-flow-requires c κs = search needs
@@ -34,24 +16,14 @@ returns c = sym (stop 4 _ (rw (← c .before .bad-flow .ensures) (c .if1 .taken)
 offset-of-requires : tie.Need-offset-of-requires
 offset-of-requires c κs = search needs
 
+-- the offset is at most the largest
+piece-refusal-requires : tie.Need-piece-refusal-requires
+piece-refusal-requires c κs =
+    let known = c .before .before .before .before in
+    omega (arith, c .offset-of .ensures, offset-lt (known .before .args .flow .now) (λ i. known .shared-slice-known .given i .fits))
+
 returns-2 : tie.Need-returns-2
-returns-2 c = sym (skip 4 _ (good (c .before .before)) ∙ stop 5 _ (ap not (ne-eqb _ _ (λ e. c .if2 .taken (e ∙ sym (c .before .offset-of .ensures))))))
-
-sub-if3 : tie.Need-sub-if3
-sub-if3 c = omega (arith, most c)
-
-returns-3 : tie.Need-returns-3
-returns-3 c =
-    let a = c .before .before .before .before .before .before .before .args in
-    sym (skip 4 _ (good (c .before .before .before)) ∙ skip 5 _ (at-offset (c .before)) ∙ stop 6 _ (lt-ltb mostOffset (offsetOf (a .flow .now) + length (a .piece .now)) (omega (arith, c .before .before .offset-of .ensures))))
-
-returns-4 : tie.Need-returns-4
-returns-4 c =
-    let a = c .before .before .before .before .before .before .before .args in
-    sym (
-    skip 4 _ (good (c .before .before .before))
-    ∙ skip 5 _ (at-offset (c .before))
-    ∙ last 6 (le-ltb mostOffset (offsetOf (a .flow .now) + length (a .piece .now)) (omega (arith, c .before .before .offset-of .ensures, most (c .before)))))
+returns-2 c = rw (c .before .offset-of .ensures) at (c .piece-refusal .ensures) ∙ sym (skip 4 _ (rw (← c .before .before .before .bad-flow .ensures) (c .before .before .if1 .left)))
 
 pub flow-refusal-spec : {M : Type 1} → statement M
-flow-refusal-spec = tie.close (tie.spec bad-flow-requires returns offset-of-requires returns-2 sub-if3 returns-3 returns-4)
+flow-refusal-spec = tie.close (tie.spec bad-flow-requires returns offset-of-requires piece-refusal-requires returns-2)

@@ -2,8 +2,8 @@
 use mathlib.Core.Path.{refl, ap, _≡_, _∙_}
 use lib.ListN.{length-append, length}
 use native.Mathlib.Numerals.{add-one}
-use Rattle.sets.specs.Set.{placed}
-use Rattle.sets.proofs.Placing.{placed-none}
+use Rattle.numbers.specs.Number.{placed}
+use Rattle.numbers.proofs.Placing.{placed-none}
 use Rattle.rules.specs.Scan.{stack}
 use Rattle.list.specs.List.{records}
 use Rattle.list_fold.specs.Fold.{chiefOf}

@@ -1,6 +1,6 @@
 -- `add_record` writes what a record gives, or nothing. Assumes nothing.
 use mathlib.Core.Path.{refl, sym, _∙_}
-use Rattle.sets.proofs.Placing.{placed-none}
+use Rattle.numbers.proofs.Placing.{placed-none}
 use Rattle.list_fold.specs.Fold.{chiefOf}
 use Rattle.list_fold.proofs.Folding.{record-long}
 use Rattle.list_fold.proofs.Coding.{gives-in, gives-out}

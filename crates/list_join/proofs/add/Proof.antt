@@ -1,10 +1,10 @@
 -- `add` goes through the records; the invariant is what they add so far. Assumes nothing.
 use lib.ListN.{length-append, length}
 use Rattle.rules.specs.Scan.{stack}
-use Rattle.sets.specs.Set.{placed}
+use Rattle.numbers.specs.Number.{placed}
 use native.Mathlib.Numerals.{add-one}
 use mathlib.Core.Path.{refl, _≡_, _∙_}
-use Rattle.sets.proofs.Placing.{placed-none}
+use Rattle.numbers.proofs.Placing.{placed-none}
 use Rattle.list.proofs.Steps.{good-at}
 use Rattle.list_join.proofs.Deciding.{added-more, added-room, add-more}
 use Rattle.list.specs.List.{records}
@@ -43,7 +43,7 @@ add-record-requires c κs =
     let s = c .before .before .before .before .before .before .before .before in
     let a = s .args in
     let h : l .i < records (a .b .now) = omega (arith, c .before .before .before .before .before .records .ensures) in
-    (rw (← s .pre .1) (c .before .before .before .before .new-numbers .ensures), h, good-at (a .b .now) (s .pre .0) (l .i) h, omega (arith, l .inv .1, l .inv .3, s .pre .3, added-room (a .n) (a .b .now) (l .i) (records (a .b .now)) h))
+    (rw (← s .pre .1) (c .before .before .before .before .new-numbers .ensures), h, good-at (a .b .now) (s .pre .0) (l .i) h, omega (arith, l .inv .1, l .inv .3, s .pre .3, added-room (a .n) (a .b .now) (l .i) (records (a .b .now)) h), omega (arith, s .pre .2 .own, s .pre .2 .below))
 
 add-i : tie.Need-add-i Inv-loop μ-loop
 add-i c = search needs

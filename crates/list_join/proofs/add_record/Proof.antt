@@ -3,7 +3,7 @@ use Prim.Native.Nat.{_<_}
 use mathlib.Core.Path.{_≡_, refl, sym, _∙_}
 use lib.ListN.{length}
 use borrow.Author.Tests.{not-true, not-false}
-use Rattle.sets.proofs.Placing.{placed-none}
+use Rattle.numbers.proofs.Placing.{placed-none}
 use Rattle.rules.proofs.Scanning.{choose}
 use Rattle.list.specs.List.{from, target}
 use Rattle.list.proofs.Highest.{word-lt}

@@ -1,9 +1,7 @@
 -- `all_fit` asks whether the highest state that is not shared gets the number of a state. Assumes nothing.
-use mathlib.Core.Path.{_≡_}
 use borrow.Author.Tests.{not-true, not-false}
 use Rattle.list_join.proofs.Numbering.{fitted-alone, fitted-above, fitted-last}
 use native.Mathlib.Omega.{arith}
-use borrow.Author.Needs.{needs}
 use Rattle.list_join.proofs.all_fit.Statement.{statement}
 use Rattle.list_join.proofs.all_fit.Tie as tie
 
@@ -22,10 +20,10 @@ returns-2 c =
     fitted-above (s .args .n) (s .args .top) (s .pre .0) (s .args .named .now) (s .pre .2) (not-false _ (c .before .before .before .if1 .left)) (c .before .if2 .taken)
 
 end-below-requires : tie.Need-end-below-requires
-end-below-requires c κs = let s = c .before .before .before .before .before in let v = s .pre .0 in omega (arith, v .own (not-false _ (c .before .before .if1 .left)), v .below, s .pre .1)
+end-below-requires c κs = let s = c .before .before .before .before .before in let v = s .pre .0 in omega (arith, v .own, v .below, s .pre .1)
 
 add-result-3 : tie.Need-add-result-3
-add-result-3 c = let v = c .before .before .before .before .before .before .before .pre .0 in omega (arith, v .next, v .below, v .own (not-false _ (c .before .before .before .before .if1 .left)), c .before .end-below .ensures .most)
+add-result-3 c = let v = c .before .before .before .before .before .before .before .pre .0 in omega (arith, v .next, v .below, v .own, c .before .end-below .ensures .most)
 
 returns-3 : tie.Need-returns-3
 returns-3 c =

@@ -60,47 +60,53 @@ name-states-requires c κs =
     omega (arith, c .before .before .before .before .find-outline .ensures .top g, highest-state (a .a .now) g)
 
 too-long-requires : tie.Need-too-long-requires
-too-long-requires c κs = (front (c .before .before .before), other (c .before))
+too-long-requires c κs =
+    let a = c .before .before .before .before .before .before .before .before .before .before .before .args in
+    let f = front (c .before .before .before .before .before .before) in
+    let g = other (c .before .before .before .before) in
+    let v = narrow (a .a .now) (a .b .now) f g in
+    let k = c .before .before .before .before .before .find-outline2 .ensures .seen g in
+    (f, g, λ _. rw (named (c .before .before .before)) (omega (arith, v .own, v .below)), k .long, k .counts)
 
 all-fit-requires : tie.Need-all-fit-requires
 all-fit-requires c κs =
-    let a = c .before .before .before .before .before .before .before .before .before .before .before .before .args in
-    let g = other (c .before .before .before .before .before) in
-    let t = c .before .before .before .before .before .before .find-outline2 .ensures .top g in
-    let k = c .before .before .before .before .before .before .find-outline2 .ensures .marked g in
-    (rw (named (c .before .before .before .before), t) (narrow (a .a .now) (a .b .now) (front (c .before .before .before .before .before .before .before)) g), k .0, rw t (top-marked (a .b .now) g (c .before .before .before .before .before .before .find-outline2 .result .named) k))
+    let a = c .before .before .before .before .before .before .before .before .before .before .before .before .before .before .before .args in
+    let g = other (c .before .before .before .before .before .before .before .before) in
+    let o = c .before .before .before .before .before .before .before .before .before .find-outline2 .ensures in
+    let k = o .seen g .marked in
+    (rw (named (c .before .before .before .before .before .before .before), o .top g) (narrow (a .a .now) (a .b .now) (front (c .before .before .before .before .before .before .before .before .before .before)) g), k .0, rw (o .top g) (top-marked (a .b .now) g (c .before .before .before .before .before .before .before .before .before .find-outline2 .result .marks) k))
 
 -- the highest state decides whether each record fits
-fit : (c : tie.After-all-fit) → let B = c .before .before .before .before .before .before .before .before .before .before .before .before .before .args .b .now in c .all-fit .result ≡ every (records B) (fits (c .before .before .before .before .before .name-states .result) B)
+fit : (c : tie.After-all-fit) → let B = c .before .before .before .before .before .before .before .before .before .before .before .before .before .before .before .before .args .b .now in c .all-fit .result ≡ every (records B) (fits (c .before .before .before .before .before .before .before .before .name-states .result) B)
 fit c =
-    let g = other (c .before .before .before .before .before .before) in
-    let o = c .before .before .before .before .before .before .before .find-outline2 .ensures in
-    fitted-as (c .before .before .before .before .before .name-states .result) (c .before .before .before .before .before .before .before .before .before .before .before .before .before .args .b .now) g (c .before .before .before .before .before .before .before .find-outline2 .result .named) (o .marked g) (c .all-fit .result) (rw (o .top g) at (c .all-fit .ensures))
+    let g = other (c .before .before .before .before .before .before .before .before .before) in
+    let o = c .before .before .before .before .before .before .before .before .before .before .find-outline2 .ensures in
+    fitted-as (c .before .before .before .before .before .before .before .before .name-states .result) (c .before .before .before .before .before .before .before .before .before .before .before .before .before .before .before .before .args .b .now) g (c .before .before .before .before .before .before .before .before .before .before .find-outline2 .result .marks) (o .seen g .marked) (c .all-fit .result) (rw (o .top g) at (c .all-fit .ensures))
 
 -- the code's test is rule 28
-big : (c : tie.After-all-fit) → let a = c .before .before .before .before .before .before .before .before .before .before .before .before .before .args in tooBig (a .a .now) (a .used) (a .lent) (a .b .now) ≡ (ltb (a .lent) (a .used) || c .before .before .before .before .too-long .result || not (c .all-fit .result))
+big : (c : tie.After-all-fit) → let a = c .before .before .before .before .before .before .before .before .before .before .before .before .before .before .before .before .args in tooBig (a .a .now) (a .used) (a .lent) (a .b .now) ≡ (ltb (a .lent) (a .used) || c .before .before .before .before .too-long .result || not (c .all-fit .result))
 big c =
-    let a = c .before .before .before .before .before .before .before .before .before .before .before .before .before .args in
-    big-as (a .a .now) (a .used) (a .lent) (a .b .now) (front (c .before .before .before .before .before .before .before .before)) (other (c .before .before .before .before .before .before)) (c .before .before .before .before .before .name-states .result) (named (c .before .before .before .before .before)) (c .before .before .before .before .too-long .result) (c .all-fit .result) (c .before .before .before .before .too-long .ensures) (fit c)
+    let a = c .before .before .before .before .before .before .before .before .before .before .before .before .before .before .before .before .args in
+    big-as (a .a .now) (a .used) (a .lent) (a .b .now) (front (c .before .before .before .before .before .before .before .before .before .before .before)) (other (c .before .before .before .before .before .before .before .before .before)) (c .before .before .before .before .before .before .before .before .name-states .result) (named (c .before .before .before .before .before .before .before .before)) (c .before .before .before .before .too-long .result) (c .all-fit .result) (c .before .before .before .before .too-long .ensures) (fit c)
 
 stopped-requires-3 : tie.Need-stopped-requires-3
 stopped-requires-3 c κs = search needs
 
 returns-3 : tie.Need-returns-3
 returns-3 c =
-    let a = c .before .before .before .before .before .before .before .before .before .before .before .before .before .before .before .args in
+    let a = c .before .before .before .before .before .before .before .before .before .before .before .before .before .before .before .before .before .before .args in
     let t = big (c .before .before) ∙ c .before .if3 .taken in
-    stops (a .a .now) (a .used) (a .lent) (a .b .now) _ 28 (refuses-big (a .a .now) (a .used) (a .lent) (a .b .now) (front (c .before .before .before .before .before .before .before .before .before .before)) (other (c .before .before .before .before .before .before .before .before)) t) (c .stopped3 .ensures) (λ e. absurd (omega (arith, e)))
+    stops (a .a .now) (a .used) (a .lent) (a .b .now) _ 28 (refuses-big (a .a .now) (a .used) (a .lent) (a .b .now) (front (c .before .before .before .before .before .before .before .before .before .before .before .before .before)) (other (c .before .before .before .before .before .before .before .before .before .before .before)) t) (c .stopped3 .ensures) (λ e. absurd (omega (arith, e)))
 
 returns-4 : tie.Need-returns-4
 returns-4 c =
-    let a = c .before .before .before .before .before .before .before .before .before .before .before .before .before .before .args in
+    let a = c .before .before .before .before .before .before .before .before .before .before .before .before .before .before .before .before .before .args in
     let t = big (c .before) ∙ c .if3 .left in
-    let g = other (c .before .before .before .before .before .before .before) in
+    let g = other (c .before .before .before .before .before .before .before .before .before .before) in
     record {
-      refusal = sym (refuses-none (a .a .now) (a .used) (a .lent) (a .b .now) (front (c .before .before .before .before .before .before .before .before .before)) g t);
-      named = λ _. named (c .before .before .before .before .before .before);
-      top = λ _. c .before .before .before .before .before .before .before .before .find-outline2 .ensures .top g;
+      refusal = sym (refuses-none (a .a .now) (a .used) (a .lent) (a .b .now) (front (c .before .before .before .before .before .before .before .before .before .before .before .before)) g t);
+      named = λ _. named (c .before .before .before .before .before .before .before .before .before);
+      top = λ _. c .before .before .before .before .before .before .before .before .before .before .before .find-outline2 .ensures .top g;
     }
 
 pub decide-spec : {M : Type 1} → statement M

@@ -1,11 +1,10 @@
--- `end_below` goes down from m. The loop's invariant: all marks from s on are 0. Assumes nothing.
-use borrow.Author.Needs.{needs}
-use native.Mathlib.Omega.{arith}
-use Prim.Native.Nat.{ℕ, suc, _≤_, _<_, _-_}
+-- `end_below` goes down from m, eight marks at a time. The loop's invariant: all marks from s on are 0. Assumes nothing.
+use Prim.Native.Nat.{ℕ, _≤_, _<_}
+use mathlib.Core.Path.{_≡_, sym, _∙_}
 use lib.ListN.{getD}
-use mathlib.Core.Path.{_≡_, sym, ap, _∙_}
-use Rattle.rules.proofs.Scanning.{choose, below-suc}
-use Rattle.list_join.proofs.Marking.{ends-at, ends-none, zero-more}
+use Rattle.list_join.proofs.Marking.{eight-more, ends-more}
+use native.Mathlib.Omega.{arith}
+use borrow.Author.Needs.{needs}
 use Rattle.list_join.proofs.end_below.Statement.{statement}
 use Rattle.list_join.proofs.end_below.Tie as tie
 
@@ -18,35 +17,35 @@ abbrev μ-loop : tie.MeasureT-loop
 loop-holds : tie.Need-loop-holds Inv-loop μ-loop
 loop-holds c = (omega arith, λ q a b. absurd (omega arith))
 
-sub-if1 : tie.Need-sub-if1 Inv-loop μ-loop
-sub-if1 c = search needs
+whole-number-requires : tie.Need-whole-number-requires Inv-loop μ-loop
+whole-number-requires c κs = search needs
 
-shared-slice-read-if1 : tie.Need-shared-slice-read-if1 Inv-loop μ-loop
-shared-slice-read-if1 c = search needs
+end-near-requires : tie.Need-end-near-requires Inv-loop μ-loop
+end-near-requires c κs = search needs
 
 returns : tie.Need-returns Inv-loop μ-loop
 returns c =
-    let a = c .before .before .before .before .args in
-    let l = c .before .before .before .loop in
-    ends-at (a .marks .now) (a .m) (l .s) (l .inv .0) (l .inv .1) (c .if1 .taken)
-
-sub-s : tie.Need-sub-s Inv-loop μ-loop
-sub-s c = search needs
+    let a = c .before .before .before .before .before .before .args in
+    let l = c .before .before .before .before .loop in
+    ends-more (a .marks .now) (a .m) (l .s) (l .inv .1) (l .inv .0) (c .end-near .result) (c .end-near .ensures)
 
 loop-less : tie.Need-loop-less Inv-loop μ-loop
 loop-less c = search needs
 
 loop-again : tie.Need-loop-again Inv-loop μ-loop
 loop-again c =
-    let a = c .before .before .before .before .args in
+    let a = c .before .before .before .before .before .args in
     let l = c .before .before .before .loop in
-    (omega (arith, l .inv .0), zero-more (a .marks .now) (a .m) (l .s) (c .before .before .loop-test .taken) (l .inv .1) (c .if1 .left))
+    (omega (arith, l .inv .0), eight-more (a .marks .now) (a .m) (l .s) (l .inv .1) (c .before .before .loop-test .taken) (sym (c .before .whole-number .ensures) ∙ c .if1 .left))
+
+end-near-requires-2 : tie.Need-end-near-requires-2 Inv-loop μ-loop
+end-near-requires-2 c κs = search needs
 
 returns-2 : tie.Need-returns-2 Inv-loop μ-loop
 returns-2 c =
-    let a = c .before .before .args in
-    let l = c .before .loop in
-    ends-none (a .marks .now) (a .m) (l .s) (omega (arith, c .loop-test .left)) (l .inv .1)
+    let a = c .before .before .before .before .args in
+    let l = c .before .before .loop in
+    ends-more (a .marks .now) (a .m) (l .s) (l .inv .1) (l .inv .0) (c .end-near2 .result) (c .end-near2 .ensures)
 
 pub end-below-spec : {M : Type 1} → statement M
 end-below-spec =
@@ -55,10 +54,10 @@ end-below-spec =
     Inv-loop
     μ-loop
     loop-holds
-    sub-if1
-    shared-slice-read-if1
+    whole-number-requires
+    end-near-requires
     returns
-    sub-s
     loop-less
     loop-again
+    end-near-requires-2
     returns-2)

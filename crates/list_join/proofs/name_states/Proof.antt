@@ -1,22 +1,15 @@
 -- `name_states` asks for the lowest states of each kind in both lists. Assumes nothing.
 use native.Mathlib.Numerals.{add-one}
 use mathlib.Core.Path.{_∙_}
-use native.Mathlib.Omega.{arith}
 use borrow.Author.Needs.{needs}
 use Rattle.list_join.proofs.name_states.Statement.{statement}
 use Rattle.list_join.proofs.name_states.Tie as tie
 
-lowest-requires : tie.Need-lowest-requires
-lowest-requires c κs = search needs
+ever-at-requires : tie.Need-ever-at-requires
+ever-at-requires c κs = search needs
 
-lowest-requires-2 : tie.Need-lowest-requires-2
-lowest-requires-2 c κs = search needs
-
-lowest-requires-3 : tie.Need-lowest-requires-3
-lowest-requires-3 c κs = search needs
-
-lowest-requires-4 : tie.Need-lowest-requires-4
-lowest-requires-4 c κs = search needs
+ever-at-requires-2 : tie.Need-ever-at-requires-2
+ever-at-requires-2 c κs = search needs
 
 add-name-by : tie.Need-add-name-by
 add-name-by c = search needs
@@ -26,18 +19,37 @@ name-by-requires c κs = search needs
 
 returns : tie.Need-returns
 returns c =
-    let a = c .before .before .before .before .before .before .before .before .args in
     c .name-by .ensures
-    ∙ rw (add-one (a .a .top), c .before .before .before .before .before .lowest .ensures, c .before .before .before .before .lowest2 .ensures, c .before .before .before .lowest3 .ensures, c .before .before .lowest4 .ensures)
+    ∙ rw (add-one (c .before .before .before .before .before .before .before .before .before .before .before .before .before .before .args .t1 .top), ← c .before .before .before .before .before .before .before .before .ever-at .ensures, ← c .before .before .ever-at2 .ensures, c .before .if1 .taken)
+
+once-at-requires : tie.Need-once-at-requires
+once-at-requires c κs = search needs
+
+once-at-requires-2 : tie.Need-once-at-requires-2
+once-at-requires-2 c κs = search needs
+
+add-name-by-2 : tie.Need-add-name-by-2
+add-name-by-2 c = search needs
+
+name-by-requires-2 : tie.Need-name-by-requires-2
+name-by-requires-2 c κs = search needs
+
+returns-2 : tie.Need-returns-2
+returns-2 c =
+    c .name-by2 .ensures
+    ∙ rw (add-one (c .before .before .before .before .before .before .before .before .before .before .before .before .before .before .before .before .before .before .before .before .before .before .args .t1 .top), c .before .before .before .before .before .before .before .before .before .before .before .before .before .before .before .before .ever-at .ensures, c .before .before .before .before .before .before .before .before .before .before .ever-at2 .ensures, c .before .before .before .before .before .once-at .ensures, c .before .once-at2 .ensures)
 
 pub name-states-spec : {M : Type 1} → statement M
 name-states-spec =
     tie.close
     (tie.spec
-    lowest-requires
-    lowest-requires-2
-    lowest-requires-3
-    lowest-requires-4
+    ever-at-requires
+    ever-at-requires-2
     add-name-by
     name-by-requires
-    returns)
+    returns
+    once-at-requires
+    once-at-requires-2
+    add-name-by-2
+    name-by-requires-2
+    returns-2)

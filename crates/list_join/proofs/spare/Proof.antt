@@ -1,33 +1,44 @@
--- `spare` is its definition, the test that fails most often first. Assumes nothing.
-use mathlib.Core.Bool.{and-true, and-false}
-use borrow.Author.Tests.{eq-eqb, ne-eqb}
-use Rattle.list_join.specs.Join.{spare}
-use native.Mathlib.Omega.{arith}
+-- `spare` is its definition, by the record's kind. Assumes nothing.
+use mathlib.Core.Path.{sym, _∙_}
+use Rattle.list_join.proofs.Places.{spare-edge, spare-other}
 use borrow.Author.Needs.{needs}
 use Rattle.list_join.proofs.spare.Statement.{statement}
 use Rattle.list_join.proofs.spare.Tie as tie
 
-target-requires : tie.Need-target-requires
-target-requires c κs = search needs
+is-edge-requires : tie.Need-is-edge-requires
+is-edge-requires c κs = search needs
+
+tail-requires : tie.Need-tail-requires
+tail-requires c κs = search needs
+
+mul-result : tie.Need-mul-result
+mul-result c = search needs
+
+returns : tie.Need-returns
+returns c =
+    let s = c .before .before .before .before .before in
+    let a = s .args in
+    rw (c .before .tail .ensures) (sym (spare-edge (a .n) (a .b .now) (λ j. c .before .before .before .before .shared-slice-known .given j .fits) (a .i) (s .pre .0) (sym (c .before .before .before .is-edge .ensures) ∙ c .before .before .if1 .taken) (s .pre .1)))
 
 is-start-requires : tie.Need-is-start-requires
 is-start-requires c κs = search needs
 
-is-edge-requires : tie.Need-is-edge-requires
-is-edge-requires c κs = search needs
-
-from-requires : tie.Need-from-requires
-from-requires c κs = search needs
-
-returns : tie.Need-returns
-unfolding spare
-returns c = rw (← c .before .before .before .before .before .before .before .target .ensures, eq-eqb _ _ (c .before .before .before .before .before .if1 .taken), and-true (c .before .before .before .before .before .before .before .before .before .args .n .shared)) (cc)
+target-requires : tie.Need-target-requires
+target-requires c κs = search needs
 
 returns-2 : tie.Need-returns-2
-unfolding spare
-returns-2 c = rw (← c .before .before .target .ensures, ne-eqb _ _ (c .if1 .left), and-false (c .before .before .before .before .args .n .shared))
+returns-2 c =
+    let a = c .before .before .before .before .before .before .before .args in
+    rw (c .before .before .before .is-start .ensures, c .before .target .ensures) (sym (spare-other (a .n) (a .b .now) (a .i) (sym (c .before .before .before .before .before .is-edge .ensures) ∙ c .before .before .before .before .if1 .left)))
 
 pub spare-spec : {M : Type 1} → statement M
 spare-spec =
     tie.close
-    (tie.spec target-requires is-start-requires is-edge-requires from-requires returns returns-2)
+    (tie.spec
+    is-edge-requires
+    tail-requires
+    mul-result
+    returns
+    is-start-requires
+    target-requires
+    returns-2)

@@ -11,15 +11,15 @@ offset-of-requires c κs = search needs
 returns : tie.Need-returns
 returns c = c .offset-of .ensures ∙ sym (offset-list (c .before .before .before .args .flow .now) (c .before .if1 .taken))
 
-number-at-requires : tie.Need-number-at-requires
-number-at-requires c κs = search needs
+offset-of-requires-2 : tie.Need-offset-of-requires-2
+offset-of-requires-2 c κs = search needs
 
 returns-2 : tie.Need-returns-2
-returns-2 c = c .number-at .ensures ∙ sym (offset-extended (c .before .before .before .before .args .flow .now) (c .before .before .if1 .left) (c .before .if2 .taken))
+returns-2 c = c .offset-of2 .ensures ∙ sym (offset-extended (c .before .before .before .before .args .flow .now) (c .before .before .if1 .left) (c .before .if2 .taken))
 
 returns-3 : tie.Need-returns-3
 returns-3 c = sym (offset-none (c .before .before .before .args .flow .now) (c .before .if1 .left) (c .if2 .left))
 
 pub offset-spec : {M : Type 1} → statement M
 offset-spec =
-    tie.close (tie.spec offset-of-requires returns number-at-requires returns-2 returns-3)
+    tie.close (tie.spec offset-of-requires returns offset-of-requires-2 returns-2 returns-3)

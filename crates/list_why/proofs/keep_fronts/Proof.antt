@@ -6,8 +6,9 @@ use native.Mathlib.Nat.{mul-suc, mul-le-mul-left}
 use native.Mathlib.Numerals.{add-one}
 use native.Mathlib.Omega.{arith}
 use lib.ListN.{length}
-use Rattle.sets.specs.Set.{setSize, setOf, setBytes, placed}
-use Rattle.sets.proofs.Placing.{length-placed}
+use Rattle.numbers.specs.Number.{placed}
+use Rattle.sets.specs.Set.{setSize, setOf, setBytes}
+use Rattle.numbers.proofs.Placing.{length-placed}
 use Rattle.rules.specs.Scan.{stack}
 use Rattle.list_why.specs.Reason.{front}
 use Rattle.list_why.proofs.Keeping.{kept-on, kept-none}

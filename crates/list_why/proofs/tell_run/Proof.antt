@@ -5,7 +5,7 @@ use mathlib.Core.Path.{_≡_, ap, _∙_}
 use lib.ListN.{length}
 use borrow.Author.Tests.{eq-eqb, ne-eqb}
 use Rattle.sets.specs.Set.{states, setSize, setWords, setOf, setAt}
-use Rattle.sets.proofs.Placing.{length-placed}
+use Rattle.numbers.proofs.Placing.{length-placed}
 use Rattle.sets.proofs.Whole.{valid-of}
 use Rattle.sets.proofs.Sets.{words-lt}
 use Rattle.list_why.specs.Reason.{front}

@@ -31,11 +31,11 @@ slice-write-run c = search needs
 sub-i : tie.Need-sub-i Inv-loop μ-loop
 sub-i c = search needs
 
-mul-whole : tie.Need-mul-whole Inv-loop μ-loop
-mul-whole c = search needs
+mul-from-bytes : tie.Need-mul-from-bytes Inv-loop μ-loop
+mul-from-bytes c = search needs
 
-whole-requires : tie.Need-whole-requires Inv-loop μ-loop
-whole-requires c κs = search needs
+from-bytes-requires : tie.Need-from-bytes-requires Inv-loop μ-loop
+from-bytes-requires c κs = search needs
 
 shared-slice-read-source : tie.Need-shared-slice-read-source Inv-loop μ-loop
 shared-slice-read-source c = search needs
@@ -53,7 +53,7 @@ loop-again c =
     let a = b .args in
     let m = p .i - 1 in
     back-more (p .inv) (b .pre .1) m (omega arith) (c .source .result)
-    (c .source .ensures .0 ∙ ap (λ (G : ℕ). sourceOf (a .list .now) G (getD (a .piece .now) m 0) (p .t)) (c .before .before .whole .ensures ∙ b .pre .4 m (omega (arith, p .inv .within))))
+    (c .source .ensures .0 ∙ ap (λ (G : ℕ). sourceOf (a .list .now) G (getD (a .piece .now) m 0) (p .t)) (c .before .before .from-bytes .ensures ∙ b .pre .4 m (omega (arith, p .inv .within))))
     (c .source .ensures .1)
 
 cast-run-2 : tie.Need-cast-run-2 Inv-loop μ-loop
@@ -81,8 +81,8 @@ trace-back-spec =
     mul-run
     slice-write-run
     sub-i
-    mul-whole
-    whole-requires
+    mul-from-bytes
+    from-bytes-requires
     shared-slice-read-source
     source-requires
     loop-less

@@ -34,14 +34,14 @@ known c =
     knows (a .list .now) (a .flow .now) (a .start) (a .piece .now) (a .offset) (a .run .now) (a .work .now) (sym (c .before .place-refusal .ensures) ∙ c .if1 .left)
 
 -- the frontier is a set of states
-small : (c : tie.After-load) → setOf (c .load .result) < 2 ^ states
-small c = words-lt setWords (c .load .result .words) (valid-of (c .load .result) _ (c .load .ok))
+small : (c : tie.After-from-bytes) → setOf (c .from-bytes .result) < 2 ^ states
+small c = words-lt setWords (c .from-bytes .result .words) (valid-of (c .from-bytes .result) _ (c .from-bytes .ok))
 
 -- the state, found
 found : (c : tie.After-holding)
     → let l = c .before .before in
     let a = entry (l .before .before) .args in
-    c .holding .result ≡ endOf (a .list .now) (front (a .list .now) (setOf (l .load .result)) (a .piece .now) (a .offset - a .start)) (ofState (a .state))
+    c .holding .result ≡ endOf (a .list .now) (front (a .list .now) (setOf (l .from-bytes .result)) (a .piece .now) (a .offset - a .start)) (ofState (a .state))
 found c =
     let a = entry (c .before .before .before .before) .args in
     c .holding .ensures .0 ∙ ap (λ (G : ℕ). endOf (a .list .now) G (ofState (a .state))) (c .before .front .ensures)
@@ -58,8 +58,8 @@ returns c =
 sub-n : tie.Need-sub-n
 sub-n c = known c .behind
 
-load-requires : tie.Need-load-requires
-load-requires c κs = search needs
+from-bytes-requires : tie.Need-from-bytes-requires
+from-bytes-requires c κs = omega (arith, known c .flow-long)
 
 front-requires : tie.Need-front-requires
 front-requires c κs = inside (c .before)
@@ -87,7 +87,7 @@ returns-2 c =
     let e = l .before in
     let a = entry (e .before) .args in
     run-explains (a .list .now) (a .flow .now) (a .start) (a .piece .now) (ofState (a .state)) (a .offset) (a .run .now) (a .work .now) (known e)
-    (setOf (l .load .result)) (l .load .ensures) (small l) (g .holding .result) (found g) _ _ _ (t .tell-run .ensures .0) (t .tell-run .ensures .1) (t .tell-run .ensures .2)
+    (setOf (l .from-bytes .result)) (l .from-bytes .ensures) (small l) (g .holding .result) (found g) _ _ _ (t .tell-run .ensures .0) (t .tell-run .ensures .1) (t .tell-run .ensures .2)
 
 pub why-state-spec : {M : Type 1} → statement M
 why-state-spec =
@@ -98,7 +98,7 @@ why-state-spec =
     same-length-2
     returns
     sub-n
-    load-requires
+    from-bytes-requires
     front-requires
     holding-requires
     tell-run-requires

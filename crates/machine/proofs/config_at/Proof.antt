@@ -6,7 +6,7 @@ use Prim.Native.Nat.{ℕ, _+_}
 use native.Mathlib.Omega.{arith}
 use lib.ListN.{take, drop}
 use lib.Seq.{drop-drop}
-use Rattle.sets.specs.Set.{num}
+use Rattle.numbers.specs.Number.{num}
 use Rattle.machine.specs.Program.{counterCount}
 use Rattle.machine.specs.Record.{fours, configAt}
 use Rattle.machine.proofs.Programs.{config-one}

@@ -4,8 +4,8 @@ use Prim.Native.Nat.{ℕ, _≤_, _<_, _-_, _+_, _*_}
 use mathlib.Core.Path.{_≡_, refl}
 use native.Mathlib.Omega.{arith}
 use lib.ListN.{length, getD, take, drop}
-use Rattle.sets.specs.Set.{num}
-use Rattle.sets.proofs.Laws.{fill-more, num-take-lt}
+use Rattle.numbers.specs.Number.{num}
+use Rattle.numbers.proofs.Laws.{fill-more, num-take-lt}
 use Rattle.feed.proofs.Runs.{bytes-drop}
 use Rattle.machine.specs.Program.{counterCount}
 use Rattle.machine.proofs.Records.{counters-read}

@@ -70,6 +70,9 @@ add-save c = let p = passes (c .before .before .before .before .before .before .
 save-requires : tie.Need-save-requires
 save-requires c κs = whole (c .before .before .before .before .before .before .before .before) .whole
 
+ended-requires : tie.Need-ended-requires
+ended-requires c κs = search needs
+
 same-length-2 : tie.Need-same-length-2
 same-length-2 c = search needs
 
@@ -78,15 +81,16 @@ same-length-3 c = search needs
 
 returns-2 : tie.Need-returns-2
 returns-2 c =
-    let end = c .before .before .before .before in
-    let ran = c .before .before .before .before .before .before .before .before .before in
-    let e = c .before .before .before .before .before .before .before .before .before .before .before .before .before in
+    let end = c .before .before .before in
+    let ran = end .before .before .before .before .before in
+    let e = ran .before .before .before .before in
+    let f = c .ended .ensures in
     let a = entry (e .before) .args in
     let p = passes e in
     let l = rw (ran .before .before .load .ensures, p .2) at (ran .feed-bytes .ensures) in
     answers-fed (machine (a .moves .now) (a .programs .now)) flowLayout (a .flow .now) (a .piece .now) (a .pairs .now) (feedRules (a .moves .now) (a .programs .now) (a .flow .now) (a .start) (a .piece .now)) _
     (ran .feed-bytes .result .config) _ (ran .feed-bytes .result .bytes) (ran .feed-bytes .result .words) 0 (l .0) (verdict-0 e) (l .1)
-    (refused-free (ran .feed-bytes .result .bytes) (length (a .piece .now)) _ refl) refl refl refl _ (rw (p .2) at (end .save .ensures))
+    (f .refusal ∙ refused-free (ran .feed-bytes .result .bytes) (length (a .piece .now)) _ refl) (f .bytes) (f .pairs) (f .all) _ (rw (p .2) at (end .save .ensures))
 
 pub feed-spec : {M : Type 1} → statement M
 feed-spec =
@@ -100,6 +104,7 @@ feed-spec =
     feed-bytes-requires
     add-save
     save-requires
+    ended-requires
     same-length-2
     same-length-3
     returns-2)

@@ -3,6 +3,7 @@ use borrow.Author.Needs.{needs}
 use mathlib.Core.Path.{_≡_, refl, sym, ap, _∙_}
 use Prim.Native.Nat.{_+_, _*_, _≤_, _<_, _-_}
 use native.Mathlib.Omega.{arith}
+use borrow.Author.Tests.{not-true, not-false}
 use lib.ListN.{length, getD}
 use Rattle.feed.specs.inner.Going.{Going}
 use Rattle.feed.proofs.Going.{start, finish, length-kept}
@@ -38,11 +39,6 @@ inside c =
     let h = head c in
     omega (arith, c .target .ensures, good h .targets (h .loop .x .state) (getD (entry h .args .piece .now) (h .loop .i) 0) (h .loop .inv .1) (h .before .before .shared-slice-known3 .given (h .loop .i) .fits))
 
--- past the test of the room the pairs fit behind the words that are written
-fits : (c : tie.Else2 Inv-loop μ-loop)
-    → head (c .before .before .before .before .before .before .before .before .before .before) .loop .words + 2 * c .before .before .before .tell-alerts .result ≤ length (entry (head (c .before .before .before .before .before .before .before .before .before .before)) .args .pairs .now)
-fits c = let g = head (c .before .before .before .before .before .before .before .before .before .before) .loop .inv .0 in omega (arith, words-fit g, length-kept g, c .if2 .left)
-
 loop-holds : tie.Need-loop-holds Inv-loop μ-loop
 loop-holds c =
     let s = c .before .before .before .before in
@@ -75,9 +71,6 @@ run-program-requires c κs =
     let t = c .before .before in
     (program-there _ _ (good (head t)) (t .target .result) (inside t), program-good _ _ (good (head t)) (t .target .result) (inside t))
 
-sub-room : tie.Need-sub-room Inv-loop μ-loop
-sub-room c = omega (arith, words-fit (c .before .before .before .before .before .before .before .before .loop .inv .0))
-
 add-tell-alerts : tie.Need-add-tell-alerts Inv-loop μ-loop
 add-tell-alerts c = omega (arith, entry (c .before .before .before .before .before .before .before .before .before) .pre .2)
 
@@ -95,7 +88,7 @@ same-length c =
     let t = c .before .before .before .before .before .before .before .before .before .before in
     let l = head t .loop in
     let a = entry (head t) .args in
-    let e = stops (a .moves .now) (a .programs .now) (l .inv .0) (omega arith) (t .target .result) (t .target .ensures) (c .before .before .before .before .before .before .before .run-program .ensures .alerts) (c .before .before .before .tell-alerts .ensures) (c .if2 .taken) in
+    let e = stops (a .moves .now) (a .programs .now) (l .inv .0) (omega arith) (t .target .result) (t .target .ensures) (c .before .before .before .before .before .before .before .run-program .ensures .alerts) (c .before .before .before .tell-alerts .ensures) (not-true _ (c .if2 .taken)) in
     length-kept (e .1)
 
 returns : tie.Need-returns Inv-loop μ-loop
@@ -103,14 +96,8 @@ returns c =
     let t = c .before .before .before .before .before .before .before .before .before .before in
     let l = head t .loop in
     let a = entry (head t) .args in
-    let e = stops (a .moves .now) (a .programs .now) (l .inv .0) (omega arith) (t .target .result) (t .target .ensures) (c .before .before .before .before .before .before .before .run-program .ensures .alerts) (c .before .before .before .tell-alerts .ensures) (c .if2 .taken) in
+    let e = stops (a .moves .now) (a .programs .now) (l .inv .0) (omega arith) (t .target .result) (t .target .ensures) (c .before .before .before .before .before .before .before .run-program .ensures .alerts) (c .before .before .before .tell-alerts .ensures) (not-true _ (c .if2 .taken)) in
     (e .1, e .0)
-
-mul-words : tie.Need-mul-words Inv-loop μ-loop
-mul-words c = let f = fits c in let w = entry (head (c .before .before .before .before .before .before .before .before .before .before)) .good in search needs
-
-add-words : tie.Need-add-words Inv-loop μ-loop
-add-words c = let f = fits c in let w = entry (head (c .before .before .before .before .before .before .before .before .before .before)) .good in search needs
 
 add-i-2 : tie.Need-add-i-2 Inv-loop μ-loop
 add-i-2 c = search needs
@@ -125,7 +112,7 @@ loop-again-2 c =
     let l = head t .loop in
     let a = entry (head t) .args in (
       goes-on (a .moves .now) (a .programs .now) (l .inv .0) (omega arith) (t .target .result) (t .target .ensures) (s .run-program .ensures .alerts) (c .before .before .before .tell-alerts .ensures)
-          (omega (arith, c .if2 .left)) (s .run-program .result .config) (s .run-program .ensures .config),
+          (not-false _ (c .if2 .left)) (s .run-program .result .config) (s .run-program .ensures .config),
       omega (arith, inside t, ap (λ (x : Config). x .state) (s .run-program .ensures .config) ∙ after-state (a .programs .now) (t .target .result) (moved (t .target .result) (l .x)) programLength),
     )
 
@@ -152,15 +139,12 @@ feed-bytes-spec =
     loop-less
     loop-again
     run-program-requires
-    sub-room
     add-tell-alerts
     add-tell-alerts-2
     cast-tell-alerts
     tell-alerts-requires
     same-length
     returns
-    mul-words
-    add-words
     add-i-2
     loop-less-2
     loop-again-2

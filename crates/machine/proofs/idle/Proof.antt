@@ -4,7 +4,7 @@ use Prim.Native.Nat.{ℕ, _≤_, _-_, _+_, _*_}
 use mathlib.Core.Path.{_≡_}
 use native.Mathlib.Omega.{arith}
 use lib.ListN.{take, drop}
-use Rattle.sets.specs.Set.{num}
+use Rattle.numbers.specs.Number.{num}
 use Rattle.sets.proofs.Words.{Laid, laid-none, laid-more}
 use Rattle.machine.specs.Machine.{programSize}
 use Rattle.machine.proofs.Programs.{laid-every}

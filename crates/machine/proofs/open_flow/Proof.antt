@@ -3,6 +3,7 @@ use borrow.Author.Needs.{needs}
 use mathlib.Core.Path.{_≡_, refl, sym, ap, _∙_}
 use Prim.Native.Nat.{_<_}
 use native.Mathlib.Omega.{arith}
+use borrow.Author.Tests.{not-true, not-false}
 use Rattle.sets.specs.Set.{sigsOf}
 use Rattle.rules.specs.Rules.{verdict}
 use Rattle.machine.specs.Program.{programmed, blank}
@@ -61,8 +62,8 @@ returns-2 c =
     let t = c .before .before .before in
     let s = t .before .before .before in
     let a = entry (s .before .before) .args in
-    open-full (a .moves .now) (a .programs .now) (a .flow .now) (a .pairs .now) (sigsOf (s .run-program .result .alerts)) (t .tell-alerts .result) (s .run-program .ensures .alerts) _ (t .tell-alerts .ensures)
-    (passed (s .before)) _ (c .if2 .taken) refl refl
+    open-full (a .moves .now) (a .programs .now) (a .flow .now) (a .pairs .now) (sigsOf (s .run-program .result .alerts)) (s .run-program .ensures .alerts) _ _ (t .tell-alerts .ensures)
+    (passed (s .before)) _ (not-true _ (c .if2 .taken)) refl refl
 
 save-requires : tie.Need-save-requires
 save-requires c κs =
@@ -78,13 +79,13 @@ same-length-5 c = search needs
 
 returns-3 : tie.Need-returns-3
 returns-3 c =
-    let v = c .before .before in
+    let v = c .before .before .before in
     let e2 = v .before .before .before in
     let t = e2 .before .before .before in
     let s = t .before .before .before in
     let a = entry (s .before .before) .args in
-    open-told (a .moves .now) (a .programs .now) (a .flow .now) (a .pairs .now) (sigsOf (s .run-program .result .alerts)) (t .tell-alerts .result) (s .run-program .ensures .alerts) _ (t .tell-alerts .ensures)
-    (passed (s .before)) _ (omega (arith, e2 .if2 .left)) refl refl _ (v .save .ensures ∙ ap (λ x. flowBytes x 0) (s .run-program .ensures .config))
+    open-told (a .moves .now) (a .programs .now) (a .flow .now) (a .pairs .now) (sigsOf (s .run-program .result .alerts)) (s .run-program .ensures .alerts) _ _ (t .tell-alerts .ensures)
+    (passed (s .before)) _ (not-false _ (e2 .if2 .left)) refl refl _ (v .save .ensures ∙ ap (λ x. flowBytes x 0) (s .run-program .ensures .config))
 
 pub open-flow-spec : {M : Type 1} → statement M
 open-flow-spec =

@@ -6,9 +6,9 @@ use mathlib.Core.List.{List}
 use native.Mathlib.Omega.{arith}
 use lib.ListN.{length, getD, take}
 use lib.Seq.{length-take-le, take-all}
-use Rattle.sets.specs.Set.{digits, placed}
-use Rattle.sets.proofs.Laws.{length-digits}
-use Rattle.sets.proofs.Placing.{placed-none, placed-after, length-placed}
+use Rattle.numbers.specs.Number.{digits, placed}
+use Rattle.numbers.proofs.Laws.{length-digits}
+use Rattle.numbers.proofs.Placing.{placed-none, placed-after, length-placed}
 use Rattle.machine.specs.Program.{counterCount}
 use Rattle.machine.specs.Record.{fourBytes}
 use Rattle.machine.proofs.Records.{bytes-length, bytes-more, bytes-none}

@@ -3,7 +3,7 @@ use borrow.Author.Needs.{needs}
 use mathlib.Core.Path.{_≡_, ap, _∙_}
 use mathlib.Core.List.{List}
 use lib.ListN.{length}
-use Rattle.sets.specs.Set.{digits, placed}
+use Rattle.numbers.specs.Number.{digits, placed}
 use Rattle.machine.specs.Program.{counterCount}
 use Rattle.machine.specs.Record.{fourBytes}
 use Rattle.machine.proofs.Records.{placed-flow}

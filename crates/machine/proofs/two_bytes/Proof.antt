@@ -3,7 +3,7 @@ use borrow.Author.Needs.{needs}
 use Prim.Native.Nat.{_+_}
 use mathlib.Core.Path.{sym}
 use native.Mathlib.Omega.{arith}
-use Rattle.sets.proofs.Bytes.{num-two}
+use Rattle.numbers.proofs.Bytes.{num-two}
 use Rattle.machine.proofs.two_bytes.Statement.{statement}
 use Rattle.machine.proofs.two_bytes.Tie as tie
 

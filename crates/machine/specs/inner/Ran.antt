@@ -1,12 +1,9 @@
--- What the code's steps leave: an instruction, a program, and the telling of its alerts.
-use Prim.Native.Nat.{ℕ, _-_, _/_}
+-- What the code's steps leave: an instruction, and a program.
+use Prim.Native.Nat.{ℕ}
 use mathlib.Core.Path.{_≡_}
-use mathlib.Core.Bool.{cond}
 use mathlib.Core.List.{List}
-use lib.ListN.{length}
-use lib.Dec.{leb}
-use Rattle.sets.specs.Set.{signatures, sigsOf, num, size, members, placed}
-use Rattle.feed.specs.Engine.{pairsAt}
+use Rattle.numbers.specs.Number.{num}
+use Rattle.sets.specs.Set.{sigsOf}
 use Rattle.machine.specs.declared.Config.{Config}
 use Rattle.machine.specs.declared.Step.{Step}
 use Rattle.machine.specs.Program.{bitsBy, countersBy, alertsBy, kindOf, whichOf, numberOf, programmed, alertsOf, moved}
@@ -21,8 +18,3 @@ pub record Runs (P : List ℕ) (i D : ℕ) (cs ws : List ℕ) (E : ℕ) (ds vs :
 pub record Programs (P : List ℕ) (q : ℕ) (x : Config) (s : Step) : Type 0 where
   pub config : s .config ≡ programmed P q (moved q x)
   pub alerts : sigsOf (s .alerts) ≡ alertsOf P q (moved q x)
-
--- n pairs of G's members at offset k are due from word w on: they are told where there is room for all of them, and else none is
-pub record TellsRoom (G : ℕ) (out : List ℕ) (w k n : ℕ) (left : List ℕ) : Type 0 where
-  pub many : n ≡ size signatures G
-  pub wrote : left ≡ cond (leb n ((length out - w) / 2)) (placed out w (pairsAt k (members signatures G))) out

@@ -5,8 +5,8 @@ use Prim.Native.Nat.{ℕ, _≤_, _-_}
 use mathlib.Core.List.{List}
 use native.Mathlib.Omega.{arith}
 use lib.ListN.{length, replicate, set}
-use Rattle.sets.specs.Set.{placed}
-use Rattle.sets.proofs.Placing.{length-placed}
+use Rattle.numbers.specs.Number.{placed}
+use Rattle.numbers.proofs.Placing.{length-placed}
 use Rattle.matrix.proofs.Writing.{cleared-none, cleared-more, cleared-all}
 use Rattle.matrix.proofs.clear.Statement.{statement}
 use Rattle.matrix.proofs.clear.Tie as tie

@@ -7,6 +7,7 @@ use Rattle.sets.specs.Set.{states}
 use Rattle.rules.specs.Rules.{verdict}
 use Rattle.feed.proofs.Looping.{rows-most, answers-refused}
 use Rattle.list_flow.specs.Flow.{flowLayout}
+use Rattle.list_flow.proofs.Records.{good-flow}
 use Rattle.list_flow.proofs.Ending.{fits, finishes}
 use Rattle.matrix.specs.Matrix.{matrixed, matrixRules}
 use Rattle.list.proofs.Highest.{highest-state}
@@ -56,8 +57,8 @@ returns c =
     answers-refused (matrixed (a .list .now) (a .matrix .now)) flowLayout (a .flow .now) (a .piece .now) (a .pairs .now) (matrixRules (a .list .now) (a .matrix .now) (a .flow .now) (a .start) (a .piece .now)) _
     (λ z. c .before .if1 .taken (e ∙ z)) (rw e at (c .refused .ensures))
 
-load-requires : tie.Need-load-requires
-load-requires c κs = search needs
+from-bytes-requires : tie.Need-from-bytes-requires
+from-bytes-requires c κs = omega (arith, good-flow (entry (c .before .before) .args .flow .now) (passes (c .before) .good) .0)
 
 feed-bytes-requires : tie.Need-feed-bytes-requires
 feed-bytes-requires c κs =
@@ -88,7 +89,7 @@ returns-2 c =
     let p = passes (passed ran) in
     finishes (a .flow .now) (a .piece .now) (p .good) (ran .feed-bytes .result) (matrixed (a .list .now) (a .matrix .now)) (a .pairs .now)
     (matrixRules (a .list .now) (a .matrix .now) (a .flow .now) (a .start) (a .piece .now)) _ _ _ (verdict-0 (passed ran))
-    (rw (ran .before .before .load .ensures, p .begins) at (ran .feed-bytes .ensures)) (end .finish .ensures)
+    (rw (ran .before .before .from-bytes .ensures, p .begins) at (ran .feed-bytes .ensures)) (end .finish .ensures)
 
 pub feed-spec : {M : Type 1} → statement M
 feed-spec =
@@ -99,7 +100,7 @@ feed-spec =
     refused-requires
     same-length
     returns
-    load-requires
+    from-bytes-requires
     feed-bytes-requires
     finish-requires
     same-length-2

@@ -16,8 +16,9 @@ use Rattle.list.specs.Automaton.{accepted, accepting}
 use Rattle.feed.specs.inner.Going.{Going}
 use Rattle.feed.proofs.Going.{start, finish, length-kept}
 use Rattle.feed.proofs.Looping.{words-fit, rows-most, refused-free}
-use Rattle.list_flow.specs.inner.Told.{TellsAll}
-use Rattle.list_flow.proofs.Accepting.{all-quiet, told-as, goes-on, stops}
+use Rattle.feed.specs.inner.Told.{TellsAll}
+use Rattle.feed.proofs.Fitting.{told-as, goes-on, stops}
+use Rattle.list_flow.proofs.Accepting.{all-quiet}
 use Rattle.list_flow.proofs.Ending.{leaves}
 use Rattle.matrix.specs.Matrix.{cell, unionOver, matrixStep, matrixed}
 use Rattle.matrix.proofs.Feeding.{matrix-cheap, reach-as}
@@ -149,20 +150,20 @@ slice-aggregate-meet-2 c = search needs
 meet-requires : tie.Need-meet-requires Inv-loop μ-loop
 meet-requires c κs = search needs
 
-slice-aggregate-whole : tie.Need-slice-aggregate-whole Inv-loop μ-loop
-slice-aggregate-whole c = search needs
+slice-aggregate-from-bytes : tie.Need-slice-aggregate-from-bytes Inv-loop μ-loop
+slice-aggregate-from-bytes c = search needs
 
-whole-requires : tie.Need-whole-requires Inv-loop μ-loop
-whole-requires c κs = let l : length (c .before .before .before .before .before .before .step .result .next) ≡ setSize = search needs in omega (arith, l)
+from-bytes-requires : tie.Need-from-bytes-requires Inv-loop μ-loop
+from-bytes-requires c κs = let l : length (c .before .before .before .before .before .before .step .result .next) ≡ setSize = search needs in omega (arith, l)
 
 tell-accepted-requires : tie.Need-tell-accepted-requires Inv-loop μ-loop
 tell-accepted-requires c κs = words-fit (head (c .before .before .before .before .before .before .before .before) .loop .inv .0)
 
-slice-aggregate-whole-2 : tie.Need-slice-aggregate-whole-2 Inv-loop μ-loop
-slice-aggregate-whole-2 c = omega (arith, head (stepped (c .before .before .before)) .loop .inv .3)
+slice-aggregate-from-bytes-2 : tie.Need-slice-aggregate-from-bytes-2 Inv-loop μ-loop
+slice-aggregate-from-bytes-2 c = omega (arith, head (stepped (c .before .before .before)) .loop .inv .3)
 
-whole-requires-2 : tie.Need-whole-requires-2 Inv-loop μ-loop
-whole-requires-2 c κs = omega (arith, head (stepped (c .before .before .before)) .loop .inv .3)
+from-bytes-requires-2 : tie.Need-from-bytes-requires-2 Inv-loop μ-loop
+from-bytes-requires-2 c κs = omega (arith, head (stepped (c .before .before .before)) .loop .inv .3)
 
 same-length : tie.Need-same-length Inv-loop μ-loop
 same-length c =
@@ -177,7 +178,7 @@ returns c =
     let l = head s .loop in
     let a = entry (head s) in
     let e = stops (l .inv .0) (omega arith) (told (t .before .before)) (alerts s) (not-true _ (t .if2 .taken)) in
-    leaves _ (rw (← c .whole2 .ensures, head s .before .bytes-of2 .ensures) at (e .1)) refl (rw (head s .before .bytes-of2 .ensures) at (e .0)) (refused-free (l .i) (length (a .args .piece .now)) _ refl)
+    leaves _ (rw (← c .from-bytes2 .ensures, head s .before .bytes-of2 .ensures) at (e .1)) refl (rw (head s .before .bytes-of2 .ensures) at (e .0)) (refused-free (l .i) (length (a .args .piece .now)) _ refl)
 
 add-rows : tie.Need-add-rows Inv-loop μ-loop
 add-rows c =
@@ -202,11 +203,11 @@ loop-again c =
       long j,
     )
 
-slice-aggregate-whole-3 : tie.Need-slice-aggregate-whole-3 Inv-loop μ-loop
-slice-aggregate-whole-3 c = omega (arith, c .before .before .loop .inv .3)
+slice-aggregate-from-bytes-3 : tie.Need-slice-aggregate-from-bytes-3 Inv-loop μ-loop
+slice-aggregate-from-bytes-3 c = omega (arith, c .before .before .loop .inv .3)
 
-whole-requires-3 : tie.Need-whole-requires-3 Inv-loop μ-loop
-whole-requires-3 c κs = omega (arith, c .before .before .loop .inv .3)
+from-bytes-requires-3 : tie.Need-from-bytes-requires-3 Inv-loop μ-loop
+from-bytes-requires-3 c κs = omega (arith, c .before .before .loop .inv .3)
 
 same-length-2 : tie.Need-same-length-2 Inv-loop μ-loop
 same-length-2 c = length-kept (c .before .before .before .loop .inv .0)
@@ -217,7 +218,7 @@ returns-2 c =
     let l = h .loop in
     let a = entry h .args in
     let e : l .i ≡ length (a .piece .now) = omega arith in
-    leaves _ (rw (← c .whole3 .ensures, h .before .bytes-of2 .ensures) at (l .inv .0)) (sym e) (rw (h .before .bytes-of2 .ensures) at (finish (l .inv .0) e)) (refused-free (l .i) (length (a .piece .now)) _ refl)
+    leaves _ (rw (← c .from-bytes3 .ensures, h .before .bytes-of2 .ensures) at (l .inv .0)) (sym e) (rw (h .before .bytes-of2 .ensures) at (finish (l .inv .0) e)) (refused-free (l .i) (length (a .piece .now)) _ refl)
 
 pub feed-bytes-spec : {M : Type 1} → statement M
 feed-bytes-spec =
@@ -240,18 +241,18 @@ feed-bytes-spec =
     slice-aggregate-meet
     slice-aggregate-meet-2
     meet-requires
-    slice-aggregate-whole
-    whole-requires
+    slice-aggregate-from-bytes
+    from-bytes-requires
     tell-accepted-requires
-    slice-aggregate-whole-2
-    whole-requires-2
+    slice-aggregate-from-bytes-2
+    from-bytes-requires-2
     same-length
     returns
     add-rows
     add-i
     loop-less
     loop-again
-    slice-aggregate-whole-3
-    whole-requires-3
+    slice-aggregate-from-bytes-3
+    from-bytes-requires-3
     same-length-2
     returns-2)

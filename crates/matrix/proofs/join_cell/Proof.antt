@@ -5,7 +5,7 @@ use Prim.Native.Nat.{ℕ, zero, _≤_, _<_, _-_, _+_}
 use native.Mathlib.Omega.{arith}
 use lib.ListN.{length, getD}
 use Rattle.sets.specs.Set.{setSize}
-use Rattle.sets.proofs.Laws.{Small}
+use Rattle.numbers.proofs.Laws.{Small}
 use Rattle.matrix.proofs.Joining.{Joins, joins-none, joins-more, joins-small, joins-all}
 use Rattle.matrix.proofs.join_cell.Statement.{statement}
 use Rattle.matrix.proofs.join_cell.Tie as tie

@@ -6,7 +6,7 @@ use native.Mathlib.Omega.{arith}
 use lib.ListN.{getD}
 use lib.Bits.{bitAnd}
 use Rattle.sets.specs.Set.{setSize}
-use Rattle.sets.proofs.Laws.{Small}
+use Rattle.numbers.proofs.Laws.{Small}
 use Rattle.sets.proofs.Words.{Laid, laid-none, laid-more}
 use Rattle.matrix.proofs.Joining.{meets-all}
 use Rattle.matrix.proofs.meet.Statement.{statement}

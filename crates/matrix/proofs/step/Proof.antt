@@ -5,9 +5,10 @@ use Prim.Native.Nat.{ℕ, _+_, _≤_, _<_, _-_, _*_, _^_}
 use mathlib.Core.Path.{_≡_, refl, sym, ap, _∙_}
 use lib.ListN.{length, getD, take, drop}
 use lib.Count.{ones, ones-le}
-use Rattle.sets.specs.Set.{setWords, setSize, num, setAt}
-use Rattle.sets.proofs.Laws.{Small, small-digits}
-use Rattle.sets.proofs.Bytes.{wordsIn, words-in, words-in-at}
+use Rattle.numbers.specs.Number.{num}
+use Rattle.sets.specs.Set.{setWords, setSize, setAt}
+use Rattle.numbers.proofs.Laws.{Small, small-digits}
+use Rattle.sets.proofs.Standing.{wordsIn, words-in, words-in-at}
 use Rattle.sets.proofs.Words.{count-most}
 use Rattle.matrix.specs.Matrix.{cell}
 use Rattle.matrix.proofs.Stepping.{Walks, walks-none, walks-more, walks-all, zero-set}

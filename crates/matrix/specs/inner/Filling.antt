@@ -2,7 +2,8 @@
 use Prim.Native.Nat.{ℕ, zero, suc}
 use mathlib.Core.Bool.{cond}
 use mathlib.Core.List.{List}
-use Rattle.sets.specs.Set.{states, insert, setBytes, setAt, placed}
+use Rattle.numbers.specs.Number.{placed}
+use Rattle.sets.specs.Set.{states, insert, setBytes, setAt}
 use Rattle.list.specs.List.{from, target}
 use Rattle.list.specs.Automaton.{edge}
 use Rattle.matrix.specs.Matrix.{byteValues, cellAt}

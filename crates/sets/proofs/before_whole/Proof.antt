@@ -9,9 +9,11 @@ use Prim.Native.Nat.{ℕ, _≤_, _<_, _-_, _+_, _*_}
 use native.Mathlib.Omega.{arith}
 use lib.ListN.{getD, take, drop}
 use lib.Dec.{eqb}
-use Rattle.sets.specs.Set.{setWords, num, digits, setBytes, setAt, before}
-use Rattle.sets.proofs.Laws.{Small, small-digits}
-use Rattle.sets.proofs.Bytes.{wordsIn, words-in, words-in-at, before-word, before-never}
+use Rattle.numbers.specs.Number.{num, digits, before}
+use Rattle.sets.specs.Set.{setWords, setBytes, setAt}
+use Rattle.numbers.proofs.Laws.{Small, small-digits}
+use Rattle.numbers.proofs.Bytes.{before-word, before-never}
+use Rattle.sets.proofs.Standing.{wordsIn, words-in, words-in-at}
 use Rattle.sets.proofs.before_whole.Statement.{statement}
 use Rattle.sets.proofs.before_whole.Tie as tie
 

@@ -4,7 +4,8 @@ use borrow.Author.Tests.{eqb-true}
 use mathlib.Core.Path.{_≡_, sym, ap, _∙_}
 use Prim.Native.Nat.{ℕ, _*_}
 use lib.ListN.{length}
-use Rattle.sets.specs.Set.{num, size}
+use Rattle.numbers.specs.Number.{num}
+use Rattle.sets.specs.Set.{size}
 use Rattle.sets.proofs.Words.{count-zero}
 use Rattle.sets.proofs.block_ones.Statement.{statement}
 use Rattle.sets.proofs.block_ones.Tie as tie

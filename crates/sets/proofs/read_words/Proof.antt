@@ -4,9 +4,9 @@ use mathlib.Core.Path.{_≡_, refl, ap, _∙_}
 use Prim.Native.Nat.{ℕ, _≤_, _<_, _-_, _+_, _*_}
 use native.Mathlib.Omega.{arith}
 use lib.ListN.{length, getD, take, drop}
-use Rattle.sets.specs.Set.{num}
-use Rattle.sets.proofs.Laws.{fill-more}
-use Rattle.sets.proofs.Bytes.{words-made}
+use Rattle.numbers.specs.Number.{num}
+use Rattle.numbers.proofs.Laws.{fill-more}
+use Rattle.numbers.proofs.Bytes.{words-made}
 use Rattle.sets.proofs.read_words.Statement.{statement}
 use Rattle.sets.proofs.read_words.Tie as tie
 

@@ -8,9 +8,9 @@ use lib.ListN.{getD}
 use lib.Dec.{lit<}
 use lib.Arith.{digits-lt}
 use lib.Pow.{pow-mono, pow-add}
-use Rattle.sets.specs.Set.{digits}
-use Rattle.sets.proofs.Laws.{digits-at, small-digits, length-digits}
-use Rattle.sets.proofs.Order.{Ranks, ranks-none, ranks-more, ranks-all}
+use Rattle.numbers.specs.Number.{digits}
+use Rattle.numbers.proofs.Laws.{digits-at, small-digits, length-digits}
+use Rattle.numbers.proofs.Order.{Ranks, ranks-none, ranks-more, ranks-all}
 use Rattle.sets.proofs.word_before.Statement.{statement}
 use Rattle.sets.proofs.word_before.Tie as tie
 

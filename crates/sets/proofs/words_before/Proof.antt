@@ -2,7 +2,7 @@
 use borrow.Author.Needs.{needs}
 use mathlib.Core.Path.{ap₂, _∙_}
 use Prim.Native.Nat.{ℕ}
-use Rattle.sets.specs.Set.{digits, before}
+use Rattle.numbers.specs.Number.{digits, before}
 use Rattle.sets.proofs.words_before.Statement.{statement}
 use Rattle.sets.proofs.words_before.Tie as tie
 

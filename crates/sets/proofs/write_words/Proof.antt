@@ -6,10 +6,10 @@ use Prim.Native.Nat.{ℕ, _≤_, _-_, _+_, _*_}
 use native.Mathlib.Omega.{arith}
 use lib.ListN.{length, getD, take}
 use lib.Seq.{length-take-le, take-all}
-use Rattle.sets.specs.Set.{num, digits, placed}
-use Rattle.sets.proofs.Laws.{length-digits}
-use Rattle.sets.proofs.Bytes.{bytes-more}
-use Rattle.sets.proofs.Placing.{placed-none, placed-after, length-placed}
+use Rattle.numbers.specs.Number.{num, digits, placed}
+use Rattle.numbers.proofs.Laws.{length-digits}
+use Rattle.numbers.proofs.Bytes.{bytes-more}
+use Rattle.numbers.proofs.Placing.{placed-none, placed-after, length-placed}
 use Rattle.sets.proofs.write_words.Statement.{statement}
 use Rattle.sets.proofs.write_words.Tie as tie
 

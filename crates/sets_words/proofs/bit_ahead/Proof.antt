@@ -5,7 +5,8 @@ use Prim.Native.Nat.{_≤_, _<_, _-_, _*_, ℕ}
 use lib.ListN.{length, getD}
 use mathlib.Core.Path.{_≡_, subst}
 use mathlib.Core.Bool.{false}
-use Rattle.sets.specs.Set.{num, holds}
+use Rattle.numbers.specs.Number.{num}
+use Rattle.sets.specs.Set.{holds}
 use Rattle.sets_words.specs.inner.Next.{Next}
 use Rattle.sets_words.proofs.Visiting.{none-more, next-in, next-none}
 use Rattle.sets_words.proofs.bit_ahead.Statement.{statement}

@@ -4,7 +4,7 @@ use native.Mathlib.Omega.{arith}
 use Prim.Native.Nat.{_*_, _/_, _%_, _^_}
 use lib.ListN.{length, getD}
 use mathlib.Core.Path.{_≡_}
-use Rattle.sets.specs.Set.{num}
+use Rattle.numbers.specs.Number.{num}
 use Rattle.sets_words.proofs.Visiting.{next-none, next-here, next-on}
 use Rattle.sets_words.proofs.next_bit.Statement.{statement}
 use Rattle.sets_words.proofs.next_bit.Tie as tie

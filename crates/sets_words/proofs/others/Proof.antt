@@ -6,9 +6,10 @@ use lib.ListN.{length, getD}
 use mathlib.Core.Path.{_≡_, _∙_, ap}
 use mathlib.Core.Bool.{not}
 use lib.Pow.{ones-lt}
-use Rattle.sets.specs.Set.{sigWords, num, holds}
-use Rattle.sets.proofs.Laws.{Small, small-set}
-use Rattle.sets.proofs.Whole.{sigs-valid-of}
+use Rattle.numbers.specs.Number.{num}
+use Rattle.sets.specs.Set.{byteWords, holds}
+use Rattle.numbers.proofs.Laws.{Small, small-set}
+use Rattle.sets.proofs.Whole.{byte-set-valid-of}
 use Rattle.sets_words.proofs.Further.{stride-more}
 use lib.Bits.{bitXor, xor-lt}
 use Rattle.sets_words.proofs.Masks.{Reads, reads-all, reads-others}
@@ -16,14 +17,14 @@ use Rattle.sets_words.proofs.others.Statement.{statement}
 use Rattle.sets_words.proofs.others.Tie as tie
 
 abbrev Inv-loop : tie.InvT-loop
-Inv-loop a w₀ i₀ w i = (i ≤ sigWords) × (length w ≡ sigWords) × Small 64 w × ((j : ℕ) → j < i → Reads (λ c. not (holds (num 64 a) c)) j (getD w j 0))
+Inv-loop a w₀ i₀ w i = (i ≤ byteWords) × (length w ≡ byteWords) × Small 64 w × ((j : ℕ) → j < i → Reads (λ c. not (holds (num 64 a) c)) j (getD w j 0))
 
 abbrev μ-loop : tie.MeasureT-loop
-μ-loop a w₀ i₀ w i = sigWords - i
+μ-loop a w₀ i₀ w i = byteWords - i
 
 loop-holds : tie.Need-loop-holds Inv-loop μ-loop
 loop-holds c =
-    let v = sigs-valid-of (c .before .args .set) _ (c .before .good .0) in
+    let v = byte-set-valid-of (c .before .args .set) _ (c .before .good .0) in
     (omega arith, v .long, v .small, λ j h. absurd (omega arith))
 
 mul-w : tie.Need-mul-w Inv-loop μ-loop
@@ -47,7 +48,7 @@ loop-less c = search needs
 loop-again : tie.Need-loop-again Inv-loop μ-loop
 loop-again c =
     let a = c .before .before .before .args in
-    let v = sigs-valid-of (a .set) _ (c .before .before .before .good .0) in
+    let v = byte-set-valid-of (a .set) _ (c .before .before .before .good .0) in
     let l = c .before .loop in
     let r = bitXor (getD (a .set .words) (l .i) 0) (2 ^ 64 - 1) in (
       omega arith,

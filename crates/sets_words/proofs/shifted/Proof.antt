@@ -7,7 +7,7 @@ use lib.ListN.{length, getD}
 use mir.Val.{Fits}
 use mir.Syntax.{w64}
 use Rattle.sets.specs.Set.{setWords}
-use Rattle.sets.proofs.Laws.{Small, small-zeros, small-set}
+use Rattle.numbers.proofs.Laws.{Small, small-zeros, small-set}
 use Rattle.sets_words.specs.inner.Further.{Strides}
 use Rattle.sets_words.proofs.Further.{words-further, stride-more}
 use Rattle.sets_words.proofs.shifted.Statement.{statement}

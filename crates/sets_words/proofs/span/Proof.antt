@@ -8,9 +8,10 @@ use mathlib.Core.Bool.{_&&_, _||_}
 use lib.Dec.{leb}
 use mir.Val.{Fits}
 use mir.Syntax.{w64}
-use Rattle.sets.specs.Set.{sigWords, num, holds}
-use Rattle.sets.proofs.Laws.{Small, small-set}
-use Rattle.sets.proofs.Whole.{sigs-valid-of}
+use Rattle.numbers.specs.Number.{num}
+use Rattle.sets.specs.Set.{byteWords, holds}
+use Rattle.numbers.proofs.Laws.{Small, small-set}
+use Rattle.sets.proofs.Whole.{byte-set-valid-of}
 use Rattle.sets_words.proofs.Further.{stride-more}
 use lib.Bits.{bitOr, or-lt}
 use Rattle.sets_words.proofs.Masks.{Reads, reads-all, reads-span}
@@ -18,14 +19,14 @@ use Rattle.sets_words.proofs.span.Statement.{statement}
 use Rattle.sets_words.proofs.span.Tie as tie
 
 abbrev Inv-loop : tie.InvT-loop
-Inv-loop low high a w₀ i₀ w i = (i ≤ sigWords) × (length w ≡ sigWords) × Small 64 w × ((j : ℕ) → j < i → Reads (λ c. holds (num 64 a) c || (leb low c && leb c high)) j (getD w j 0))
+Inv-loop low high a w₀ i₀ w i = (i ≤ byteWords) × (length w ≡ byteWords) × Small 64 w × ((j : ℕ) → j < i → Reads (λ c. holds (num 64 a) c || (leb low c && leb c high)) j (getD w j 0))
 
 abbrev μ-loop : tie.MeasureT-loop
-μ-loop low high a w₀ i₀ w i = sigWords - i
+μ-loop low high a w₀ i₀ w i = byteWords - i
 
 loop-holds : tie.Need-loop-holds Inv-loop μ-loop
 loop-holds c =
-    let v = sigs-valid-of (c .before .args .set) _ (c .before .good .0) in
+    let v = byte-set-valid-of (c .before .args .set) _ (c .before .good .0) in
     (omega arith, v .long, v .small, λ j h. absurd (omega arith))
 
 mul-w : tie.Need-mul-w Inv-loop μ-loop
@@ -52,7 +53,7 @@ loop-less c = search needs
 loop-again : tie.Need-loop-again Inv-loop μ-loop
 loop-again c =
     let a = c .before .before .before .before .args in
-    let v = sigs-valid-of (a .set) _ (c .before .before .before .before .good .0) in
+    let v = byte-set-valid-of (a .set) _ (c .before .before .before .before .good .0) in
     let l = c .before .before .loop in
     let m = c .ones-in .result in
     let f : Fits w64 m = search needs in

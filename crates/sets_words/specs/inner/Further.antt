@@ -4,7 +4,8 @@ use mathlib.Core.Path.{_≡_}
 use mathlib.Core.Bool.{_&&_, cond}
 use mathlib.Core.List.{List}
 use lib.Dec.{leb, ltb}
-use Rattle.sets.specs.Set.{states, num, holds}
+use Rattle.numbers.specs.Number.{num}
+use Rattle.sets.specs.Set.{states, holds}
 
 -- a set of states, each d further on; what passes the last state is gone
 unfoldable pub further : ℕ → ℕ → ℕ

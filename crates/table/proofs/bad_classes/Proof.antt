@@ -5,7 +5,7 @@ use mathlib.Core.Bool.{_||_, not}
 use Prim.Native.Nat.{ℕ}
 use lib.ListN.{length}
 use lib.Dec.{eqb, ltb}
-use Rattle.sets.specs.Set.{before}
+use Rattle.numbers.specs.Number.{before}
 use Rattle.table.specs.Table.{byteValues, mostClass, largest, badClasses}
 use Rattle.table.proofs.bad_classes.Statement.{statement}
 use Rattle.table.proofs.bad_classes.Tie as tie

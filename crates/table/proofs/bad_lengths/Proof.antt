@@ -3,7 +3,8 @@ use borrow.Author.Needs.{needs}
 use mathlib.Core.Path.{_≡_, sym, _∙_}
 use mathlib.Core.Bool.{true, false}
 use native.Mathlib.Omega.{arith}
-use Rattle.sets.specs.Set.{setSize, before}
+use Rattle.numbers.specs.Number.{before}
+use Rattle.sets.specs.Set.{setSize}
 use Rattle.table.specs.Table.{splitSize, mostParts, mostSplits, badClasses, badCount, badLengths}
 use Rattle.table.proofs.Verdict.{count-fits}
 use Rattle.table.proofs.bad_lengths.Statement.{statement}

@@ -6,7 +6,8 @@ use Prim.Native.Nat.{ℕ, _*_, _^_, _≤_}
 use native.Mathlib.Omega.{arith}
 use lib.ListN.{length}
 use lib.Dec.{eqb}
-use Rattle.sets.specs.Set.{setSize, before}
+use Rattle.numbers.specs.Number.{before}
+use Rattle.sets.specs.Set.{setSize}
 use Rattle.table.specs.Table.{mostParts, badRowsLength}
 use Rattle.table.proofs.Entries.{classes-fit, rows-fit}
 use Rattle.table.proofs.bad_rows_length.Statement.{statement}

@@ -5,7 +5,7 @@ use mathlib.Core.Path.{_≡_, sym, ap, _∙_}
 use mathlib.Core.Bool.{true, _&&_}
 use Prim.Native.Nat.{ℕ}
 use native.Mathlib.Omega.{arith}
-use Rattle.sets.specs.Set.{before}
+use Rattle.numbers.specs.Number.{before}
 use Rattle.rules.specs.Scan.{every}
 use Rattle.list.specs.Automaton.{start}
 use Rattle.table.specs.Table.{Table, splitCount, slots, isSplit, splitOf, goodSlots, inOrder}

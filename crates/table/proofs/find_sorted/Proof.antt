@@ -3,11 +3,12 @@ use borrow.Author.Needs.{needs}
 use mathlib.Core.Path.{_≡_, sym, _∙_}
 use Prim.Native.Nat.{ℕ, _+_, _-_, _*_, _/_, _^_, _<_}
 use native.Mathlib.Omega.{arith}
-use Rattle.sets.specs.Set.{setWords, setSize, setOf, setBytes, compare}
-use Rattle.sets.proofs.Laws.{Small}
+use Rattle.numbers.specs.Number.{compare}
+use Rattle.sets.specs.Set.{setWords, setSize, setOf, setBytes}
+use Rattle.numbers.proofs.Laws.{Small}
 use Rattle.sets.proofs.Sets.{words-lt}
 use Rattle.sets.proofs.Whole.{valid-of}
-use Rattle.sets.proofs.Halving.{Between, between-start, compared-right, compared-left}
+use Rattle.numbers.proofs.Halving.{Between, between-start, compared-right, compared-left}
 use Rattle.table.specs.Table.{splitCount, splitSet}
 use Rattle.table.proofs.Halving.{splitStrings, splits-rise, between-found, between-none, split-lt, compared-same, same-length}
 use Rattle.table.proofs.find_sorted.Statement.{statement}

@@ -8,7 +8,7 @@ use Prim.Native.Nat.{_+_, _-_, _≤_, _<_}
 use native.Mathlib.Omega.{arith}
 use lib.ListN.{drop}
 use lib.Dec.{ltb, leb}
-use Rattle.sets.specs.Set.{before}
+use Rattle.numbers.specs.Number.{before}
 use Rattle.rules.proofs.Scanning.{choose, both}
 use Rattle.table.specs.Table.{slots, goodSlots}
 use Rattle.table.proofs.Entries.{slots-cons, slots-end}

@@ -4,7 +4,7 @@ use mathlib.Core.Path.{_≡_, sym, _∙_}
 use Prim.Native.Nat.{_-_, _≤_, max}
 use native.Mathlib.Omega.{arith}
 use lib.ListN.{length, drop}
-use Rattle.sets.specs.Set.{before}
+use Rattle.numbers.specs.Number.{before}
 use Rattle.table.specs.Table.{largest}
 use Rattle.table.proofs.Entries.{largest-all, largest-more}
 use Rattle.table.proofs.largest.Statement.{statement}

@@ -3,7 +3,8 @@ use borrow.Author.Needs.{needs}
 use mathlib.Core.Path.{ap₂, _∙_}
 use Prim.Native.Nat.{ℕ, _+_, _*_, _^_, _≤_}
 use native.Mathlib.Omega.{arith}
-use Rattle.sets.specs.Set.{setSize, setAt, before}
+use Rattle.numbers.specs.Number.{before}
+use Rattle.sets.specs.Set.{setSize, setAt}
 use Rattle.table.specs.Table.{mostParts, row}
 use Rattle.table.proofs.Entries.{classes-fit, rows-fit}
 use Rattle.table.proofs.row_set.Statement.{statement}
@@ -27,19 +28,19 @@ cast-q c = search needs
 add-q : tie.Need-add-q
 add-q c = omega (arith, fits (c .before))
 
-mul-load : tie.Need-mul-load
-mul-load c = omega (arith, fits (c .before))
+mul-set-at : tie.Need-mul-set-at
+mul-set-at c = omega (arith, fits (c .before))
 
-load-requires : tie.Need-load-requires
-load-requires c κs = search needs
+set-at-requires : tie.Need-set-at-requires
+set-at-requires c κs = search needs
 
 returns : tie.Need-returns
 unfolding row
 returns c =
     let s = c .before .before .before .before in
     let a = s .args in
-    c .load .ensures ∙ ap₂ (λ (k x : ℕ). setAt (a .rows .now) (setSize * (a .p * k + x))) (s .pre .0) (c .before .byte-at .ensures)
+    c .set-at .ensures ∙ ap₂ (λ (k x : ℕ). setAt (a .rows .now) (setSize * (a .p * k + x))) (s .pre .0) (c .before .byte-at .ensures)
 
 pub row-set-spec : {M : Type 1} → statement M
 row-set-spec =
-    tie.close (tie.spec mul-q byte-at-requires cast-q add-q mul-load load-requires returns)
+    tie.close (tie.spec mul-q byte-at-requires cast-q add-q mul-set-at set-at-requires returns)

@@ -7,7 +7,8 @@ use mathlib.Core.List.{List}
 use Prim.Native.Nat.{ℕ, _-_, _≤_}
 use native.Mathlib.Omega.{arith}
 use lib.Dec.{eqb}
-use Rattle.sets.specs.Set.{setOf, before}
+use Rattle.numbers.specs.Number.{before}
+use Rattle.sets.specs.Set.{setOf}
 use Rattle.rules.specs.Scan.{every}
 use Rattle.rules.proofs.Scanning.{choose}
 use Rattle.list.specs.Automaton.{step}

@@ -1,7 +1,7 @@
 -- `size_refusal` tests the two rules in their order. Assumes nothing.
 use borrow.Author.Needs.{needs}
 use mathlib.Core.Path.{sym, _∙_}
-use Rattle.sets.specs.Set.{before}
+use Rattle.numbers.specs.Number.{before}
 use Rattle.rules.proofs.Rules.{skip, stop, last}
 use Rattle.table.proofs.size_refusal.Statement.{statement}
 use Rattle.table.proofs.size_refusal.Tie as tie

@@ -4,7 +4,7 @@ use mathlib.Core.Path.{sym, _∙_}
 use Prim.Native.Nat.{_+_, _*_}
 use native.Mathlib.Omega.{arith}
 use Rattle.sets.specs.Set.{setSize}
-use Rattle.sets.proofs.Bytes.{num-two}
+use Rattle.numbers.proofs.Bytes.{num-two}
 use Rattle.table.specs.Table.{splitSize}
 use Rattle.table.proofs.Entries.{slot-at}
 use Rattle.table.proofs.slot.Statement.{statement}

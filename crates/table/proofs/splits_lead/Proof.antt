@@ -6,7 +6,7 @@ use mathlib.Core.Bool.{Bool, true}
 use mathlib.Core.List.{List}
 use Prim.Native.Nat.{ℕ, _-_, _≤_}
 use native.Mathlib.Omega.{arith}
-use Rattle.sets.specs.Set.{before}
+use Rattle.numbers.specs.Number.{before}
 use Rattle.rules.specs.Scan.{every}
 use Rattle.rules.proofs.Scanning.{every-at}
 use Rattle.table.specs.Table.{byteValues, mostParts, splitCount, row, slots, usedSlots, allBelow, joined, isSplit}

@@ -4,7 +4,7 @@ use mathlib.Core.Path.{_≡_, sym, ap, ap₂, _∙_}
 use Prim.Native.Nat.{ℕ, _-_, _≤_, _<_}
 use native.Mathlib.Omega.{arith}
 use Rattle.sets.specs.Set.{setOf, join}
-use Rattle.sets.proofs.Laws.{Small}
+use Rattle.numbers.proofs.Laws.{Small}
 use Rattle.sets.proofs.Sets.{set-at-lt, join-comm, join-empty}
 use Rattle.rules.proofs.Scanning.{choose}
 use Rattle.list.specs.Automaton.{step}
@@ -51,11 +51,11 @@ exchanged-requires c κs = search needs
 edge-requires : tie.Need-edge-requires Inv-loop μ-loop
 edge-requires c κs = (omega (arith, c .before .before .before .before .before .before .before .pre .1), c .exchanged .ensures)
 
-mul-whole : tie.Need-mul-whole Inv-loop μ-loop
-mul-whole c = omega (arith, to-come (c .before .before .before .before))
+mul-from-bytes : tie.Need-mul-from-bytes Inv-loop μ-loop
+mul-from-bytes c = omega (arith, to-come (c .before .before .before .before))
 
-whole-requires : tie.Need-whole-requires Inv-loop μ-loop
-whole-requires c κs = omega (arith, to-come (c .before .before .before .before), c .before .before .before .before .before .loop .inv .1 .long, c .before .before .before .before .before .before .before .before .before .before .pre .0)
+from-bytes-requires : tie.Need-from-bytes-requires Inv-loop μ-loop
+from-bytes-requires c κs = omega (arith, to-come (c .before .before .before .before), c .before .before .before .before .before .loop .inv .1 .long, c .before .before .before .before .before .before .before .before .before .before .pre .0)
 
 step-requires : tie.Need-step-requires Inv-loop μ-loop
 step-requires c κs = search needs
@@ -125,8 +125,8 @@ add-steps-spec =
     cast-b
     exchanged-requires
     edge-requires
-    mul-whole
-    whole-requires
+    mul-from-bytes
+    from-bytes-requires
     step-requires
     union-requires
     mul-store

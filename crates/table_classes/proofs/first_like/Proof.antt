@@ -24,16 +24,16 @@ abbrev μ-loop : tie.MeasureT-loop
 shared-slice-read-x : tie.Need-shared-slice-read-x Inv-loop μ-loop
 shared-slice-read-x c = search needs
 
-mul-whole : tie.Need-mul-whole Inv-loop μ-loop
-mul-whole c = search needs
+mul-from-bytes : tie.Need-mul-from-bytes Inv-loop μ-loop
+mul-from-bytes c = search needs
 
-whole-requires : tie.Need-whole-requires Inv-loop μ-loop
-whole-requires c κs = search needs
+from-bytes-requires : tie.Need-from-bytes-requires Inv-loop μ-loop
+from-bytes-requires c κs = search needs
 
 -- what the test says
 said : (c : tie.After-is-like Inv-loop μ-loop) → c .is-like .result ≡ like (c .before .before .before .before .before .before .before .args .classes .now) (c .before .before .before .before .before .before .before .args .rows .now) (c .before .before .before .before .before .before .before .args .c) (c .before .before .loop .d)
 unfolding part
-said c = c .is-like .ensures ∙ ap (λ (x : ℕ). eqb (getD (c .before .before .before .before .before .before .before .args .classes .now) (c .before .before .loop .d) 0) (getD (c .before .before .before .before .before .before .before .args .classes .now) (c .before .before .before .before .before .before .before .args .c) 0) && eqb (part (c .before .before .before .before .before .before .before .args .rows .now) (c .before .before .loop .d)) x) (c .before .before .before .whole .ensures)
+said c = c .is-like .ensures ∙ ap (λ (x : ℕ). eqb (getD (c .before .before .before .before .before .before .before .args .classes .now) (c .before .before .loop .d) 0) (getD (c .before .before .before .before .before .before .before .args .classes .now) (c .before .before .before .before .before .before .before .args .c) 0) && eqb (part (c .before .before .before .before .before .before .before .args .rows .now) (c .before .before .loop .d)) x) (c .before .before .before .from-bytes .ensures)
 
 loop-holds : tie.Need-loop-holds Inv-loop μ-loop
 loop-holds c = (omega arith, some-zero _)
@@ -68,8 +68,8 @@ first-like-spec =
     Inv-loop
     μ-loop
     shared-slice-read-x
-    mul-whole
-    whole-requires
+    mul-from-bytes
+    from-bytes-requires
     loop-holds
     is-like-requires
     returns

@@ -8,6 +8,7 @@ use Rattle.sets.specs.Set.{states}
 use Rattle.rules.specs.Rules.{Rule, verdict}
 use Rattle.feed.proofs.Looping.{rows-most, answers-refused}
 use Rattle.list_flow.specs.Flow.{flowLayout}
+use Rattle.list_flow.proofs.Records.{good-flow}
 use Rattle.list_flow.proofs.Ending.{fits, finishes}
 use Rattle.table.specs.Table.{Table, table}
 use Rattle.table_feed.specs.Split.{split, splitRules}
@@ -65,8 +66,12 @@ same-length-2 c = search needs
 same-length-3 : tie.Need-same-length-3
 same-length-3 c = search needs
 
-load-requires : tie.Need-load-requires
-load-requires c κs = search needs
+from-bytes-requires : tie.Need-from-bytes-requires
+from-bytes-requires c κs =
+    let here = c .before in
+    let a = entry (here .before) .args in
+    let p = split-passes (a .list .now) (a .bound) (given (here .before)) (a .flow .now) (a .start) (a .piece .now) (verdict-0 here) in
+    omega (arith, good-flow (a .flow .now) (p .0) .0)
 
 feed-bytes-requires : tie.Need-feed-bytes-requires
 feed-bytes-requires c κs =
@@ -89,7 +94,7 @@ returns-2 c =
     let a = entry (passed ran .before) .args in
     let p = split-passes (a .list .now) (a .bound) (given (passed ran .before)) (a .flow .now) (a .start) (a .piece .now) (verdict-0 (passed ran)) in
     finishes (a .flow .now) (a .piece .now) (p .0) (ran .feed-bytes .result) (split (a .list .now) (a .bound) (given (passed ran .before))) (a .pairs .now)
-    (rules (passed ran .before)) _ _ _ (verdict-0 (passed ran)) (rw (ran .before .before .load .ensures, p .1) at (ran .feed-bytes .ensures)) (end .finish .ensures)
+    (rules (passed ran .before)) _ _ _ (verdict-0 (passed ran)) (rw (ran .before .before .from-bytes .ensures, p .1) at (ran .feed-bytes .ensures)) (end .finish .ensures)
 
 pub feed-spec : {M : Type 1} → statement M
 feed-spec =
@@ -99,7 +104,7 @@ feed-spec =
     refused-requires
     same-length
     returns
-    load-requires
+    from-bytes-requires
     feed-bytes-requires
     finish-requires
     same-length-2

@@ -17,8 +17,9 @@ use Rattle.feed.specs.Engine.{mostOffset}
 use Rattle.feed.specs.inner.Going.{Going}
 use Rattle.feed.proofs.Going.{start, stop, finish, length-kept}
 use Rattle.feed.proofs.Looping.{words-fit, rows-most, refused-halted, refused-free, refused-ended}
-use Rattle.list_flow.specs.inner.Told.{TellsAll}
-use Rattle.list_flow.proofs.Accepting.{all-quiet, told-as, goes-on, stops}
+use Rattle.feed.specs.inner.Told.{TellsAll}
+use Rattle.feed.proofs.Fitting.{told-as, goes-on, stops}
+use Rattle.list_flow.proofs.Accepting.{all-quiet}
 use Rattle.list_flow.proofs.Ending.{leaves}
 use Rattle.table.specs.Table.{Table, table}
 use Rattle.table_feed.specs.Split.{stuck, split}

@@ -4,7 +4,8 @@ use native.Mathlib.Omega.{arith}
 use mathlib.Core.Path.{sym, ap, _∙_}
 use mathlib.Core.Logic.{_⊎_, inl, inr, ⊎-elim}
 use lib.ListN.{replicate}
-use Rattle.sets.specs.Set.{num, sigsOf, holds, sigWords}
+use Rattle.numbers.specs.Number.{num}
+use Rattle.sets.specs.Set.{byteSetOf, holds, byteWords}
 use Rattle.sets.proofs.Sets.{empty-words, holds-empty}
 use Rattle.text.specs.Grammar.{value}
 use Rattle.text_bytes.proofs.Bytes.{adds-none, leaf-any, leaf-negated, leaf-members, leaf-space, leaf-single}
@@ -22,7 +23,7 @@ returns c =
     let a = c .before .before .before .before .args in
     let T = a .text .now in
     let n = a .at in
-    leaf-any T n (sigsOf (c .span .result)) (c .before .if1 .taken) (adds-none (num 64 (replicate sigWords 0)) (sigsOf (c .span .result)) 0 255 (λ x. ap (λ z. holds z x) (empty-words sigWords) ∙ holds-empty x) (c .span .ensures))
+    leaf-any T n (byteSetOf (c .span .result)) (c .before .if1 .taken) (adds-none (num 64 (replicate byteWords 0)) (byteSetOf (c .span .result)) 0 255 (λ x. ap (λ z. holds z x) (empty-words byteWords) ∙ holds-empty x) (c .span .ensures))
 
 add-if3 : tie.Need-add-if3
 add-if3 c = search needs
@@ -47,7 +48,7 @@ returns-2 c =
     let a = c .before .before .before .before .before .before .before .before .before .args in
     let T = a .text .now in
     let n = a .at in
-    leaf-negated T n (sigsOf (c .others .result)) (sigsOf (c .before .class-set .result)) (c .before .before .before .before .before .if2 .taken) (omega arith) (c .before .before .if4 .taken) (c .before .class-set .ensures) (c .others .ensures)
+    leaf-negated T n (byteSetOf (c .others .result)) (byteSetOf (c .before .class-set .result)) (c .before .before .before .before .before .if2 .taken) (omega arith) (c .before .before .if4 .taken) (c .before .class-set .ensures) (c .others .ensures)
 
 add-class-set-2 : tie.Need-add-class-set-2
 add-class-set-2 c = search needs
@@ -60,7 +61,7 @@ returns-3 c =
     let a = c .before .before .before .before .before .before .args in
     let T = a .text .now in
     let n = a .at in
-    leaf-members T n (sigsOf (c .class-set2 .result)) (c .before .before .if2 .taken) (⊎-elim (λ w. inl (w .0 .taken, w .2 .left)) (λ w. inr (omega (arith, w .left))) (c .before .if3 .came)) (c .class-set2 .ensures)
+    leaf-members T n (byteSetOf (c .class-set2 .result)) (c .before .before .if2 .taken) (⊎-elim (λ w. inl (w .0 .taken, w .2 .left)) (λ w. inr (omega (arith, w .left))) (c .before .if3 .came)) (c .class-set2 .ensures)
 
 white-requires : tie.Need-white-requires
 white-requires c κs = search needs
@@ -76,7 +77,7 @@ returns-4 c =
     let a = c .before .before .before .before .before .before .before .before .args in
     let T = a .text .now in
     let n = a .at in
-    leaf-space T n (sigsOf (c .before .span2 .result)) (sigsOf (c .span3 .result)) (sym (c .before .before .before .white .ensures) ∙ c .before .before .if5 .taken) (adds-none (num 64 (replicate sigWords 0)) (sigsOf (c .before .span2 .result)) 32 32 (λ x. ap (λ z. holds z x) (empty-words sigWords) ∙ holds-empty x) (c .before .span2 .ensures)) (c .span3 .ensures)
+    leaf-space T n (byteSetOf (c .before .span2 .result)) (byteSetOf (c .span3 .result)) (sym (c .before .before .before .white .ensures) ∙ c .before .before .if5 .taken) (adds-none (num 64 (replicate byteWords 0)) (byteSetOf (c .before .span2 .result)) 32 32 (λ x. ap (λ z. holds z x) (empty-words byteWords) ∙ holds-empty x) (c .before .span2 .ensures)) (c .span3 .ensures)
 
 single-of-requires : tie.Need-single-of-requires
 single-of-requires c κs = search needs
@@ -90,8 +91,8 @@ returns-5 c =
     let T = a .text .now in
     let n = a .at in
     let s = c .before .single-of in
-    leaf-single T n (sigsOf (c .span4 .result)) (s .result .value) (s .result .next) (c .before .before .before .before .before .if1 .left) (c .before .before .before .before .if2 .left) (sym (c .before .before .before .white .ensures) ∙ c .before .before .if5 .left) (s .ensures .2)
-    (adds-none (num 64 (replicate sigWords 0)) (sigsOf (c .span4 .result)) (s .result .value) (s .result .value) (λ x. ap (λ z. holds z x) (empty-words sigWords) ∙ holds-empty x) (c .span4 .ensures))
+    leaf-single T n (byteSetOf (c .span4 .result)) (s .result .value) (s .result .next) (c .before .before .before .before .before .if1 .left) (c .before .before .before .before .if2 .left) (sym (c .before .before .before .white .ensures) ∙ c .before .before .if5 .left) (s .ensures .2)
+    (adds-none (num 64 (replicate byteWords 0)) (byteSetOf (c .span4 .result)) (s .result .value) (s .result .value) (λ x. ap (λ z. holds z x) (empty-words byteWords) ∙ holds-empty x) (c .span4 .ensures))
 
 pub leaf-set-spec : {M : Type 1} → statement M
 leaf-set-spec =

@@ -3,7 +3,7 @@ use borrow.Author.Needs.{needs}
 use native.Mathlib.Omega.{arith}
 use mathlib.Core.Path.{sym, _∙_}
 use mathlib.Core.Logic.{_⊎_, inl, inr, ⊎-elim}
-use Rattle.sets.specs.Set.{sigsOf}
+use Rattle.sets.specs.Set.{byteSetOf}
 use Rattle.text.specs.Grammar.{value}
 use Rattle.text_bytes.proofs.Bytes.{member-white, member-lone, member-range}
 use Rattle.text_bytes.proofs.member_of.Statement.{statement}
@@ -24,7 +24,7 @@ add-t10 c = search needs
 returns : tie.Need-returns
 returns c =
     let a = c .before .before .before .before .before .args in
-    (omega arith, omega arith, member-white (a .text .now) (a .at) (sigsOf (a .set)) (sigsOf (c .before .span .result)) (sigsOf (c .span2 .result)) (sym (c .before .before .before .white .ensures) ∙ c .before .before .if1 .taken) (c .before .span .ensures) (c .span2 .ensures))
+    (omega arith, omega arith, member-white (a .text .now) (a .at) (byteSetOf (a .set)) (byteSetOf (c .before .span .result)) (byteSetOf (c .span2 .result)) (sym (c .before .before .before .white .ensures) ∙ c .before .before .if1 .taken) (c .before .span .ensures) (c .span2 .ensures))
 
 single-of-requires : tie.Need-single-of-requires
 single-of-requires c κs = search needs
@@ -48,7 +48,7 @@ returns-2 c =
     let t = c .before .single-of2 in (
       omega (arith, s .ensures .0, t .ensures .0),
       omega (arith, t .ensures .1),
-      member-range (a .text .now) (a .at) (sigsOf (a .set)) (sigsOf (c .span3 .result)) (s .result .value) (s .result .next) (t .result .value) (t .result .next)
+      member-range (a .text .now) (a .at) (byteSetOf (a .set)) (byteSetOf (c .span3 .result)) (s .result .value) (s .result .next) (t .result .value) (t .result .next)
           (sym (c .before .before .before .before .before .before .before .white .ensures) ∙ c .before .before .before .before .before .before .if1 .left) (s .ensures .2) (c .before .before .before .before .if2 .taken) (c .before .before .if3 .taken) (t .ensures .2) (c .span3 .ensures),
     )
 
@@ -61,7 +61,7 @@ returns-3 c =
     let s = c .before .before .single-of in (
       s .ensures .0,
       omega (arith, s .ensures .1),
-      member-lone (a .text .now) (a .at) (sigsOf (a .set)) (sigsOf (c .span4 .result)) (s .result .value) (s .result .next)
+      member-lone (a .text .now) (a .at) (byteSetOf (a .set)) (byteSetOf (c .span4 .result)) (s .result .value) (s .result .next)
           (sym (c .before .before .before .before .white .ensures) ∙ c .before .before .before .if1 .left) (s .ensures .2) (⊎-elim (λ w. inl (w .0 .taken, w .2 .left)) (λ w. inr (omega (arith, w .left))) (c .before .if2 .came)) (c .span4 .ensures),
     )
 

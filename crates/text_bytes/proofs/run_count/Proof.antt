@@ -5,14 +5,14 @@ use Prim.Native.Nat.{_≤_, _<_, _-_, _+_}
 use lib.ListN.{length}
 use mathlib.Core.Path.{_≡_, ap}
 use mathlib.Core.Bool.{true}
-use Rattle.sets.specs.Set.{sigsOf, holds}
+use Rattle.sets.specs.Set.{byteSetOf, holds}
 use Rattle.text.specs.Records.{runs}
 use Rattle.text_bytes.proofs.Runs.{runs-first, runs-next, runs-none, run-past}
 use Rattle.text_bytes.proofs.run_count.Statement.{statement}
 use Rattle.text_bytes.proofs.run_count.Tie as tie
 
 abbrev Inv-loop : tie.InvT-loop
-Inv-loop set gaps n₀ c₀ n c = (c ≤ 256) × (n ≤ c) × (c < 256 → holds (sigsOf set) c ≡ true) × (n + length (runs (holds (sigsOf set)) (256 - c) c 0) ≡ length (runs (holds (sigsOf set)) 256 0 0))
+Inv-loop set gaps n₀ c₀ n c = (c ≤ 256) × (n ≤ c) × (c < 256 → holds (byteSetOf set) c ≡ true) × (n + length (runs (holds (byteSetOf set)) (256 - c) c 0) ≡ length (runs (holds (byteSetOf set)) 256 0 0))
 
 abbrev μ-loop : tie.MeasureT-loop
 μ-loop set gaps n₀ c₀ n c = 256 - c
@@ -25,9 +25,9 @@ next-byte-requires c κs = search needs
 
 loop-holds : tie.Need-loop-holds Inv-loop μ-loop
 loop-holds c =
-    let s = sigsOf (c .before .before .args .set) in
+    let s = byteSetOf (c .before .before .args .set) in
     let n = c .next-byte .ensures in
-    let g = sigsOf (c .before .others .result) in
+    let g = byteSetOf (c .before .others .result) in
     let e = ap length (runs-first s g (c .before .others .ensures) (c .next-byte .result) n) in
     (n .most, omega arith, n .there, omega arith)
 
@@ -42,16 +42,16 @@ add-n c = search needs
 
 loop-less : tie.Need-loop-less Inv-loop μ-loop
 loop-less c =
-    let s = sigsOf (c .before .before .before .before .before .before .args .set) in
+    let s = byteSetOf (c .before .before .before .before .before .before .args .set) in
     let l = c .before .before .before .loop in
-    let p = run-past s (sigsOf (c .before .before .before .before .before .others .result)) (c .before .before .before .before .before .others .ensures) (l .c) (c .before .next-byte2 .result) (c .before .before .loop-test .taken) (l .inv .2 (c .before .before .loop-test .taken)) (c .before .next-byte2 .ensures) in
+    let p = run-past s (byteSetOf (c .before .before .before .before .before .others .result)) (c .before .before .before .before .before .others .ensures) (l .c) (c .before .next-byte2 .result) (c .before .before .loop-test .taken) (l .inv .2 (c .before .before .loop-test .taken)) (c .before .next-byte2 .ensures) in
     let q = c .next-byte3 .ensures .least (c .before .next-byte2 .ensures .most) in
     omega (arith, c .before .before .loop-test .taken)
 
 loop-again : tie.Need-loop-again Inv-loop μ-loop
 loop-again c =
-    let s = sigsOf (c .before .before .before .before .before .before .args .set) in
-    let g = sigsOf (c .before .before .before .before .before .others .result) in
+    let s = byteSetOf (c .before .before .before .before .before .before .args .set) in
+    let g = byteSetOf (c .before .before .before .before .before .others .result) in
     let l = c .before .before .before .loop in
     let t = c .before .before .loop-test .taken in
     let p = run-past s g (c .before .before .before .before .before .others .ensures) (l .c) (c .before .next-byte2 .result) t (l .inv .2 t) (c .before .next-byte2 .ensures) in
@@ -62,7 +62,7 @@ loop-again c =
 returns : tie.Need-returns Inv-loop μ-loop
 returns c =
     let l = c .before .loop in
-    let e = ap length (runs-none (holds (sigsOf (c .before .before .before .before .args .set))) (l .c) (omega (arith, c .loop-test .left))) in
+    let e = ap length (runs-none (holds (byteSetOf (c .before .before .before .before .args .set))) (l .c) (omega (arith, c .loop-test .left))) in
     (omega (arith, l .inv .3), omega (arith, l .inv .0, l .inv .1))
 
 pub run-count-spec : {M : Type 1} → statement M

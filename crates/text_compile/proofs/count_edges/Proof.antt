@@ -4,7 +4,7 @@ use native.Mathlib.Omega.{arith}
 use Prim.Native.Nat.{_≤_, _-_, _*_, suc}
 use lib.ListN.{length}
 use mathlib.Core.Path.{_≡_, sym, _∙_, ap, subst}
-use Rattle.sets.specs.Set.{setOf, sigsOf, holds}
+use Rattle.sets.specs.Set.{setOf, byteSetOf, holds}
 use Rattle.text.specs.Exp.{size}
 use Rattle.text.specs.Grammar.{Text}
 use Rattle.text.specs.Records.{each, edgesTo}
@@ -57,7 +57,7 @@ loop-again c =
       λ x w0 q.
           let g = r .ensures x w0 (omega (arith, q, c .before .before .before .before .before .before .before .before .pre .0)) (omega (arith, q, c .before .before .before .before .before .loop-test .taken)) in
           edges-more (freeOf x) (expOf x) (l .t) (w .result) (l .total) (l .inv .2 x w0 q)
-          (arrows-count (freeOf x) (expOf x) (l .t) (setOf (r .result .from)) (holds (sigsOf (r .result .letter))) (g .0)
+          (arrows-count (freeOf x) (expOf x) (l .t) (setOf (r .result .from)) (holds (byteSetOf (r .result .letter))) (g .0)
           (a .m) (w .result) (n .result) q (n .ensures .0) (w .ensures .1 (a .m) (c .before .before .before .before .before .before .before .before .pre .0) (subst (Below (setOf (r .result .from))) (sym q) (g .1)))),
     )
 

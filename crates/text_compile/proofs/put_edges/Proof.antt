@@ -4,7 +4,7 @@ use native.Mathlib.Omega.{arith}
 use Prim.Native.Nat.{_≤_, _-_, suc}
 use lib.ListN.{length}
 use mathlib.Core.Path.{_≡_, _∙_, refl, subst}
-use Rattle.sets.specs.Set.{setOf, sigsOf, holds}
+use Rattle.sets.specs.Set.{setOf, byteSetOf, holds}
 use Rattle.text.specs.Exp.{size}
 use Rattle.text.specs.Grammar.{Text}
 use Rattle.text.specs.Records.{each, edgesTo}
@@ -51,7 +51,7 @@ loop-again c =
       λ x w0 q.
           each-with (a .list .now) (l .list) (u .last .0) 0 (l .k) (u .result) (edgesTo (freeOf x) (expOf x)) (l .t) (l .inv .2 x w0 q)
           (subst (λ z. Writes (l .list) (u .last .0) (l .k) z (u .result))
-          (arrows-to (freeOf x) (expOf x) (l .t) (setOf (r .result .from)) (holds (sigsOf (r .result .letter))) (r .ensures x w0 (omega (arith, q, c .before .before .before .before .before .before .before .before .before .before .before .pre .0)) (omega (arith, q, c .before .before .before .before .before .before .before .loop-test .taken)) .0) (a .m) q)
+          (arrows-to (freeOf x) (expOf x) (l .t) (setOf (r .result .from)) (holds (byteSetOf (r .result .letter))) (r .ensures x w0 (omega (arith, q, c .before .before .before .before .before .before .before .before .before .before .before .pre .0)) (omega (arith, q, c .before .before .before .before .before .before .before .loop-test .taken)) .0) (a .m) q)
           (u .ensures)),
     )
 

@@ -10,7 +10,7 @@ use lib.ListN.{length, drop, getD}
 use Rattle.text.specs.Exp.{Exp}
 use Rattle.text.specs.Grammar.{Body, okBody, reads, leafHas}
 use Rattle.text.specs.inner.Heads.{Stop}
-use Rattle.sets.specs.Set.{states, setOf, sigsOf}
+use Rattle.sets.specs.Set.{states, setOf, byteSetOf}
 use Rattle.text_walk.specs.inner.Rows.{cap, rowsSize, Keeps, Sums}
 use Rattle.text_walk.proofs.Sum.{cap-most, cap-least, keeps-refl, keeps-then, keeps-less, seam-keeps, sum-eps, sum-one, sum-plus, sum-opt}
 use Rattle.text_walk.proofs.Copying.{cap-low}
@@ -521,7 +521,7 @@ atom-returns-2 t c =
       omega (arith, g .0),
       w .ensures .kept,
       atom-leaf T (w .last .0) (a .base) (a .at) (u .result) (c .single .result) (c .before .before .before .before .before .before .before .if1 .left) (u .ensures .2)
-          (λ l y ok e. sum-one A (w .last .0) (a .base) (leafHas l) (sigsOf (v .result)) (c .single .result) (v .ensures l y ok e) (w .ensures) g),
+          (λ l y ok e. sum-one A (w .last .0) (a .base) (leafHas l) (byteSetOf (v .result)) (c .single .result) (v .ensures l y ok e) (w .ensures) g),
     )
 
 item-none-end-requires : (t : ℕ) → item-lts.Need-none-end-requires (

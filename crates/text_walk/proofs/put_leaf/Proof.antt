@@ -4,9 +4,10 @@ use native.Mathlib.Omega.{arith}
 use Prim.Native.Nat.{_*_}
 use mathlib.Core.Path.{_≡_, ap, _∙_}
 use lib.ListN.{length}
-use Rattle.sets.specs.Set.{setWords, sigWords, setBytes, placed, sigsOf}
+use Rattle.numbers.specs.Number.{placed}
+use Rattle.sets.specs.Set.{setWords, byteWords, setBytes, byteSetOf}
 use Rattle.sets.proofs.Sets.{words-lt, empty-words}
-use Rattle.sets.proofs.Whole.{sigs-valid-of}
+use Rattle.sets.proofs.Whole.{byte-set-valid-of}
 use Rattle.text_walk.specs.inner.Rows.{rowSize}
 use Rattle.text_walk.proofs.Loops.{leafed, leafed-none}
 use Rattle.text_walk.proofs.put_leaf.Statement.{statement}
@@ -37,12 +38,12 @@ returns : tie.Need-returns
 returns c =
     let s = c .before .before .before .before .before .before .before .before .before .before in
     let a = s .args in
-    leafed (a .rows .now) (c .before .before .before .before .before .before .store .last .1 .0) (c .before .before .store2 .last .1 .0) (a .t) (sigsOf (a .letter)) (s .pre) (c .before .before .before .before .before .before .before .before .if1 .taken) (words-lt sigWords (a .letter .words) (sigs-valid-of (a .letter) _ (s .good .1 .1 .0)))
+    leafed (a .rows .now) (c .before .before .before .before .before .before .store .last .1 .0) (c .before .before .store2 .last .1 .0) (a .t) (byteSetOf (a .letter)) (s .pre) (c .before .before .before .before .before .before .before .before .if1 .taken) (words-lt byteWords (a .letter .words) (byte-set-valid-of (a .letter) _ (s .good .1 .1 .0)))
     (c .before .before .before .before .before .before .store .ensures ∙ ap (λ z. placed (a .rows .now) (rowSize * a .t) (setBytes z)) (empty-words setWords)) (c .before .before .store2 .ensures)
 
 returns-2 : tie.Need-returns-2
 returns-2 c =
-    leafed-none (c .before .before .args .rows .now) (c .before .before .args .t) (sigsOf (c .before .before .args .letter)) (omega arith)
+    leafed-none (c .before .before .args .rows .now) (c .before .before .args .t) (byteSetOf (c .before .before .args .letter)) (omega arith)
 
 pub put-leaf-spec : {M : Type 1} → statement M
 put-leaf-spec =

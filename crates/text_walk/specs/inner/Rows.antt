@@ -7,7 +7,8 @@ use mathlib.Core.Bool.{Bool, true, false, _&&_, _||_, cond}
 use mathlib.Core.List.{List, [], _∷_, _++_}
 use lib.Dec.{leb, ltb, eqb}
 use Rattle.text.specs.Exp.{Exp, one, eps, cat, alt, plus, size, null}
-use Rattle.sets.specs.Set.{states, setSize, sigSize, setOf, sigsOf, num, setAt, sigsAt, holds, join, insert}
+use Rattle.numbers.specs.Number.{num}
+use Rattle.sets.specs.Set.{states, setSize, byteSetSize, setOf, byteSetOf, setAt, byteSetAt, holds, join, insert}
 use Rattle.sets_words.specs.inner.Further.{further}
 use Rattle.text_walk.specs.declared.Shape.{Shape}
 
@@ -47,7 +48,7 @@ cap n = cond (ltb states n) states n
 -- ---- the work place: a row for each state, the set of the states that it may come after and its byte set
 
 abbrev pub rowSize : ℕ
-rowSize = setSize + sigSize
+rowSize = setSize + byteSetSize
 
 abbrev pub rowsSize : ℕ
 rowsSize = rowSize * states
@@ -58,7 +59,7 @@ priorAt R t = setAt R (rowSize * t)
 
 -- the bytes that lead to t
 abbrev pub bytesOf : List ℕ → ℕ → ℕ
-bytesOf R t = sigsAt R (rowSize * t + setSize)
+bytesOf R t = byteSetAt R (rowSize * t + setSize)
 
 -- the row of t stays
 pub record Same (A B : List ℕ) (t : ℕ) : Type 0 where

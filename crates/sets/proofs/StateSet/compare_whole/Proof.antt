@@ -5,9 +5,11 @@ use mathlib.Core.Path.{_≡_, sym, ap, _∙_}
 use Prim.Native.Nat.{ℕ, _≤_, _<_, _-_, _+_, _*_}
 use native.Mathlib.Omega.{arith}
 use lib.ListN.{getD, take, drop}
-use Rattle.sets.specs.Set.{setWords, num, digits, setOf, setBytes, setAt, before, compare}
-use Rattle.sets.proofs.Laws.{Small, small-digits}
-use Rattle.sets.proofs.Bytes.{wordsIn, words-in, words-in-at, compare-word-before, compare-word-after, compare-words-same}
+use Rattle.numbers.specs.Number.{num, digits, before, compare}
+use Rattle.sets.specs.Set.{setWords, setOf, setBytes, setAt}
+use Rattle.numbers.proofs.Laws.{Small, small-digits}
+use Rattle.numbers.proofs.Bytes.{compare-word-before, compare-word-after, compare-words-same}
+use Rattle.sets.proofs.Standing.{wordsIn, words-in, words-in-at}
 use Rattle.sets.proofs.Whole.{valid-of}
 use Rattle.sets.proofs.StateSet.compare_whole.Statement.{statement}
 use Rattle.sets.proofs.StateSet.compare_whole.Tie as tie

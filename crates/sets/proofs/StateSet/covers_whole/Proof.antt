@@ -4,7 +4,8 @@ use mathlib.Core.Path.{_≡_}
 use Prim.Native.Nat.{ℕ, _≤_, _-_, _+_, _*_}
 use native.Mathlib.Omega.{arith}
 use lib.ListN.{getD, take, drop}
-use Rattle.sets.specs.Set.{setWords, num}
+use Rattle.numbers.specs.Number.{num}
+use Rattle.sets.specs.Set.{setWords}
 use Rattle.sets.proofs.Words.{Laid, laid-none, laid-more}
 use Rattle.sets.proofs.Within.{beyond, covers-all}
 use Rattle.sets.proofs.Whole.{valid-of}
