@@ -5,9 +5,8 @@ ghost use Prim.Native.Nat.{_+_, _*_, _^_, _≤_, _<_};
 ghost use lib.ListN.{length};
 ghost use Rattle.numbers.specs.Number.{placed};
 ghost use Rattle.sets.specs.Set.{signatures, size, members, sigsOf};
-ghost use Rattle.rules.specs.Rules.{verdict};
 ghost use Rattle.feed.specs.Engine.{mostOffset, pairsAt};
-ghost use Rattle.feed.specs.Piece.{pieceRules};
+ghost use Rattle.feed.specs.Piece.{otherStart, tooLong};
 ghost use Rattle.feed.specs.inner.Tells.{Unfed, Ends, Tells};
 ghost use Rattle.feed.specs.inner.Told.{TellsAll};
 
@@ -58,18 +57,19 @@ pub fn ended(refusal: u32, bytes: usize, words: usize, len: usize) -> Fed
     }
 }
 
-// The check of a piece at the offset of its flow: the number of the first of the rules 5 and 6 that refuses it, 0 where neither does.
-pub fn piece_refusal(offset: u64, start: u64, piece: &[u8]) -> u32
-    requires { ⌜ offset ≤ mostOffset ⌝ }
-    ensures { λ r. ⌜ r ≡ verdict (pieceRules offset start (now (piece .entry))) ⌝ }
+// Says whether the stated start of a piece is another than the offset of its flow.
+pub fn other_start(offset: u64, start: u64) -> bool
+    ensures { λ r. ⌜ r ≡ otherStart offset start ⌝ }
 {
-    if start != offset {
-        return rules::OTHER_START;
-    }
-    if piece.len() as u64 > MOST_OFFSET - offset {
-        return rules::TOO_LONG;
-    }
-    rules::PASSED
+    start != offset
+}
+
+// Says whether a piece at the offset of its flow ends past the largest offset.
+pub fn too_long(offset: u64, piece: &[u8]) -> bool
+    requires { ⌜ offset ≤ mostOffset ⌝ }
+    ensures { λ r. ⌜ r ≡ tooLong offset (now (piece .entry)) ⌝ }
+{
+    piece.len() as u64 > MOST_OFFSET - offset
 }
 
 // Writes signature s and the offset at word w, where the bit is 1; answers the word after.

@@ -436,7 +436,14 @@ fn flow_refusal(states: usize, flow: &[u8], start: u64, piece: &[u8]) -> u32
     if bad_flow(states, flow) {
         return rules::FLOW_RECORD;
     }
-    feed::piece_refusal(offset_of(flow), start, piece)
+    let offset = offset_of(flow);
+    if feed::other_start(offset, start) {
+        return rules::OTHER_START;
+    }
+    if feed::too_long(offset, piece) {
+        return rules::TOO_LONG;
+    }
+    rules::PASSED
 }
 
 // The check of a feed: the number of the first of the rules 24 and 4 to 6 that refuses it, 0 where none does.
