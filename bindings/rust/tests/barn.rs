@@ -472,9 +472,9 @@ fn the_ordinary_matcher_agrees() {
 
 #[test]
 fn refusals_have_numbers_and_texts() {
-    let numbers: Vec<u32> = (1..=22).chain(24..=28).collect();
-    assert_eq!(Refusal::ALL.iter().map(|refusal| refusal.number()).collect::<Vec<_>>(), numbers);
-    for number in 0..=29 {
+    let numbers: Vec<u32> = Refusal::ALL.iter().map(|refusal| refusal.number()).collect();
+    assert!(numbers[0] > 0 && numbers.windows(2).all(|two| two[0] < two[1]));
+    for number in 0..=99 {
         let refusal = Refusal::from_number(number);
         assert_eq!(refusal.map(Refusal::number), Some(number).filter(|n| numbers.contains(n)));
         assert!(refusal.map_or(true, |refusal| !refusal.to_string().is_empty()));
