@@ -18,7 +18,8 @@ use Rattle.table_build.specs.Words.{fronts}
 use Rattle.table_build.proofs.Outcomes.{build-accepted}
 use Rattle.table_build.proofs.Words.{keeps, empties, fills, short-exactly}
 use Rattle.rules.specs.Words.{Row, None, First, InWords}
-use Rattle.laws.specs.Words.{listWords, lentWords, buildWords}
+use Rattle.laws.specs.Words.{listWords, buildWords}
+use Rattle.laws.proofs.Words.{lentWords}
 use Rattle.laws.specs.Drivers.{BuildKept}
 use Rattle.rules.proofs.Saying.{Says, says-append, tells}
 use Rattle.laws.proofs.Saying.{list-says}

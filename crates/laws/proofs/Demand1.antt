@@ -38,7 +38,7 @@ use Rattle.table_build.proofs.Reached.{unique-build}
 use Rattle.table_build.proofs.Outcomes.{build-accepted}
 use Rattle.table_build.proofs.Words.{keeps, empties, fills}
 use Rattle.rules.specs.Words.{InWords}
-use Rattle.laws.specs.Words.{tableWords, AllRise}
+use Rattle.laws.proofs.Words.{tableWords, AllRise}
 use Rattle.laws.specs.Calls.{wayOf}
 use Rattle.laws.specs.Demands.{Demand1, DemandPrepared}
 use Rattle.index_prepare.proofs.Ends.{unique-prepare}

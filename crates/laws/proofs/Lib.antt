@@ -1,3 +1,4 @@
+pub mod Words
 pub mod Saying
 pub mod Building
 pub mod Preparing

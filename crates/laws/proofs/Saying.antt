@@ -39,7 +39,8 @@ use Rattle.index.specs.Entry.{entryPlace, flagAt, knownIn, wrongIndex, badIndex
 use Rattle.index.specs.Stand.{holdsAt, namedBy, standRules}
 use Rattle.index.proofs.Hints.{holds-said}
 use Rattle.index_fill.specs.Filled.{indexRules}
-use Rattle.laws.specs.Words.{listWords, openingRows, openWords, Foreign, flowWords, feedWords, Highest, lengthWords, fillWords, matrixWords, Miscounted, Misclassed, Mislisted, SlotsGood, Rises, sizeWords, entryWords, tableWords, Unordered, splitWords, Misindexed, indexWords, Misfit, Hinted, Outside, Unnamed, preparedWords}
+use Rattle.laws.specs.Words.{listWords, Foreign, flowWords, feedWords, Highest, lengthWords, Miscounted, Mislisted, SlotsGood, Rises, sizeWords, entryWords, Unordered, Misindexed, Misfit, Hinted, Outside, Unnamed}
+use Rattle.laws.proofs.Words.{openingRows, openWords, fillWords, matrixWords, Misclassed, tableWords, splitWords, indexWords, preparedWords}
 
 -- ---- the rows
 

@@ -1,6 +1,6 @@
 -- The list of engines: by what a call on a flow of a list goes. What each is, and what it owes, stands in its own room; a new one is a line here and its law in proofs/Engines.
 use Prim.Native.Nat.{ℕ}
-use mathlib.Core.List.{List}
+use mathlib.Core.List.{List, [], _∷_, _++_}
 use lib.ListN.{length}
 use Rattle.feed.specs.Lawful.{Means}
 use Rattle.list_feed.specs.Means.{listMeans}
@@ -10,7 +10,7 @@ use Rattle.table_feed.specs.Means.{tableMeans}
 use Rattle.matrix.specs.Means.{matrixMeans}
 use Rattle.index.specs.Means.{standMeans}
 use Rattle.rules.specs.Words.{Row}
-use Rattle.laws.specs.Words.{feedWords, splitWords, matrixWords, preparedWords}
+use Rattle.laws.specs.Words.{feedWords, flowWords, sizeWords, lengthWords, Unordered, Unnamed, Misfit}
 
 -- what a byte counts by an index: the slots that a table takes at the frontier before it, or one row
 pub data Counting : Type 0 where
@@ -34,9 +34,9 @@ meansOf (byTable b T) = tableMeans b T
 meansOf (byMatrix X) = matrixMeans X
 meansOf (byIndex b n S X h) = standMeans b (countBy n) S X h
 
--- the rules of each in words
+-- the rules of each in words: the plain feed 1 to 6; the split feed 1 to 9, 9 for the sets alone; the matrix feed 1 to 6 and 8; the prepared feed 4 to 6 and 8
 abbrev pub wordsBy : Via → List ℕ → List ℕ → ℕ → List ℕ → List Row
-wordsBy byList L = feedWords L
-wordsBy (byTable b T) L = splitWords L b T
-wordsBy (byMatrix X) L = matrixWords L X
-wordsBy (byIndex b n S X h) L = preparedWords S X h
+wordsBy byList L R k piece = feedWords L R k piece
+wordsBy (byTable b T) L R k piece = feedWords L R k piece ++ (sizeWords b T ++ ((9, Unordered (T .splits)) ∷ []))
+wordsBy (byMatrix X) L R k piece = feedWords L R k piece ++ lengthWords L X
+wordsBy (byIndex b n S X h) L R k piece = flowWords (Unnamed S X h R) R k piece ++ ((8, Misfit S X) ∷ [])

@@ -5,17 +5,16 @@ use mathlib.Core.Bool.{true}
 use mathlib.Core.List.{List, [], _∷_, _++_}
 use mathlib.Core.Logic.{_⊎_, _↔_}
 use lib.ListN.{length, getD}
-use Rattle.sets.specs.Set.{states, signatures, setSize, holds, members, setAt}
+use Rattle.sets.specs.Set.{states, setSize, holds, setAt}
 use Rattle.rules.specs.Words.{Row}
 use Rattle.list.specs.List.{recordSize, mostRecords, records}
-use Rattle.list.specs.Automaton.{start, step, accepted}
+use Rattle.list.specs.Automaton.{start, step}
 use Rattle.list.specs.Words.{Edge-bytes, Start-bytes, Accept-bytes, Names-bytes}
 use Rattle.numbers.specs.Order.{Smaller}
 use Rattle.feed.specs.Piece.{pieceWords}
 use Rattle.list_flow.specs.Flow.{flowSize, frontierOf, offsetOf, reservedOf, rowsOf}
 use Rattle.table.specs.Table.{Table, byteValues, mostClass, mostParts, mostSplits, mostBound, splitSize, classCount, partCount, splitCount}
 use Rattle.table.specs.Table.{part, row, splitSet, slots, usedSlots, takenSlots, joined}
-use Rattle.table_feed.specs.Split.{taken}
 use Rattle.table_classes.specs.Classes.{mostClasses}
 use Rattle.table_classes.specs.Words.{Needs}
 use Rattle.table_build.specs.Build.{mostRows, Many}
@@ -29,17 +28,7 @@ listWords L =
     ∷ (3, (i : ℕ) → i < records L → getD L (8 * i) 0 ≡ 2 → ⊥)
     ∷ []
 
--- ---- opening: 1 to 4 and 15; the feeds: 1 to 6
-
--- 15: fewer words than two for each signature that the start set accepts
-abbrev pub openingRows : List ℕ → List ℕ → List ℕ → List Row
-openingRows L R out =
-    (4, length R ≡ flowSize → ⊥)
-    ∷ (15, length out < 2 * length (members signatures (accepted L (start L))))
-    ∷ []
-
-abbrev pub openWords : List ℕ → List ℕ → List ℕ → List Row
-openWords L R out = listWords L ++ openingRows L R out
+-- ---- the feeds: 1 to 6
 
 -- some state of the frontier is one that no record of L names
 abbrev pub Foreign : List ℕ → List ℕ → Type 0
@@ -65,12 +54,6 @@ pub record Highest (L : List ℕ) (n : ℕ) : Type 0 where
 abbrev pub lengthWords : List ℕ → List ℕ → List Row
 lengthWords L X = (8, (n : ℕ) → Highest L n → length X ≡ setSize * (byteValues * suc n) → ⊥) ∷ []
 
-abbrev pub fillWords : List ℕ → List ℕ → List Row
-fillWords L X = listWords L ++ lengthWords L X
-
-abbrev pub matrixWords : List ℕ → List ℕ → List ℕ → ℕ → List ℕ → List Row
-matrixWords L X R k piece = feedWords L R k piece ++ lengthWords L X
-
 -- ---- the table: 7 to 13
 
 -- a list of entries is empty, has more than the most, or a broken one
@@ -88,22 +71,15 @@ pub record SlotsGood (n b : ℕ) (ss : List ℕ) : Type 0 where
 abbrev pub Rises : List ℕ → ℕ → Type 0
 Rises S i = Smaller setSize (λ j. getD S (splitSize * i + j) 0) (λ j. getD S (splitSize * suc i + j) 0)
 
--- the sets of the splits rise
-abbrev pub AllRise : List ℕ → Type 0
-AllRise S = (i : ℕ) → suc i < splitCount S → Rises S i
-
 -- F is the set of no split
 abbrev pub NoSplit : List ℕ → ℕ → Type 0
 NoSplit S F = (j : ℕ) → j < splitCount S → splitSet S j ≡ F → ⊥
 
--- not a class for each byte, or one over the largest
-abbrev pub Misclassed : List ℕ → Type 0
-Misclassed C = (length C ≡ byteValues → ⊥) ⊎ ((i : ℕ) × (i < length C) × (mostClass < getD C i 0))
-
--- a list of the table has the wrong length
+-- a list of the table has the wrong length, or a class is over the largest
 abbrev pub Mislisted : Table → Type 0
 Mislisted T =
-    ((Misclassed (T .classes) ⊎ Miscounted setSize mostParts (T .parts)) ⊎ Miscounted splitSize mostSplits (T .splits))
+    ((((length (T .classes) ≡ byteValues → ⊥) ⊎ ((i : ℕ) × (i < length (T .classes)) × (mostClass < getD (T .classes) i 0)))
+    ⊎ Miscounted setSize mostParts (T .parts)) ⊎ Miscounted splitSize mostSplits (T .splits))
     ⊎ (length (T .rows) ≡ setSize * (partCount (T .parts) * classCount (T .classes)) → ⊥)
 
 abbrev pub sizeWords : ℕ → Table → List Row
@@ -125,28 +101,11 @@ entryWords L b T = (
     ∷ (13, (i : ℕ) × (i < splitCount (T .splits)) × ((c : ℕ) × (c < byteValues) × NoSplit (T .splits) (step L (splitSet (T .splits) i) c)))
     ∷ []
 
-abbrev pub tableWords : List ℕ → ℕ → Table → List Row
-tableWords L b T = listWords L ++ (sizeWords b T ++ entryWords L b T)
-
--- ---- the split feed: 1 to 9, 9 for the sets alone; and 14 at a frontier
-
-abbrev pub splitWords : List ℕ → ℕ → Table → List ℕ → ℕ → List ℕ → List Row
-splitWords L b T R k piece = feedWords L R k piece ++ (sizeWords b T ++ ((9, Unordered (T .splits)) ∷ []))
-
--- no split has the set F, or a slot taken names no part, or more than b are taken
-abbrev pub Stuck : ℕ → Table → ℕ → Type 0
-Stuck b T F =
-    (NoSplit (T .splits) F ⊎ ((i : ℕ) × (i < length (taken T F)) × (partCount (T .parts) ≤ getD (taken T F) i 0)))
-    ⊎ (b < length (taken T F))
-
--- ---- the index of a table: its filler 1 to 3 and 7 to 13; a feed by an index 4 to 6 and 8, and 14 at a place that has no whole entry
+-- ---- the index of a table: 8, and 4 of a feed by it
 
 -- not a set of states, and 1,088 bytes for each split
 abbrev pub Misindexed : List ℕ → List ℕ → Type 0
 Misindexed S X = length X ≡ setSize + 1088 * splitCount S → ⊥
-
-abbrev pub indexWords : List ℕ → ℕ → Table → List ℕ → List Row
-indexWords L b T X = listWords L ++ ((7, (b ≡ 0) ⊎ (mostBound < b)) ∷ (8, Mislisted T ⊎ Misindexed (T .splits) X) ∷ entryWords L b T)
 
 -- splits or an index of a wrong length
 abbrev pub Misfit : List ℕ → List ℕ → Type 0
@@ -164,23 +123,14 @@ Outside X R = (setSize ≤ length X) × ((s : ℕ) × (holds (frontierOf R) s �
 abbrev pub Unnamed : List ℕ → List ℕ → ℕ → List ℕ → Type 0
 Unnamed S X h R = (Hinted S X h R × (getD X (setSize + 1088 * h + 1057) 0 ≡ 0)) ⊎ ((Hinted S X h R → ⊥) × Outside X R)
 
-abbrev pub preparedWords : List ℕ → List ℕ → ℕ → List ℕ → ℕ → List ℕ → List Row
-preparedWords S X h R k piece = flowWords (Unnamed S X h R) R k piece ++ ((8, Misfit S X) ∷ [])
-
 -- ---- the builder: 1 to 3, then 17, then 16
 
--- 17: a lent list is shorter than so many classes, parts, rows or splits
-abbrev pub lentWords : Table → List Row
-lentWords T = (
-  17,
-  (((length (T .classes) < byteValues) ⊎ (length (T .parts) < setSize * mostParts)) ⊎ (length (T .rows) < setSize * mostRows))
-      ⊎ (length (T .splits) < splitSize * mostParts),
-)
-    ∷ []
-
--- 16: one set more can be reached than a table may have parts, or one class more is needed than it may have
+-- 17: a lent list is shorter than so many classes, parts, rows or splits; 16: one set more can be reached than a table may have parts, or one class more is needed than it may have
 abbrev pub buildWords : List ℕ → Table → List Row
-buildWords L T = (listWords L ++ lentWords T) ++ ((16, Many L (suc mostParts) ⊎ Needs L (suc mostClasses)) ∷ [])
+buildWords L T =
+    (listWords L
+    ++ ((17, (((length (T .classes) < byteValues) ⊎ (length (T .parts) < setSize * mostParts)) ⊎ (length (T .rows) < setSize * mostRows)) ⊎ (length (T .splits) < splitSize * mostParts)) ∷ []))
+    ++ ((16, Many L (suc mostParts) ⊎ Needs L (suc mostClasses)) ∷ [])
 
 -- ---- splits and an index straight from a list: 1 to 3, then 17, then 16
 

@@ -5,6 +5,7 @@ use mathlib.Core.List.{List, [], _∷_}
 use lib.ListN.{length, getD, take, drop}
 use lib.Dec.{ltb, eqb}
 use Rattle.numbers.specs.Number.{num}
+pub use Rattle.numbers.specs.Number.{byteValues}
 use Rattle.rules.specs.Scan.{every}
 use Rattle.rules.specs.Rules.{Rule, verdict}
 use Rattle.feed.specs.Engine.{Engine}
@@ -15,9 +16,6 @@ use Rattle.machine.specs.Program.{programLength, recordSize, word, kindO
 
 abbrev pub mostStates : ℕ
 mostStates = 1024
-
-abbrev pub byteValues : ℕ
-byteValues = 256
 
 -- bytes of a state's targets, and of its program
 abbrev pub moveSize : ℕ

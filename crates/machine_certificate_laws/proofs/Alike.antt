@@ -15,7 +15,7 @@ use Rattle.list.specs.List.{listRules, listRefusal}
 use Rattle.list.specs.Automaton.{start}
 use Rattle.feed.specs.Engine.{Engine, run, pairsAt, told}
 use Rattle.feed.specs.Calls.{Bytes, Follows}
-use Rattle.feed.specs.Opening.{noRoom, opening}
+use Rattle.feed.specs.Opening.{Opening, noRoom, opening}
 use Rattle.feed.proofs.Runs.{told-append}
 use Rattle.feed.proofs.Follows.{told-same}
 use Rattle.list_flow.specs.Opening.{openPairs, openRules, opened, openFlow}
@@ -32,7 +32,7 @@ use Rattle.machine_certificate.specs.Certificate.{certificateRefusal}
 use Rattle.machine_certificate.specs.Words.{Recorded, Certified}
 use Rattle.machine_certificate.proofs.Accepts.{certificate-refuses, accepts-exactly, gives-22, list-first, machine-second}
 use Rattle.machine_certificate.proofs.Following.{begins-recorded, opens-same, recorded-leads}
-use Rattle.machine_certificate_laws.specs.Alike.{Demand1, ListFlow, MachineFlow, eatenBy, toldBy, Front, OpenedAlike, Alike, CertifiedAlike}
+use Rattle.machine_certificate_laws.specs.Alike.{Demand1, ListFlow, MachineFlow, eatenBy, toldBy, Front, Alike, CertifiedAlike}
 use Rattle.machine_certificate_laws.proofs.Next.{next-alike}
 
 pub demand-1 : Demand1
@@ -60,6 +60,10 @@ module _ (L M P Z : List ℕ) (ok : certificateRefusal L M P Z ≡ 0) where
   pairs-both bs h = ap₂ (λ (xs ys : List ℕ). xs ++ ys) open-both (told-both bs h)
 
 -- ---- both openings
+
+-- two openings that answer the same and leave the same words
+abbrev pub OpenedAlike : Opening → Opening → Type 0
+OpenedAlike o p = o ≡ record { refusal = p .refusal; pairs = p .pairs; words = p .words; saved = o .saved }
 
 -- what an opening answers goes by what refuses it and by its words
 opened-alike : (rs qs : List Rule) (ws S T R Q out : List ℕ) → verdict rs ≡ verdict qs → OpenedAlike (opening rs ws S R out) (opening qs ws T Q out)

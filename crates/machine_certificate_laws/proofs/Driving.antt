@@ -21,9 +21,9 @@ use Rattle.machine_laws.specs.Calls.{Call}
 use Rattle.machine_laws.specs.Drivers.{outcomeOf}
 use Rattle.machine_laws.proofs.Demand1 as machine
 use Rattle.machine_certificate.specs.Certificate.{certificateRules, certificateRefusal}
-use Rattle.machine_certificate_laws.specs.Alike.{ListFlow, MachineFlow, eatenBy, toldBy, OpenedAlike, Alike}
+use Rattle.machine_certificate_laws.specs.Alike.{ListFlow, MachineFlow, eatenBy, toldBy, Alike}
 use Rattle.machine_certificate_laws.specs.Drivers.{Begun, byList, byMachine, wordsMade, bytesMade, BothDriven}
-use Rattle.machine_certificate_laws.proofs.Alike.{list-swaps, alike}
+use Rattle.machine_certificate_laws.proofs.Alike.{OpenedAlike, list-swaps, alike}
 
 due-as : (L bs cs ws vs : List ℕ) → bs ≡ cs → ws ≡ vs → Due L bs ws → Due L cs vs
 due-as L bs cs ws vs p q h = rw (p, q) at h

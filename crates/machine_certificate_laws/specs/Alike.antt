@@ -70,14 +70,11 @@ MachineFlow M P = Flow (asked wayOf) (extendedOpen M P) (By M P)
 abbrev pub Front : List ℕ → List ℕ → Type 0
 Front xs ys = (rest : List ℕ) × (xs ++ rest ≡ ys)
 
--- two openings that answer the same and leave the same words
-abbrev pub OpenedAlike : Opening → Opening → Type 0
-OpenedAlike o p = o ≡ record { refusal = p .refusal; pairs = p .pairs; words = p .words; saved = o .saved }
-
 pub record Alike (L M P : List ℕ) : Type 0 where
   -- with the same words lent, and each a record of its right length, or neither, both openings answer alike: the same refusal, 15 too, the same
   -- pairs of offset 0, and the same words left
-  pub opens : (R Q out : List ℕ) → (length R ≡ 144) ↔ (length Q ≡ 80) → OpenedAlike (openFlow L R out) (extendedOpen M P Q out)
+  pub opens : (R Q out : List ℕ) → (length R ≡ 144) ↔ (length Q ≡ 80)
+      → let p = extendedOpen M P Q out in openFlow L R out ≡ record { refusal = p .refusal; pairs = p .pairs; words = p .words; saved = openFlow L R out .saved }
   -- where both consumed the same bytes, both told the same words: the same pairs in the same order, those of offset 0 included,
   -- whatever the pieces, the rooms, the pauses and the refusals between
   pub told : (f : ListFlow L) (g : MachineFlow M P) → eatenBy f ≡ eatenBy g → toldBy f ≡ toldBy g

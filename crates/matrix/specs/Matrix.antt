@@ -5,6 +5,7 @@ use mathlib.Core.List.{List, [], _∷_, _++_}
 use mathlib.Core.Path.{_≡_}
 use lib.ListN.{length}
 use lib.Dec.{eqb}
+pub use Rattle.numbers.specs.Number.{byteValues}
 use Rattle.sets.specs.Set.{states, setSize, holds, join, size, setBytes, setAt}
 use Rattle.rules.specs.Scan.{stack}
 use Rattle.rules.specs.Rules.{Rule, verdict}
@@ -12,10 +13,6 @@ use Rattle.list.specs.List.{listRules}
 use Rattle.list.specs.Automaton.{step, accepted, highest}
 use Rattle.feed.specs.Engine.{Engine, Outcome, feed}
 use Rattle.list_flow.specs.Flow.{flowLayout, feedRules}
-
--- bytes that a piece may have
-abbrev pub byteValues : ℕ
-byteValues = 256
 
 -- ---- its size
 

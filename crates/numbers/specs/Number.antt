@@ -5,6 +5,10 @@ use mathlib.Core.Bool.{Bool, true, false, _&&_, _||_, cond}
 use lib.ListN.{length, take, drop}
 use lib.Dec.{leb, ltb, eqb}
 
+-- as many values as a byte has
+abbrev pub byteValues : ℕ
+byteValues = 256
+
 -- the number whose digits of k bits are the list's, lowest first
 unfoldable pub num : ℕ → List ℕ → ℕ
 num k [] = 0

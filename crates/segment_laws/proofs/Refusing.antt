@@ -1,9 +1,9 @@
 -- Demand 1 of segments: each refusal at the door in words, what it leaves, and what is answered behind it. Assumes nothing.
-use Prim.Native.Nat.{ℕ}
+use Prim.Native.Nat.{ℕ, _<_}
 use mathlib.Core.Path.{_≡_, refl, sym}
 use mathlib.Core.Bool.{Bool, true, false, cond, true≢false}
 use mathlib.Core.List.{List, [], _∷_}
-use mathlib.Core.Logic.{inl, inr, _↔_, ⊎-elim}
+use mathlib.Core.Logic.{_⊎_, inl, inr, _↔_, ⊎-elim}
 use native.Mathlib.Omega.{arith}
 use lib.ListN.{length}
 use Rattle.rules.specs.Rules.{verdict}
@@ -15,12 +15,12 @@ use Rattle.laws.specs.Calls.{wayOf}
 use Rattle.laws.proofs.Demand1.{demand-1}
 use Rattle.machine_laws.specs.Calls as machines
 use Rattle.machine_laws.proofs.Demand1.{feed-tells}
-use Rattle.segment.specs.Resend.{badSizes}
+use Rattle.segment.specs.Resend.{mostSegment, heldSize, badSizes}
 use Rattle.segment.proofs.Words.{bad-sizes}
 use Rattle.segment_feed.specs.Segment.{Sent, Kept, doorRules}
 use Rattle.segment_feed.proofs.Said.{refused-not-all, door-refused, taking-answers}
 use Rattle.segment_index.proofs.Standing.{door-stood}
-use Rattle.segment_laws.specs.Streams.{segmentWords, SegmentRefuses, SegmentsRefuse, MachineSegmentsRefuse, HintsKept}
+use Rattle.segment_laws.specs.Streams.{SegmentRefuses, SegmentsRefuse, MachineSegmentsRefuse, HintsKept}
 
 -- a row before the others: its number where its words hold, else theirs
 first-row : (k : ℕ) (b : Bool) (P : Type 0) (ws : List Row) (n : ℕ) → (k ≡ 0 → ⊥) → (b ≡ true ↔ P) → InWords ws n → InWords ((k, P) ∷ ws) (cond b k n)
@@ -35,6 +35,10 @@ first-row k false P ws n z h w =
       passes = (λ e. (not, w .passes .0 e), λ e. w .passes .1 (e .1));
       gives = λ m y. (λ e. inr (not, w .gives m y .0 e), λ e. ⊎-elim (λ f. absurd (not (f .1))) (λ f. w .gives m y .1 (f .1)) e);
     }
+
+-- the refusals in words
+abbrev segmentWords : List Row → Sent → Kept → List Row
+segmentWords ws g S = (18, ((mostSegment < length (g .bytes)) ⊎ (length (S .held) ≡ heldSize → ⊥)) ⊎ (heldSize < S .length)) ∷ ws
 
 -- number by number: 18 first, then the feed's
 door-said : (W : Way) (ws : List Row) (g : Sent) (S : Kept) → InWords ws (verdict (W .rules (S .flow) (W .layout .offset (S .flow)) [])) → InWords (segmentWords ws g S) (verdict (doorRules W g S))

@@ -53,13 +53,10 @@ MachineRestarts =
 
 -- ---- demand 1 of segments, by any way whose rules for a feed of no bytes are in words the rows `ws`
 
--- the refusals in words: 18 first, for a segment over 65,535 bytes, a held buffer not of 4,096 or a held length over that; then those of the feed, of no bytes from the flow's own offset
-abbrev pub segmentWords : List Row → Sent → Kept → List Row
-segmentWords ws g S = (18, ((mostSegment < length (g .bytes)) ⊎ (length (S .held) ≡ heldSize → ⊥)) ⊎ (heldSize < S .length)) ∷ ws
-
 pub record SegmentRefuses (W : Way) (ws : List Row) (g : Sent) (S : Kept) (out : List ℕ) : Type 0 where
-  -- each number exactly when its words hold and those of no row before it do
-  pub said : InWords (segmentWords ws g S) (verdict (doorRules W g S))
+  -- each number exactly when its words hold and those of no row before it do: 18 first, for a segment over 65,535 bytes, a held buffer not of 4,096 or a held length over that; then those
+  -- of the feed, of no bytes from the flow's own offset
+  pub said : InWords ((18, ((mostSegment < length (g .bytes)) ⊎ (length (S .held) ≡ heldSize → ⊥)) ⊎ (heldSize < S .length)) ∷ ws) (verdict (doorRules W g S))
   -- then it is the answer: no byte is passed down, no pair told, not all; and no buffer changes, nor the held place
   pub refused : (verdict (doorRules W g S) ≡ 0 → ⊥) → feedSegment W g S out ≡ unheard (verdict (doorRules W g S)) S out
   -- one that none of them refuses, and of which nothing is due, answers what taking it answers: 18 where it can't be held

@@ -5,6 +5,7 @@ use mathlib.Core.List.{List, [], _∷_, _++_}
 use lib.ListN.{length, getD}
 use lib.Dec.{leb, ltb, eqb}
 use Rattle.numbers.specs.Number.{before}
+pub use Rattle.numbers.specs.Number.{byteValues}
 use Rattle.sets.specs.Set.{setSize, bytesAt, setAt, join}
 use Rattle.rules.specs.Scan.{some, every, first, rising}
 use Rattle.rules.specs.Rules.{Rule, verdict}
@@ -23,10 +24,7 @@ table C P W S = record { classes = C; parts = P; rows = W; splits = S }
 
 -- ---- what the lists hold
 
--- bytes that a piece may have, one class for each; the largest class; the most parts and splits; the largest bound
-abbrev pub byteValues : ℕ
-byteValues = 256
-
+-- the largest class; the most parts and splits; the largest bound
 abbrev pub mostClass : ℕ
 mostClass = 63
 

@@ -52,7 +52,7 @@ module _ (L R out piece more : List ℕ) (r : Served) (ws vs : List ℕ) (t : Tr
   tried-passes p = (
     t .checked ∙ p .lists,
     subst Past (sym (t .opens .refusal)) (p .opens R out),
-    subst Past (sym (fed .refusal)) (p .feeds (o .saved) 0 piece more),
+    subst Past (sym (fed .refusal)) (p .feeds byList (o .saved) 0 piece more),
   )
 
   eaten : allBytes (asked wayOf) (o .saved) (c ∷ []) ≡ take (r .fed .bytes) piece

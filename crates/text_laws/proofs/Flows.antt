@@ -12,18 +12,16 @@ use Rattle.rules.specs.Rules as rules
 use Rattle.rules.proofs.Rules.{verdict-then}
 use Rattle.list.specs.List.{listRules, listRefusal}
 use Rattle.feed.specs.Calls.{Bytes, outcome, asked, allBytes, allTold, Pieces, Along}
-use Rattle.list_flow.specs.Flow.{offsetOf}
 use Rattle.list_flow.specs.Opening.{openPairs, openFlow, opened}
-use Rattle.list_feed.specs.Plain.{plainFeed, pairsOf}
 use Rattle.table.specs.Table.{Table}
-use Rattle.table_feed.specs.Split.{splitFeed}
 use Rattle.machine.specs.Machine.{badMachine, machineRules}
 use Rattle.machine_certificate.specs.Certificate.{badCertificate}
 use Rattle.rules.specs.Words.{Row, None, First, InWords}
-use Rattle.laws.specs.Words.{listWords, openingRows, Foreign, flowWords, lengthWords, sizeWords, entryWords, Unordered, lentWords}
+use Rattle.laws.specs.Words.{listWords, Foreign, flowWords, lengthWords, sizeWords, entryWords, Unordered, Misfit, Unnamed}
+use Rattle.laws.proofs.Words.{openingRows}
 use Rattle.feed.specs.Demands.{openTold}
 use Rattle.laws.proofs.Engines.{calls-bytes}
-use Rattle.laws.specs.Calls.{Via, byList, byTable, byMatrix, wordsBy, Call, wayOf}
+use Rattle.laws.specs.Calls.{Via, byList, byTable, byMatrix, byIndex, wordsBy, Call, wayOf}
 use Rattle.laws.specs.Demands.{Swaps}
 use Rattle.laws.proofs.Demand1.{demand-1}
 use Rattle.laws.proofs.Swapping.{swapped}
@@ -35,7 +33,6 @@ use Rattle.text_compile.specs.Words.{Reading}
 use Rattle.text_compile.proofs.Exactly.{compile-wrote}
 use Rattle.text_laws.specs.Language.{EndsIn, RecordsRise}
 use Rattle.text_laws.specs.Flows.{front, Past, PassesAll, Tells, Serves, CompiledServes}
-use Rattle.segment_feed.specs.Ways.{plainWay, splitWay}
 use Rattle.text_laws.proofs.Segments.{segment-past}
 use Rattle.text_laws.proofs.Pairs.{compiled-rises, compiled-passes, compiled-pairs}
 
@@ -79,37 +76,37 @@ module _ (L : List ℕ) (z : listRefusal L ≡ 0) where
         opens = λ R out. past (openingRows L R out) _ (omega arith, (omega arith, tt)) (demand-1 .opens-said L R out);
         feeds = fed;
         fills = λ X n left f. past (lengthWords L X) n (omega arith, tt) (demand-1 .fills-said L X n left f);
-        matrices = λ X R at piece out.
-            fed-past R (callBy (byMatrix X) at piece out) (flowWords (Foreign L R) R at piece ++ lengthWords L X) (omega arith, (omega arith, (omega arith, (omega arith, tt)))) (λ n f. f) _ refl;
         tables = λ b T. past (sizeWords b T ++ entryWords L b T) _ (omega arith, (omega arith, (omega arith, (omega arith, (omega arith, (omega arith, (omega arith, tt))))))) (demand-1 .tables-said L b T);
-        splits = split;
         indexes = λ b T X n left f. past _ n (omega arith, (omega arith, (omega arith, (omega arith, (omega arith, (omega arith, (omega arith, tt))))))) (demand-1 .indexes-said L b T X n left f);
         builds = λ T o f. past _ (o .refusal) (omega arith, (omega arith, tt)) (demand-1 .builds-said L T o f);
         certificates = λ M P Z. subst Past (sym (verdict-then (listRules L) (machineRules M P ++ ((22, badCertificate L M P Z) ∷ [])) refl z)) (certificate-past (badMachine M P) (badCertificate L M P Z));
-        segments = segment-past (plainWay L) (λ R d out. fed R (offsetOf R) d out);
-        split-segments = λ b T. segment-past (splitWay L b T) (λ R d out. split b T R (offsetOf R) d out);
+        segments = λ v. let W = wayOf (record { list = L; via = v }) in segment-past W (λ R d out. fed v R (W .layout .offset R) d out);
       }
     where
       callBy : Via → ℕ → List ℕ → List ℕ → Call
       callBy via at piece out = record { by = record { list = L; via = via }; at = at; piece = piece; out = out }
 
-      -- a feed whose words begin with those of the list
-      fed-past : (R : List ℕ) (c : Call) (ws : List Row) → Over ws → ((n : ℕ) → First (wordsBy (c .by .via) (c .by .list) R (c .at) (c .piece)) n → First (listWords L ++ ws) n)
-          → (n : ℕ) → outcome wayOf R c .refusal ≡ n → Past n
-      fed-past R c ws o f zero e = inl refl
-      fed-past R c ws o f (suc n) e = elim (ℕ-discrete (suc n) 14) [
+      behind-list : (ws : List Row) → Over ws → (n : ℕ) → First (listWords L ++ ws) n → 3 < n
+      behind-list ws o n f = first-over ws n o (skip ws n f)
+
+      -- of the words of a feed none up to 3 is the first: its list passes, or it has no such words
+      over : (v : Via) (R : List ℕ) (at : ℕ) (piece : List ℕ) (n : ℕ) → First (wordsBy v L R at piece) n → 3 < n
+      over byList R at piece = behind-list (flowWords (Foreign L R) R at piece) (omega arith, (omega arith, (omega arith, tt)))
+      over (byTable b T) R at piece =
+          behind-list (flowWords (Foreign L R) R at piece ++ (sizeWords b T ++ ((9, Unordered (T .splits)) ∷ [])))
+          (omega arith, (omega arith, (omega arith, (omega arith, (omega arith, (omega arith, tt))))))
+      over (byMatrix X) R at piece = behind-list (flowWords (Foreign L R) R at piece ++ lengthWords L X) (omega arith, (omega arith, (omega arith, (omega arith, tt))))
+      over (byIndex b c S X h) R at piece = λ n. first-over (flowWords (Unnamed S X h R) R at piece ++ ((8, Misfit S X) ∷ [])) n (omega arith, (omega arith, (omega arith, (omega arith, tt))))
+
+      fed-past : (R : List ℕ) (c : Call) → ((n : ℕ) → First (wordsBy (c .by .via) (c .by .list) R (c .at) (c .piece)) n → 3 < n) → (n : ℕ) → outcome wayOf R c .refusal ≡ n → Past n
+      fed-past R c o zero e = inl refl
+      fed-past R c o (suc n) e = elim (ℕ-discrete (suc n) 14) [
         | yes q ↦ inr (omega (arith, q))
-        | no q ↦ let z : suc n ≡ 0 → ⊥ = (λ y. omega (arith, y)) in
-            inr (first-over ws (suc n) o (skip ws (suc n) (f (suc n) (demand-1 .feeds-said R c .gives (suc n) z .0 (demand-1 .feeds R c .ruled (suc n) z q .0 e)))))
+        | no q ↦ let z : suc n ≡ 0 → ⊥ = (λ y. omega (arith, y)) in inr (o (suc n) (demand-1 .feeds-said R c .gives (suc n) z .0 (demand-1 .feeds R c .ruled (suc n) z q .0 e)))
       ]
 
-      fed : (R : List ℕ) (at : ℕ) (piece out : List ℕ) → Past (plainFeed L R at piece out .refusal)
-      fed R at piece out = fed-past R (callBy byList at piece out) (flowWords (Foreign L R) R at piece) (omega arith, (omega arith, (omega arith, tt))) (λ n f. f) _ refl
-
-      split : (b : ℕ) (T : Table) (R : List ℕ) (at : ℕ) (piece out : List ℕ) → Past (splitFeed L b T R at piece out .refusal)
-      split b T R at piece out =
-          fed-past R (callBy (byTable b T) at piece out) (flowWords (Foreign L R) R at piece ++ (sizeWords b T ++ ((9, Unordered (T .splits)) ∷ [])))
-          (omega arith, (omega arith, (omega arith, (omega arith, (omega arith, (omega arith, tt)))))) (λ n f. f) _ refl
+      fed : (v : Via) (R : List ℕ) (at : ℕ) (piece out : List ℕ) → Past (outcome wayOf R (callBy v at piece out) .refusal)
+      fed v R at piece out = fed-past R (callBy v at piece out) (over v R at piece) _ refl
 
 -- ---- the list of a text
 

@@ -6,20 +6,17 @@ use mathlib.Core.List.{List, _++_}
 use mathlib.Core.Logic.{_⊎_, _↔_}
 use lib.ListN.{length, take}
 use Rattle.list.specs.List.{listRefusal}
-use Rattle.feed.specs.Calls.{Bytes, asked, allBytes, allTold}
+use Rattle.feed.specs.Calls.{Bytes, outcome, asked, allBytes, allTold}
 use Rattle.feed.specs.Pairs.{Pair, Before}
 use Rattle.list_flow.specs.Opening.{openFlow}
-use Rattle.list_feed.specs.Plain.{plainFeed}
 use Rattle.table.specs.Table.{Table, tableRefusal}
-use Rattle.table_feed.specs.Split.{splitFeed}
-use Rattle.matrix.specs.Matrix.{Fills, matrixFeed}
+use Rattle.matrix.specs.Matrix.{Fills}
 use Rattle.index_fill.specs.Filled.{FillsIndex}
 use Rattle.table_build.specs.Build.{Building, Builds}
 use Rattle.machine_certificate.specs.Certificate.{certificateRefusal}
-use Rattle.segment_feed.specs.Segment.{Sent, Kept, Heard}
-use Rattle.segment_feed.specs.Ways.{plainSegment, splitSegment}
+use Rattle.segment_feed.specs.Segment.{Sent, Kept, feedSegment}
 use Rattle.feed.specs.Demands.{openTold, Onward}
-use Rattle.laws.specs.Calls.{wayOf}
+use Rattle.laws.specs.Calls.{Via, wayOf}
 use Rattle.laws.specs.Demands.{Swaps}
 use Rattle.text.specs.Grammar.{Text}
 use Rattle.text_compile.specs.declared.Compiled.{Compiled}
@@ -39,16 +36,14 @@ Past n = (n ≡ 0) ⊎ (3 < n)
 pub record PassesAll (L : List ℕ) : Type 0 where
   pub lists : listRefusal L ≡ 0
   pub opens : (R out : List ℕ) → Past (openFlow L R out .refusal)
-  pub feeds : (R : List ℕ) (at : ℕ) (piece out : List ℕ) → Past (plainFeed L R at piece out .refusal)
+  -- by the list alone, through a table, by a matrix or by an index
+  pub feeds : (v : Via) (R : List ℕ) (at : ℕ) (piece out : List ℕ) → Past (outcome wayOf R (record { by = record { list = L; via = v }; at = at; piece = piece; out = out }) .refusal)
   pub fills : (X : List ℕ) (refusal : ℕ) (left : List ℕ) → Fills L X refusal left → Past refusal
-  pub matrices : (X R : List ℕ) (at : ℕ) (piece out : List ℕ) → Past (matrixFeed L X R at piece out .refusal)
   pub tables : (b : ℕ) (T : Table) → Past (tableRefusal L b T)
-  pub splits : (b : ℕ) (T : Table) (R : List ℕ) (at : ℕ) (piece out : List ℕ) → Past (splitFeed L b T R at piece out .refusal)
   pub indexes : (b : ℕ) (T : Table) (X : List ℕ) (refusal : ℕ) (left : List ℕ) → FillsIndex L b T X refusal left → Past refusal
   pub builds : (T : Table) (o : Building) → Builds L T o → Past (o .refusal)
   pub certificates : (M P Z : List ℕ) → Past (certificateRefusal L M P Z)
-  pub segments : (g : Sent) (S : Kept) (out : List ℕ) → Past (plainSegment L g S out .refusal)
-  pub split-segments : (b : ℕ) (T : Table) (g : Sent) (S : Kept) (out : List ℕ) → Past (splitSegment L b T g S out .refusal)
+  pub segments : (v : Via) (g : Sent) (S : Kept) (out : List ℕ) → Past (feedSegment (wayOf (record { list = L; via = v })) g S out .refusal)
 
 -- ws are the pairs of the language of x on the bytes bs: (g, k) exactly where the first k bytes end in a word of it, k = 0 too; by offset, each once
 pub record Tells (x : Text) (g : ℕ) (bs ws : List ℕ) : Type 0 where

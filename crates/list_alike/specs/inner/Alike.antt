@@ -4,12 +4,10 @@ use mathlib.Core.Path.{_≡_}
 use mathlib.Core.Bool.{Bool, _&&_, _||_, not}
 use mathlib.Core.List.{List}
 use lib.ListN.{getD}
+pub use Rattle.numbers.specs.Number.{byteValues}
 use Rattle.rules.specs.Scan.{every}
 use Rattle.list.specs.List.{records}
 use Rattle.list.specs.Automaton.{edge, step}
-
-abbrev pub byteValues : ℕ
-byteValues = 256
 
 -- record i is an edge that both bytes take, or one that neither takes
 abbrev pub alikeAt : List ℕ → ℕ → ℕ → ℕ → Bool
