@@ -385,10 +385,10 @@ extern "C" {
 
 /* (face: sizes) */
 /* The version of the face. */
-#define WATCH_VERSION 19
+#define WATCH_VERSION 20
 
 /* Bytes of stack that a call takes at most, but for one of watch_compile. */
-#define WATCH_MOST_STACK 38848
+#define WATCH_MOST_STACK 39232
 
 /* Bytes of stack that a call of watch_compile takes at most. */
 #define WATCH_COMPILE_STACK 230592

@@ -3,7 +3,7 @@
 //! the numbers to the constants of the proved code.
 
 /// The version of the face.
-pub const VERSION: u32 = 19;
+pub const VERSION: u32 = 20;
 
 /// States are the numbers below this one.
 pub const STATES: usize = 1024;

@@ -21,7 +21,7 @@ use Rattle.watch_c.specs.declared.WatchStood.{WatchStood}
 
 -- the version of the face, which rises with each change of a name, a size, a limit or a meaning in it
 abbrev pub version : ℕ
-version = 19
+version = 20
 
 -- the same four values
 pub record Faces (f : Fed) (w : WatchFed) : Type 0 where

@@ -34,7 +34,7 @@ ghost use Rattle.segment_machine.specs.Ways.{machineSegment};
 ghost use Rattle.watch_c.specs.Segments.{faceHeard, faceHeardAt};
 
 // The version of the face, by which a caller compares its header with the archive.
-pub const VERSION: u32 = 19;
+pub const VERSION: u32 = 20;
 
 // What a feed answers, as C lays it out.
 #[repr(C)]
