@@ -1,6 +1,6 @@
--- What holds of every feed, by any way, and of each call of a kind. Assumes nothing.
+-- What holds of every feed, by any way. Assumes nothing.
 use Prim.Native.Nat.{ℕ}
-use mathlib.Core.Path.{◌≡◌, refl, sym, ◌∙◌}
+use mathlib.Core.Path.{◌≡◌, refl, sym}
 use mathlib.Core.Bool.{Bool, true, ◌&&◌, cond, true≢false}
 use mathlib.Core.List.{List}
 use mathlib.Core.Logic.{◌↔◌}
@@ -10,10 +10,8 @@ use lib.ListN.{length, take}
 use lib.Dec.{ltb, eqb}
 use borrow.Author.Tests.{eq-eqb, eqb-true, le-ltb}
 use Rattle.rules.specs.Rules.{Rule, verdict}
-use Rattle.rules.specs.Words.{Row, InWords}
 use Rattle.feed.specs.Engine.{Engine, Layout, room, ended, feed}
-use Rattle.feed.specs.Calls.{Way, Call, outcome, ruled}
-use Rattle.feed.specs.Demands.{Unchanged, Longest, EachFeed, EachCall}
+use Rattle.feed.specs.Demands.{Unchanged, Longest, EachFeed}
 use Rattle.feed.proofs.Runs.{consumed-most, consumed-fits, consumed-longest}
 use Rattle.feed.proofs.Going.{unfed}
 use Rattle.feed.proofs.Halts.{by-rule, first-free, by-none, by-halt, kept}
@@ -65,14 +63,3 @@ each-feed W R at piece out =
       pairs-fit = omega (arith, feed-fits E K R rules piece out);
       moves = feed-moves E K R rules piece out;
     }
-
--- calls of a kind whose rules are those of the words, and pass no other start than the flow's offset
-module _ {B : Type 0} (way : B → Way) (words : B → List ℕ → ℕ → List ℕ → List Row)
-    (tells : (R : List ℕ) (c : Call B) → InWords (words c.by R c.at c.piece) (verdict (ruled way R c)))
-    (starts : (R : List ℕ) (c : Call B) → verdict (ruled way R c) ≡ 0 → c.at ≡ (way c.by).layout.offset R) where
-  -- one that a rule refuses is refused, and changes nothing
-  not-passed : (R : List ℕ) (c : Call B) → (verdict (ruled way R c) ≡ 0 → ⊥) → ((outcome way R c).refusal ≡ 0 → ⊥) × Unchanged R c.out (outcome way R c)
-  not-passed R c v = let f = (each-feed (way c.by) R c.at c.piece c.out).refused v in (λ z. v (sym f.0 ∙ z), f.1)
-
-  pub each-call : EachCall way words
-  each-call = record { said = tells; elsewhere = λ R c e. not-passed R c (λ v. e (starts R c v)) }

@@ -1,6 +1,6 @@
 -- One engine follows another: over the same bytes the same pairs, the same cuts, and related configurations. Assumes nothing.
 use Prim.Native.Nat.{ℕ, suc, ◌+◌, ◌*◌, ◌-◌, ◌≤◌, ◌<◌}
-use mathlib.Core.Path.{◌≡◌, refl, ap, ◌∙◌}
+use mathlib.Core.Path.{◌≡◌, refl, sym, ap, ap₂, ◌∙◌}
 use mathlib.Core.List.{List, [], ◌∷◌}
 use lib.ListN.{length}
 use Rattle.sets.specs.Set.{signatures, members}
@@ -45,7 +45,8 @@ module _ {C D : Type 0} (E : Engine C) (G : Engine D) (Rel : C → D → Type 0)
   unfolding costs
   costs-same H q g x y [] r h = refl
   costs-same H q g x y (c ∷ cs) r h =
-      rw (g x y r, costs-same H q g (E.next x c) (G.next y c) cs (f.stays x y c (h 0) r) (λ i. h (suc i)), q)
+      ap₂ (λ (m n : ℕ). m + n) (g x y r) (costs-same H q g (E.next x c) (G.next y c) cs (f.stays x y c (h 0) r) (λ i. h (suc i)))
+      ∙ ap (λ (s : D → ℕ → D). H.cost y + costs H (s y c) cs) (sym q)
 
 -- engines that move alike run alike
 pub run-next : {D : Type 0} (H G : Engine D) → H.next ≡ G.next → (y : D) (cs : List ℕ) → run H y cs ≡ run G y cs

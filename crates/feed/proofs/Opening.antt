@@ -17,7 +17,7 @@ use Rattle.numbers.proofs.Placing.{placed-fits}
 use Rattle.rules.specs.Rules.{Rule, verdict}
 use Rattle.rules.proofs.Scanning.{choose}
 use Rattle.rules.proofs.Rules as rules
-use Rattle.rules.proofs.Rules.{distinct, last, passes-front, verdict-then, verdict-refused}
+use Rattle.rules.proofs.Rules.{distinct, refuses, last, passes-front, verdict-then, verdict-refused}
 use Rattle.feed.specs.declared.Opened.{Opened}
 use Rattle.feed.specs.Pairs.{Pair, Before}
 use Rattle.feed.specs.Engine.{Engine, room, run, pairs_at, told}
@@ -73,7 +73,7 @@ module _ (rules : List Rule) (ws Q R out : List ℕ) where
 -- ---- rules, of which the room's comes last, and the words of m pairs, at most one for each signature
 
 module _ (early : List Rule) (ws Q R out : List ℕ) (m : ℕ) (even : length ws ≡ 2 * m) (most : m ≤ signatures)
-    (front : distinct early ≡ true) (other : verdict early ≡ 15 → ⊥) where
+    (apart : distinct (early ++ ((15, no_room ws out) ∷ [])) ≡ true) (front : distinct early ≡ true) (other : verdict early ≡ 15 → ⊥) where
   abbrev all : List Rule
   all = early ++ ((15, no_room ws out) ∷ [])
 
@@ -94,10 +94,11 @@ module _ (early : List Rule) (ws Q R out : List ℕ) (m : ℕ) (even : length ws
         | no v ↦ verdict-refused early ((15, no_room ws out) ∷ []) v
       ]
 
-  pub one-opening : OneOpening ws Q R out (opening (early ++ ((15, no_room ws out) ∷ [])) ws Q R out)
+  pub one-opening : OneOpening early ws Q R out (opening (early ++ ((15, no_room ws out) ∷ [])) ws Q R out)
   one-opening =
       let e = opening-refusal all ws Q R out in
       record {
+        refuses = rw e (refuses all apart);
         unchanged = λ v. rw (unopened all ws Q R out (λ z. v (e ∙ z))) refl;
         passes = λ z. let v = sym e ∙ z in (opening-tells all ws Q R out m even v, ap (λ (o : Opening). o.saved) (opens all ws Q R out v));
         words-stay = opening-rest all ws Q R out m even;

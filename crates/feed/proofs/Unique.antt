@@ -20,6 +20,15 @@ use Rattle.feed.specs.declared.Opened.{Opened}
 pub unique-piece-refusal : (r q k at : ℕ) (piece : List ℕ) → r ≡ verdict (piece_rules k at piece) → q ≡ verdict (piece_rules k at piece) → r ≡ q
 unique-piece-refusal r q k at piece e f = e ∙ sym f
 
+-- a test of a piece has one answer
+pub unique-test : (r q b : Bool) → r ≡ b → q ≡ b → r ≡ q
+unique-test r q b e f = e ∙ sym f
+
+-- telling leaves one list of words
+pub unique-tell : (r q out : List ℕ) (at k G : ℕ)
+    → r ≡ placed out at (pairs_at k (members signatures G)) → q ≡ placed out at (pairs_at k (members signatures G)) → r ≡ q
+unique-tell r q out at k G e f = e ∙ sym f
+
 -- answers with the same fields are the same
 pub fed-one : (f g : Fed) → f.refusal ≡ g.refusal → f.bytes ≡ g.bytes → f.pairs ≡ g.pairs → f.all ≡ g.all → f ≡ g
 fed-one f g a b c d =

@@ -1,11 +1,10 @@
--- What the demands say, in words that every kind of call shares: of a refused call, of one opening and each of a kind, of one feed and each call of a kind, of calls in a row by one engine, also from an opening on, and of calls cut otherwise.
-use Rattle.std.specs.Prelude.{ℕ, zero, suc, ◌+◌, ◌*◌, ◌≤◌, ◌<◌, true, false, List, ◌++◌, ◌⊎◌, ◌↔◌, ◌≡◌, length, get_or, take}
+-- What the demands say, in words that every kind of call shares: of a refused call, of one opening, of one feed, of calls in a row by one engine, also from an opening on, and of calls cut otherwise.
+use Rattle.std.specs.Prelude.{ℕ, zero, suc, ◌+◌, ◌*◌, ◌≤◌, ◌<◌, true, false, List, [], ◌∷◌, ◌++◌, ◌⊎◌, ◌↔◌, ◌≡◌, length, get_or, take}
 use Rattle.sets.specs.Set.{signatures, members, holds}
-use Rattle.rules.specs.Rules.{verdict}
-use Rattle.rules.specs.Words.{Row, InWords}
+use Rattle.rules.specs.Rules.{Rule, verdict, Refuses}
 use Rattle.feed.specs.Pairs.{Pair, Before}
 use Rattle.feed.specs.Engine.{Engine, Layout, Outcome, refused, run, costs, pairs_at, told, amount, room}
-use Rattle.feed.specs.Opening.{Opening}
+use Rattle.feed.specs.Opening.{Opening, no_room}
 use Rattle.feed.specs.Calls.{Way, fed_by, Asked, Call, outcome, ruled, asked, record_after, all_told, all_bytes, Along, Pieces}
 
 -- ---- a refusal
@@ -30,10 +29,11 @@ Halted o p = o ≡ record { refusal = 14; bytes = p.bytes; pairs = p.pairs; all 
 abbrev pub open_told : Opening → List ℕ
 open_told o = take (2 * o.pairs) o.words
 
--- ---- one opening, of any kind: the words ws of the pairs of offset 0, and the record Q that it leaves
+-- ---- one opening, of any kind: what is tested before the room, the words ws of the pairs of offset 0, and the record Q that it leaves
 
-pub record OneOpening (ws Q R out : List ℕ) (o : Opening) : Type 0 where
-  -- one that is refused changes nothing
+pub record OneOpening (early : List Rule) (ws Q R out : List ℕ) (o : Opening) : Type 0 where
+  -- the first rule that applies refuses it, and changes nothing; the last is 15, for more pairs than there is room for
+  pub refuses : Refuses (early ++ ((15, no_room ws out) ∷ [])) o.refusal
   pub unchanged : (o.refusal ≡ 0 → ⊥) → o ≡ record { refusal = o.refusal; pairs = 0; words = out; saved = R }
   -- else those pairs are told, and the record is Q, whatever it held
   pub passes : o.refusal ≡ 0 → (open_told o ≡ ws) × (o.saved ≡ Q)
@@ -43,14 +43,6 @@ pub record OneOpening (ws Q R out : List ℕ) (o : Opening) : Type 0 where
   pub pairs-fit : 2 * o.pairs ≤ length out
   -- room for all signatures always suffices
   pub room-suffices : signatures ≤ room out → o.refusal ≡ 15 → ⊥
-
--- each opening of a kind, on any record and words, and its rules in words
-pub record EachOpening (ws Q : List ℕ) (words : List ℕ → List ℕ → List Row) (opens : List ℕ → List ℕ → Opening) : Type 0 where
-  pub one : (R out : List ℕ) → OneOpening ws Q R out (opens R out)
-  -- each number exactly when its words hold and those of no row before it do
-  pub said : (R out : List ℕ) → InWords (words R out) (opens R out).refusal
-  -- of the record and the words only their lengths are looked at
-  pub lengths : (R S out vs : List ℕ) → length R ≡ length S → length out ≡ length vs → (opens R out).refusal ≡ (opens S vs).refusal
 
 -- ---- one feed, by any way
 
@@ -89,13 +81,6 @@ pub record OneFeed (W : Way) (R : List ℕ) (at : ℕ) (piece out : List ℕ) (o
 
 abbrev pub EachFeed : Type 1
 EachFeed = (W : Way) (R : List ℕ) (at : ℕ) (piece out : List ℕ) → OneFeed W R at piece out (fed_by W R at piece out)
-
--- each call of a kind, on any record. That it is one feed is said of every way (`EachFeed`); here are the rules of its way in words
-pub record EachCall {B : Type 0} (way : B → Way) (words : B → List ℕ → ℕ → List ℕ → List Row) : Type 0 where
-  -- each number exactly when its words hold and those of no row before it do
-  pub said : (R : List ℕ) (c : Call B) → InWords (words c.by R c.at c.piece) (verdict (ruled way R c))
-  -- a piece that does not begin at the flow's offset is refused and changes nothing
-  pub elsewhere : (R : List ℕ) (c : Call B) → (c.at ≡ (way c.by).layout.offset R → ⊥) → ((outcome way R c).refusal ≡ 0 → ⊥) × Unchanged R c.out (outcome way R c)
 
 -- ---- calls in a row
 

@@ -1,9 +1,11 @@
 // What every opening and every feed has: its answer, and the words of the pairs that it tells.
+#![tactic(auto)]
+
 ghost use Rattle.std.specs.Prelude.{◌≡◌, ◌+◌, ◌*◌, ◌-◌, ◌/◌, ◌^◌, ◌≤◌, ◌<◌, length, leb};
 ghost use Rattle.sets.specs.Set.{signatures, size, sigs_of};
 ghost use Rattle.rules.specs.Rules.{verdict};
 ghost use Rattle.feed.specs.Engine.{most_offset};
-ghost use Rattle.feed.specs.Piece.{piece_rules};
+ghost use Rattle.feed.specs.Piece.{other_start, too_long, piece_rules};
 ghost use Rattle.feed.specs.inner.Tells.{Unfed, Ends, Tells};
 ghost use Rattle.feed.specs.inner.Told.{TellsAll};
 
@@ -13,7 +15,7 @@ use sets::SigSet;
 pub const MOST_OFFSET: u64 = 4294967295;
 
 // What a feed answers: a refusal's number or 0, the bytes consumed, the pairs told, and whether all bytes were consumed.
-#[derive(Drop)]
+#[derive(Clone, Copy)]
 pub struct Fed {
     pub refusal: u32,
     pub bytes: usize,
@@ -22,14 +24,14 @@ pub struct Fed {
 }
 
 // What opening a flow answers: a refusal's number or 0, and the pairs told.
-#[derive(Drop)]
+#[derive(Clone, Copy)]
 pub struct Opened {
     pub refusal: u32,
     pub pairs: usize,
 }
 
 // What telling a byte's pairs leaves: whether they all fit, and how many words are written.
-#[derive(Drop)]
+#[derive(Clone, Copy)]
 pub struct Told {
     pub fits: bool,
     pub words: usize,
@@ -57,6 +59,21 @@ pub fn ended(refusal: u32, bytes: usize, words: usize, len: usize) -> Fed
         pairs: words / 2,
         all: bytes == len,
     }
+}
+
+// Says whether the stated start of a piece is another than the offset of its flow.
+pub fn other_start(offset: u64, start: u64) -> bool
+    ensures { result ≡ other_start offset start }
+{
+    start != offset
+}
+
+// Says whether a piece at the offset of its flow ends past the largest offset.
+pub fn too_long(offset: u64, piece: &[u8]) -> bool
+    requires { offset ≤ most_offset }
+    ensures { result ≡ too_long offset piece.now }
+{
+    piece.len() as u64 > MOST_OFFSET - offset
 }
 
 // The check of a piece at the offset of its flow: the number of the first of the rules 5 and 6 that refuses it, 0 where neither does.
@@ -105,7 +122,7 @@ fn tell_word(pairs: &mut [u32], at: usize, word: u64, base: usize, offset: u32) 
 }
 
 // Writes signature and offset for each member of the set, from word `at` on, where there is room for all of them. Answers the word after.
-fn tell(pairs: &mut [u32], at: usize, g: SigSet, offset: u32) -> usize
+pub fn tell(pairs: &mut [u32], at: usize, g: SigSet, offset: u32) -> usize
     requires { at + 2 * size signatures (sigs_of g) ≤ length pairs.old }
     ensures { Tells (sigs_of g) pairs.old at offset result pairs.new }
 {

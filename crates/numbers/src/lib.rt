@@ -1,4 +1,6 @@
 // Numbers of several bytes, low byte first, in lists of bytes.
+#![tactic(auto)]
+
 ghost use Rattle.std.specs.Prelude.{◌≡◌, ◌+◌, ◌*◌, ◌%◌, ◌<◌, ◌≤◌, length, take, drop};
 ghost use Rattle.numbers.specs.Number.{digits, num, placed};
 

@@ -1,4 +1,5 @@
 // What every check that goes by a table of rules answers where none of them refuses.
+#![tactic(auto)]
 
 // The answer where no rule refuses; else it is the number of the first that does.
 pub const PASSED: u32 = 0;

@@ -1,5 +1,7 @@
 // Sets by whole words: the next member from a place on, the bytes from one to another, those that are not in a set, and a set with every member
 // further on. A word without members costs one test.
+#![tactic(auto)]
+
 ghost use Rattle.std.specs.Prelude.{◌≡◌, true, false, ◌&&◌, ◌||◌, not, ℕ, ◌+◌, ◌-◌, ◌*◌, ◌^◌, ◌<◌, ◌≤◌, leb, length, get_or};
 ghost use Rattle.numbers.specs.Number.{num};
 ghost use Rattle.sets.specs.Set.{states, byte_count, set_words, set_of, byte_set_of, holds};

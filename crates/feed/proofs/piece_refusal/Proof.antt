@@ -13,24 +13,24 @@ use Rattle.feed.proofs.piece_refusal.Statement.{statement}
 use Rattle.feed.proofs.piece_refusal.Tie as tie
 
 -- rule 5 does not apply where the code has passed it
-at_offset : (c : tie.Else1) → other_start c.before.args.offset c.before.args.start ≡ false
-at_offset c = ap not (eq-eqb _ _ c.if1.false)
+at_offset : (c : tie.Else-start-offset) → other_start c.args.offset c.args.start ≡ false
+at_offset c = ap not (eq-eqb _ _ c.if-start-offset.false)
 
-returns : tie.Need-returns
-returns c = sym (stop 5 _ (ap not (ne_eqb _ _ c.if1.true)))
+returns : tie.Need-returns-then-start-offset
+returns c = sym (stop 5 _ (ap not (ne_eqb _ _ c.if-start-offset.true)))
 
-sub-if2 : tie.Need-overflow-sub-if2
+sub-if2 : tie.Need-overflow_sub-offset
 sub-if2 c = search rules
 
-returns-2 : tie.Need-returns-2
+returns-2 : tie.Need-returns-then-piece-offset
 returns-2 c =
-    let a = c.before.before.args in
+    let a = c.args in
     sym (skip 5 _ (at_offset c.before) ∙ stop 6 _ (lt-ltb most_offset (a.offset + length a.piece.now) (omega arith)))
 
-returns-3 : tie.Need-returns-3
+returns-3 : tie.Need-returns
 returns-3 c =
-    let a = c.before.before.args in
+    let a = c.args in
     sym (skip 5 _ (at_offset c.before) ∙ last 6 (le-ltb most_offset (a.offset + length a.piece.now) (omega arith)))
 
-pub piece-refusal-spec : {M : Type 1} → statement M
-piece-refusal-spec = tie.close (tie.spec returns sub-if2 returns-2 returns-3)
+pub piece_refusal_spec : {M : Type 1} → statement M
+piece_refusal_spec = tie.close (tie.spec returns sub-if2 returns-2 returns-3)

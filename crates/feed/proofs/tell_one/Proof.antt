@@ -12,50 +12,50 @@ use Rattle.feed.proofs.tell_one.Statement.{statement}
 use Rattle.feed.proofs.tell_one.Tie as tie
 
 -- where the bit is 1, it is the signature's
-one : (c : tie.Then1) → c.before.args.bit * 2 ^ c.before.args.s ≡ 2 ^ c.before.args.s
-one c = ap (λ (n : ℕ). n * 2 ^ c.before.args.s) c.if1.true ∙ one-mul (2 ^ c.before.args.s)
+one : (c : tie.Then-bit-eq1) → c.args.bit * 2 ^ c.args.s ≡ 2 ^ c.args.s
+one c = ap (λ (n : ℕ). n * 2 ^ c.args.s) c.if-bit-eq1.true ∙ one-mul (2 ^ c.args.s)
 
-signature : (c : tie.Then1) → c.before.args.s < signatures
-signature c = at-state c.before.args.bit c.before.args.s signatures c.before.requires.1 (λ e. omega (arith, c.if1.true))
+signature : (c : tie.Then-bit-eq1) → c.args.s < signatures
+signature c = at-state c.args.bit c.args.s signatures c.requires.1 (λ e. omega (arith, c.if-bit-eq1.true))
 
 -- and its two words are there
-room : (c : tie.Then1) → c.before.args.w + 2 ≤ length c.before.args.pairs.now
-room c = omega (arith, c.before.requires.2, ap (size signatures) (one c), one_size c.before.args.s (signature c))
+room : (c : tie.Then-bit-eq1) → c.args.w + 2 ≤ length c.args.pairs.now
+room c = omega (arith, c.requires.2, ap (size signatures) (one c), one_size c.args.s (signature c))
 
-cast-signature : tie.Need-overflow-cast-signature
+cast-signature : tie.Need-overflow_cast-signature
 cast-signature c = omega (arith, signature c)
 
-mul-pairs : tie.Need-overflow-mul-pairs
+mul-pairs : tie.Need-offset_bounds-pairs-w
 mul-pairs c = omega (arith, room c)
 
-slice-write-pairs : tie.Need-slice-write-pairs
+slice-write-pairs : tie.Need-bounds-pairs-w
 slice-write-pairs c = omega (arith, room c)
 
-add-pairs : tie.Need-overflow-add-pairs
+add-pairs : tie.Need-overflow_add-pairs
 add-pairs c = omega (arith, room c)
 
-mul-pairs-2 : tie.Need-overflow-mul-pairs-2
+mul-pairs-2 : tie.Need-offset_bounds-pairs-w-then-bit-eq1
 mul-pairs-2 c = omega (arith, room c)
 
-slice-write-pairs-2 : tie.Need-slice-write-pairs-2
+slice-write-pairs-2 : tie.Need-bounds-pairs-w-then-bit-eq1
 slice-write-pairs-2 c = simp length-set (omega (arith, room c))
 
-add-result : tie.Need-overflow-add-result
+add-result : tie.Need-overflow_add-result
 add-result c = omega (arith, room c)
 
-same_length : tie.Need-same-length
+same_length : tie.Need-shape_of-pairs-then-bit-eq1
 same_length c = search rules
 
-returns : tie.Need-returns
-returns c = let a = c.before.args in rw (one c) (tells-one a.pairs.now a.w a.offset a.s (signature c) (room c))
+returns : tie.Need-returns-then-bit-eq1
+returns c = let a = c.args in rw (one c) (tells-one a.pairs.now a.w a.offset a.s (signature c) (room c))
 
-returns-2 : tie.Need-returns-2
+returns-2 : tie.Need-returns
 returns-2 c =
-    let a = c.before.args in
-    let z : a.bit ≡ 0 = omega (arith, c.if1.false, c.before.requires.0) in
+    let a = c.args in
+    let z : a.bit ≡ 0 = omega (arith, c.if-bit-eq1.false, c.requires.0) in
     tells_none a.pairs.now a.w a.offset (a.bit * 2 ^ a.s) (ap (λ (n : ℕ). n * 2 ^ a.s) z ∙ zero-mul (2 ^ a.s))
 
-pub tell-one-spec : {M : Type 1} → statement M
-tell-one-spec =
+pub tell_one_spec : {M : Type 1} → statement M
+tell_one_spec =
     tie.close
     (tie.spec cast-signature mul-pairs slice-write-pairs add-pairs mul-pairs-2 slice-write-pairs-2 add-result same_length returns returns-2)

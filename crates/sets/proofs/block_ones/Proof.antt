@@ -10,19 +10,19 @@ use Rattle.sets.proofs.Words.{count-zero}
 use Rattle.sets.proofs.block_ones.Statement.{statement}
 use Rattle.sets.proofs.block_ones.Tie as tie
 
-none-of-requires : tie.Need-none-of-requires
+none-of-requires : tie.Need-none_of-requires
 none-of-requires c κs = search rules
 
-ones-of-requires : tie.Need-ones-of-requires
+ones-of-requires : tie.Need-ones_of-requires
 ones-of-requires c κs = search rules
 
-returns : tie.Need-returns
+returns : tie.Need-returns-then-none_of
 returns c =
     let w = c.before.before.before.args.w.now in
-    count-zero (64 * length w) ∙ ap (size (64 * length w)) (sym (eqb-true (num 64 w) 0 (sym c.before.none_of.ensures ∙ c.if1.true)))
+    count-zero (64 * length w) ∙ ap (size (64 * length w)) (sym (eqb-true (num 64 w) 0 (sym c.before.none_of.ensures ∙ c.if-none_of.true)))
 
-returns-2 : tie.Need-returns-2
+returns-2 : tie.Need-returns-else-none_of
 returns-2 c = search rules
 
-pub block-ones-spec : {M : Type 1} → statement M
-block-ones-spec = tie.close (tie.spec none-of-requires ones-of-requires returns returns-2)
+pub block_ones_spec : {M : Type 1} → statement M
+block_ones_spec = tie.close (tie.spec none-of-requires ones-of-requires returns returns-2)

@@ -13,10 +13,10 @@ use Rattle.numbers.proofs.Order.{Ranks, ranks-none, ranks-more, ranks-all}
 use Rattle.sets.proofs.word_before.Statement.{statement}
 use Rattle.sets.proofs.word_before.Tie as tie
 
-abbrev invariant-loop : tie.invariant-loop
+abbrev invariant-loop : tie.invariant-loop-j
 invariant-loop x y p₀ q₀ j₀ p q j = (j ≤ 8) × (p < 2 ^ (8 * j)) × (q < 2 ^ (8 * j)) × Ranks (digits 8 8 x) (digits 8 8 y) j p q
 
-abbrev decreases-loop : tie.decreases-loop
+abbrev decreases-loop : tie.decreases-loop-j
 decreases-loop x y p₀ q₀ j₀ p q j = 8 - j
 
 -- seven bytes and one more are a word
@@ -32,42 +32,42 @@ more p j x h =
     let e : 8 * (j + 1) ≡ 8 * j + 8 = omega arith in
     rw (e, pow-add 2 (8 * j) 8) (digits_lt h (byte (x / 2 ^ (8 * j))))
 
-loop-holds : tie.Need-loop-init invariant-loop decreases-loop
+loop-holds : tie.Need-loop-j-init invariant-loop decreases-loop
 loop-holds c = (search rules, lit< tt, lit< tt, ranks-none (digits 8 8 c.args.x) (digits 8 8 c.args.y))
 
-mul-p : tie.Need-overflow-mul-p invariant-loop decreases-loop
-mul-p c = let l = c.before.loop in omega (arith, room l.p l.j l.invariant.1 (omega arith))
+mul-p : tie.Need-overflow_mul-p invariant-loop decreases-loop
+mul-p c = let l = c.before.loop-j in omega (arith, room l.p l.j l.invariant.1 (omega arith))
 
-mul-p-2 : tie.Need-overflow-mul-p-2 invariant-loop decreases-loop
+mul-p-2 : tie.Need-overflow_mul-p-in-loop-j invariant-loop decreases-loop
 mul-p-2 c = search rules
 
-shr-p : tie.Need-overflow-shr-p invariant-loop decreases-loop
+shr-p : tie.Need-overflow_shr-p invariant-loop decreases-loop
 shr-p c = search rules
 
-add-p : tie.Need-overflow-add-p invariant-loop decreases-loop
-add-p c = let l = c.before.loop in omega (arith, room l.p l.j l.invariant.1 (omega arith), byte (c.before.before.args.x / 2 ^ (8 * l.j)))
+add-p : tie.Need-overflow_add-p invariant-loop decreases-loop
+add-p c = let l = c.before.loop-j in omega (arith, room l.p l.j l.invariant.1 (omega arith), byte (c.before.before.args.x / 2 ^ (8 * l.j)))
 
-mul-q : tie.Need-overflow-mul-q invariant-loop decreases-loop
-mul-q c = let l = c.before.loop in omega (arith, room l.q l.j l.invariant.2 (omega arith))
+mul-q : tie.Need-overflow_mul-q invariant-loop decreases-loop
+mul-q c = let l = c.before.loop-j in omega (arith, room l.q l.j l.invariant.2 (omega arith))
 
-mul-q-2 : tie.Need-overflow-mul-q-2 invariant-loop decreases-loop
+mul-q-2 : tie.Need-overflow_mul-q-in-loop-j invariant-loop decreases-loop
 mul-q-2 c = search rules
 
-shr-q : tie.Need-overflow-shr-q invariant-loop decreases-loop
+shr-q : tie.Need-overflow_shr-q invariant-loop decreases-loop
 shr-q c = search rules
 
-add-q : tie.Need-overflow-add-q invariant-loop decreases-loop
-add-q c = let l = c.before.loop in omega (arith, room l.q l.j l.invariant.2 (omega arith), byte (c.before.before.args.y / 2 ^ (8 * l.j)))
+add-q : tie.Need-overflow_add-q invariant-loop decreases-loop
+add-q c = let l = c.before.loop-j in omega (arith, room l.q l.j l.invariant.2 (omega arith), byte (c.before.before.args.y / 2 ^ (8 * l.j)))
 
-add-j : tie.Need-overflow-add-j invariant-loop decreases-loop
+add-j : tie.Need-overflow_step-j invariant-loop decreases-loop
 add-j c = search rules
 
-loop-less : tie.Need-loop-smaller invariant-loop decreases-loop
+loop-less : tie.Need-loop-j-smaller invariant-loop decreases-loop
 loop-less c = search rules
 
-loop-again : tie.Need-loop-preserved invariant-loop decreases-loop
+loop-again : tie.Need-loop-j-preserved invariant-loop decreases-loop
 loop-again c =
-    let l = c.before.loop in
+    let l = c.before.loop-j in
     let a = c.before.before.args in
     let u = digits-at 8 8 a.x l.j (omega arith) in
     let v = digits-at 8 8 a.y l.j (omega arith) in (
@@ -81,13 +81,13 @@ loop-again c =
 
 returns : tie.Need-returns invariant-loop decreases-loop
 returns c =
-    let l = c.before.loop in
+    let l = c.before.loop-j in
     let a = c.before.before.args in
     ranks-all (digits 8 8 a.x) (digits 8 8 a.y) l.j l.p l.q l.invariant.3
     (omega (arith, length_digits 8 8 a.x)) (omega (arith, length_digits 8 8 a.y))
 
-pub word-before-spec : {M : Type 1} → statement M
-word-before-spec =
+pub word_before_spec : {M : Type 1} → statement M
+word_before_spec =
     tie.close
     (tie.spec
     invariant-loop

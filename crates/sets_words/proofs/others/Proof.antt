@@ -16,40 +16,40 @@ use Rattle.sets_words.proofs.Masks.{Reads, reads_all, reads-others}
 use Rattle.sets_words.proofs.others.Statement.{statement}
 use Rattle.sets_words.proofs.others.Tie as tie
 
-abbrev invariant-loop : tie.invariant-loop
+abbrev invariant-loop : tie.invariant-loop-i
 invariant-loop a w₀ i₀ w i = (i ≤ byte_words) × (length w ≡ byte_words) × Small 64 w × ((j : ℕ) → j < i → Reads (λ c. not (holds (num 64 a) c)) j (get_or w j 0))
 
-abbrev decreases-loop : tie.decreases-loop
+abbrev decreases-loop : tie.decreases-loop-i
 decreases-loop a w₀ i₀ w i = byte_words - i
 
-loop-holds : tie.Need-loop-init invariant-loop decreases-loop
+loop-holds : tie.Need-loop-i-init invariant-loop decreases-loop
 loop-holds c =
-    let v = byte-set-valid-of c.before.args.set _ c.before.well-formed.0 in
+    let v = byte-set-valid-of c.before.args.set _ c.before.well_formed.0 in
     (omega arith, v.long, v.small, λ j h. absurd (omega arith))
 
-mul-w : tie.Need-overflow-mul-w invariant-loop decreases-loop
+mul-w : tie.Need-offset_bounds-a-i invariant-loop decreases-loop
 mul-w c = search rules
 
-array-read-w : tie.Need-array-read-w invariant-loop decreases-loop
+array-read-w : tie.Need-bounds-a-i invariant-loop decreases-loop
 array-read-w c = search rules
 
-mul-w-2 : tie.Need-overflow-mul-w-2 invariant-loop decreases-loop
+mul-w-2 : tie.Need-offset_bounds-w-i invariant-loop decreases-loop
 mul-w-2 c = search rules
 
-array-write-w : tie.Need-array-write-w invariant-loop decreases-loop
+array-write-w : tie.Need-bounds-w-i invariant-loop decreases-loop
 array-write-w c = search rules
 
-add-i : tie.Need-overflow-add-i invariant-loop decreases-loop
+add-i : tie.Need-overflow_step-i invariant-loop decreases-loop
 add-i c = search rules
 
-loop-less : tie.Need-loop-smaller invariant-loop decreases-loop
+loop-less : tie.Need-loop-i-smaller invariant-loop decreases-loop
 loop-less c = search rules
 
-loop-again : tie.Need-loop-preserved invariant-loop decreases-loop
+loop-again : tie.Need-loop-i-preserved invariant-loop decreases-loop
 loop-again c =
     let a = c.before.before.before.args in
-    let v = byte-set-valid-of a.set _ c.before.before.before.well-formed.0 in
-    let l = c.before.loop in
+    let v = byte-set-valid-of a.set _ c.before.before.before.well_formed.0 in
+    let l = c.before.loop-i in
     let r = bit_xor (get_or a.set.words l.i 0) (2 ^ 64 - 1) in (
       omega arith,
       search rules,
@@ -57,17 +57,17 @@ loop-again c =
       stride-more (λ j x. Reads (λ z. not (holds (num 64 a.set.words) z)) j x) l.w l.i r (omega arith) l.invariant.3 (reads-others a.set.words v.small l.i),
     )
 
-of-words-requires : tie.Need-of-words-requires invariant-loop decreases-loop
+of-words-requires : tie.Need-of_words-requires invariant-loop decreases-loop
 of-words-requires c κs = search rules
 
 returns : tie.Need-returns invariant-loop decreases-loop
 returns c =
     let a = c.before.before.before.before.args in
-    let l = c.before.before.loop in
+    let l = c.before.before.loop-i in
     λ x h. ap (λ z. holds z x) c.of_words.ensures ∙ reads_all (λ z. not (holds (num 64 a.set.words) z)) l.w (record { long = l.invariant.1; small = l.invariant.2 }) (λ i k. l.invariant.3 i (omega arith)) x h
 
-pub others-spec : {M : Type 1} → statement M
-others-spec =
+pub others_spec : {M : Type 1} → statement M
+others_spec =
     tie.close
     (tie.spec
     invariant-loop

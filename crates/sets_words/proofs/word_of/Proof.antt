@@ -6,18 +6,18 @@ use lib.ListN.{get_or-eq_default}
 use Rattle.sets_words.proofs.word_of.Statement.{statement}
 use Rattle.sets_words.proofs.word_of.Tie as tie
 
-mul-result : tie.Need-overflow-mul-result
+mul-result : tie.Need-offset_bounds-w-i
 mul-result c = search rules
 
-shared-slice-read-result : tie.Need-shared-slice-read-result
+shared-slice-read-result : tie.Need-bounds-w-i
 shared-slice-read-result c = search rules
 
-returns : tie.Need-returns
+returns : tie.Need-returns-then-i-w
 returns c = search rules
 
-returns-2 : tie.Need-returns-2
+returns-2 : tie.Need-returns-else-i-w
 returns-2 c =
     sym (get_or-eq_default c.before.args.w.now 0 (omega arith))
 
-pub word-of-spec : {M : Type 1} → statement M
-word-of-spec = tie.close (tie.spec mul-result shared-slice-read-result returns returns-2)
+pub word_of_spec : {M : Type 1} → statement M
+word_of_spec = tie.close (tie.spec mul-result shared-slice-read-result returns returns-2)

@@ -5,19 +5,19 @@ use Rattle.sets.proofs.Whole.{sigs-valid-of}
 use Rattle.sets.proofs.SigSet.store.Statement.{statement}
 use Rattle.sets.proofs.SigSet.store.Tie as tie
 
-slice-aggregate-write-words : tie.Need-slice-aggregate-write-words
+slice-aggregate-write-words : tie.Need-slice_bounds-write_words-end
 slice-aggregate-write-words c = search rules
 
-write-words-requires : tie.Need-write-words-requires
-write-words-requires c κs = let s = c.before.before.before.before in omega (arith, (sigs-valid-of s.args.self _ s.well-formed.0).long)
+write-words-requires : tie.Need-write_words-requires
+write-words-requires c κs = let s = c.before.before.before.before in omega (arith, (sigs-valid-of s.args.self _ s.well_formed.0).long)
 
-same_length : tie.Need-same-length
+same_length : tie.Need-shape_of-b
 same_length c = search rules
 
 returns : tie.Need-returns
 returns c =
     let s = c.before.before.before.before.before.before.before in
-    rw (sigs-valid-of s.args.self _ s.well-formed.0).long at c.before.before.write-words.ensures
+    rw (sigs-valid-of s.args.self _ s.well_formed.0).long at c.before.before.write_words.ensures
 
 pub store_spec : {M : Type 1} → statement M
 store_spec = tie.close (tie.spec slice-aggregate-write-words write-words-requires same_length returns)
