@@ -1,4 +1,6 @@
 // The signature list: the reads of its records, its check, and the automaton that it writes down.
+#![tactic(auto)]
+
 ghost use Rattle.std.specs.Prelude.{◌≡◌, true, ◌&&◌, ◌||◌, cond, ℕ, suc, max, ◌+◌, ◌-◌, ◌*◌, ◌%◌, ◌<◌, ◌≤◌, length, get_or, leb};
 ghost use Rattle.numbers.specs.Number.{num, placed};
 ghost use Rattle.sets.specs.Set.{set_words, set_size, set_of, sigs_of, holds, insert, set_at};
@@ -35,7 +37,7 @@ const FROM: usize = 4;
 pub const TARGET: usize = 6;
 
 // The list check's answer and, where it passes, whether the list names every state of a set.
-#[derive(Drop)]
+#[derive(Clone, Copy)]
 pub struct Survey {
     pub refusal: u32,
     pub known: bool,

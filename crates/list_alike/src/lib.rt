@@ -1,5 +1,7 @@
 // Bytes on which a list steps alike: for each byte one that is not above it and on which every edge of the list goes alike. Which two bytes are compared
 // is guessed by a key for each byte, a number; no promise rests on the keys.
+#![tactic(auto)]
+
 ghost use Rattle.std.specs.Prelude.{◌≡◌, ◌<◌, ◌≤◌, length};
 ghost use Rattle.list.specs.List.{records};
 ghost use Rattle.list_alike.specs.inner.Alike.{byte_values, alike_at, edges_alike, Alike, Alikes};

@@ -1,4 +1,6 @@
 // The plain feed: the automaton runs over a piece, byte by byte.
+#![tactic(auto)]
+
 ghost use Rattle.std.specs.Prelude.{◌+◌, ◌≤◌, length};
 ghost use Rattle.sets.specs.Set.{set_of};
 ghost use Rattle.feed.specs.Engine.{most_offset};

@@ -1,4 +1,6 @@
 // The record of a list's flow: opened, read, checked and written.
+#![tactic(auto)]
+
 ghost use Rattle.std.specs.Prelude.{◌≡◌, true, cond, [], ◌∷◌, ◌++◌, ◌+◌, ◌^◌, ◌<◌, ◌≤◌, length, eqb};
 ghost use Rattle.sets.specs.Set.{set_of};
 ghost use Rattle.rules.specs.Rules.{verdict};
@@ -27,7 +29,7 @@ pub const ROWS_AT: usize = sets::BYTES + 8;
 const MOST_ROWS: u64 = sets::STATES as u64;
 
 // What the loop of a feed leaves: the refusal of the byte where it stops, the frontier, the bytes consumed, the words written and the rows read.
-#[derive(Drop)]
+#[derive(Clone, Copy)]
 pub struct Ran {
     pub refusal: u32,
     pub frontier: StateSet,

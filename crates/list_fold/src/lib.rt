@@ -1,6 +1,8 @@
 // States of a signature list that have the same past become one: both start or neither does, and the same edges lead to them. One pass over the states,
 // rising: each joins the lowest chief that it may join, or is a chief itself. The edges that lead to one state are linked first, so that two pasts are
 // compared edge by edge; then the chiefs are numbered anew, and the records of others than chiefs left out.
+#![tactic(auto)]
+
 ghost use Rattle.std.specs.Prelude.{◌≡◌, [], ◌∷◌, ◌++◌, cond, eqb, ℕ, suc, ◌+◌, ◌<◌, ◌≤◌, length, get_or, set, take};
 ghost use Rattle.numbers.specs.Number.{placed};
 ghost use Rattle.sets.specs.Set.{states, set_of};
@@ -14,7 +16,7 @@ ghost use Rattle.list_fold.specs.Fold.{folded, FoldAnswers};
 use sets::StateSet;
 
 // What folding answers: a refusal's number or 0, and the length of the folded list.
-#[derive(Drop)]
+#[derive(Clone, Copy)]
 pub struct Folded {
     pub refusal: u32,
     pub length: usize,

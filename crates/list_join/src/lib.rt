@@ -1,6 +1,8 @@
 // Two signature lists joined into one: the second's states are renamed, and its records come behind the first's. Where both have a state that every
 // frontier holds, or one that the start set alone holds, the two become one. One walk over each list checks it and finds all that the naming needs;
 // then what the second adds is measured, and only then is anything written, by a table of the new numbers.
+#![tactic(auto)]
+
 ghost use Rattle.std.specs.Prelude.{◌≡◌, true, false, ◌&&◌, cond, eqb, ℕ, suc, ◌+◌, ◌*◌, ◌<◌, ◌≤◌, length, take, drop, get_or, set};
 ghost use Rattle.numbers.specs.Number.{num, placed};
 ghost use Rattle.sets.specs.Set.{states, holds};
@@ -13,7 +15,7 @@ ghost use Rattle.list_join.specs.Join.{Joins};
 
 // How the states of the second list are named in the joined one: `next` is the first number that is free; where a state is shared, the second list's
 // state `own` is the first list's state `same`.
-#[derive(Drop)]
+#[derive(Clone, Copy)]
 pub struct Naming {
     pub next: usize,
     pub shared: bool,
@@ -24,7 +26,7 @@ pub struct Naming {
 // What one walk over a list finds: a refusal's number or 0, and then the highest state that it names, a mark for each state that is not 0 where it is
 // named, with a bit where it starts and one where an edge leads to it, the states with a loop that every byte takes, and for each state how many records
 // are spare where it is the shared one.
-#[derive(Drop)]
+#[derive(Clone, Copy)]
 pub struct Outline {
     pub refusal: u32,
     pub top: usize,
@@ -34,7 +36,7 @@ pub struct Outline {
 }
 
 // What is decided before anything is written: a refusal's number or 0, and then the naming, and the highest state of the second list.
-#[derive(Drop)]
+#[derive(Clone, Copy)]
 pub struct Plan {
     pub refusal: u32,
     pub naming: Naming,
@@ -42,7 +44,7 @@ pub struct Plan {
 }
 
 // What joining answers: a refusal's number or 0, and the length of the joined list.
-#[derive(Drop)]
+#[derive(Clone, Copy)]
 pub struct Joined {
     pub refusal: u32,
     pub length: usize,

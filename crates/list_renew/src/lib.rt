@@ -1,4 +1,6 @@
 // Renewing a flow's record, so that it goes on past the largest offset: the frontier stays, offset and rows become 0. And the offset of a record of either kind.
+#![tactic(auto)]
+
 ghost use Rattle.std.specs.Prelude.{◌≡◌};
 ghost use Rattle.rules.specs.Rules.{verdict};
 ghost use Rattle.list_renew.specs.Renewal.{renew_rules, Renews, offset_said};

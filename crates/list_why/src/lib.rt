@@ -1,5 +1,7 @@
 // Why a pair is due, or a state in the frontier: the lowest run of the automaton that leads there, found backwards through the frontiers of a
 // piece; and the first edge record that leads from one state to another on a byte.
+#![tactic(auto)]
+
 ghost use Rattle.std.specs.Prelude.{◌≡◌, ◌&&◌, cond, ◌++◌, ℕ, suc, ◌*◌, ◌<◌, ◌≤◌, length, drop, eqb, ltb};
 ghost use Rattle.numbers.specs.Number.{num, placed};
 ghost use Rattle.sets.specs.Set.{states, set_size, set_of, set_at, holds};
@@ -13,7 +15,7 @@ ghost use Rattle.list_why.specs.Reason.{front, leads_to, source_of, end_of, trac
 use sets::StateSet;
 
 // The answer to which edge record leads from one state to another on a byte: its place, counted from 0.
-#[derive(Drop)]
+#[derive(Clone, Copy)]
 pub struct Found {
     pub refusal: u32,
     pub place: usize,

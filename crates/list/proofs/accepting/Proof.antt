@@ -14,49 +14,49 @@ use Rattle.list.specs.Automaton.{accepting}
 use Rattle.list.proofs.accepting.Statement.{statement}
 use Rattle.list.proofs.accepting.Tie as tie
 
-abbrev invariant-loop : tie.invariant-loop
+abbrev invariant-loop : tie.invariant-loop-i
 invariant-loop list n w₀ i₀ w i = (i ≤ n) × (length w ≡ set_words) × (num 64 w ≡ gather states (is_accept list) (from list) i)
 
-abbrev decreases-loop : tie.decreases-loop
+abbrev decreases-loop : tie.decreases-loop-i
 decreases-loop list n w₀ i₀ w i = n - i
 
-records-requires : tie.Need-records-requires invariant-loop decreases-loop
+records-requires : tie.Need-records-n-requires invariant-loop decreases-loop
 records-requires c κs = search rules
 
-loop-holds : tie.Need-loop-init invariant-loop decreases-loop
+loop-holds : tie.Need-loop-i-init invariant-loop decreases-loop
 unfolding gather
 loop-holds c = (search rules, search rules, empty-words set_words)
 
-is-accept-requires : tie.Need-is-accept-requires invariant-loop decreases-loop
+is-accept-requires : tie.Need-is_accept-requires invariant-loop decreases-loop
 is-accept-requires c κs = search rules
 
-slice-aggregate-put-word : tie.Need-slice-aggregate-put-word invariant-loop decreases-loop
+slice-aggregate-put-word : tie.Need-slice_bounds-put_word-end invariant-loop decreases-loop
 slice-aggregate-put-word c = search rules
 
-put-word-requires : tie.Need-put-word-requires invariant-loop decreases-loop
+put-word-requires : tie.Need-put_word-requires invariant-loop decreases-loop
 put-word-requires c κs = search rules
 
-add-i : tie.Need-overflow-add-i invariant-loop decreases-loop
+add-i : tie.Need-overflow_step-i invariant-loop decreases-loop
 add-i c = search rules
 
-loop-less : tie.Need-loop-smaller invariant-loop decreases-loop
+loop-less : tie.Need-loop-i-smaller invariant-loop decreases-loop
 loop-less c = search rules
 
-loop-again : tie.Need-loop-preserved invariant-loop decreases-loop
+loop-again : tie.Need-loop-i-preserved invariant-loop decreases-loop
 unfolding gather
 loop-again c =
-    let p = c.before.before.before.before.before.loop in
-    (search rules, search rules, rw (add-one, c.before.put_word.ensures, c.before.before.before.is-accept.ensures, p.invariant.1, p.invariant.2) refl)
+    let p = c.loop-i in
+    (search rules, search rules, rw (add-one, c.put_word.ensures, c.is_accept.ensures, p.invariant.1, p.invariant.2) refl)
 
-of-words-requires : tie.Need-of-words-requires invariant-loop decreases-loop
+of-words-requires : tie.Need-of_words-requires invariant-loop decreases-loop
 of-words-requires c κs = search rules
 
 returns : tie.Need-returns invariant-loop decreases-loop
 unfolding accepting
-returns c = let e : c.before.before.loop.i ≡ records c.before.before.before.before.before.before.args.list.now = omega arith in cc
+returns c = let e : c.loop-i.i ≡ records c.args.list.now = omega arith in cc
 
-pub accepting-spec : {M : Type 1} → statement M
-accepting-spec =
+pub accepting_spec : {M : Type 1} → statement M
+accepting_spec =
     tie.close
     (tie.spec
     invariant-loop

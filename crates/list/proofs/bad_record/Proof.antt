@@ -10,12 +10,12 @@ use Rattle.list.proofs.bad_record.Tie as tie
 records-requires : tie.Need-records-requires
 records-requires c κs = search rules
 
-good-from-requires : tie.Need-good-from-requires
+good-from-requires : tie.Need-good_from-requires
 good-from-requires c κs = search rules
 
 returns : tie.Need-returns
 unfolding bad_record every
-returns c = ap not (rw c.before.records.ensures at c.good-from.ensures)
+returns c = ap not (rw c.records.ensures at c.good_from.ensures)
 
-pub bad-record-spec : {M : Type 1} → statement M
-bad-record-spec = tie.close (tie.spec records-requires good-from-requires returns)
+pub bad_record_spec : {M : Type 1} → statement M
+bad_record_spec = tie.close (tie.spec records-requires good-from-requires returns)

@@ -4,17 +4,17 @@ use native.Mathlib.Omega.{arith}
 use Rattle.list.proofs.block_end.Statement.{statement}
 use Rattle.list.proofs.block_end.Tie as tie
 
-sub-if1 : tie.Need-overflow-sub-if1
+sub-if1 : tie.Need-overflow_sub-n
 sub-if1 c = search rules
 
-add-result : tie.Need-overflow-add-result
+add-result : tie.Need-overflow_add-result
 add-result c = search rules
 
-returns : tie.Need-returns
+returns : tie.Need-returns-then-n-i-lt-BLOCK
 returns c = (search rules, search rules)
 
-returns-2 : tie.Need-returns-2
-returns-2 c = (omega arith, omega (arith, c.if1.false))
+returns-2 : tie.Need-returns-else-n-i-lt-BLOCK
+returns-2 c = (omega arith, omega (arith, c.if-n-i-lt-BLOCK.false))
 
-pub block-end-spec : {M : Type 1} → statement M
-block-end-spec = tie.close (tie.spec sub-if1 add-result returns returns-2)
+pub block_end_spec : {M : Type 1} → statement M
+block_end_spec = tie.close (tie.spec sub-if1 add-result returns returns-2)

@@ -6,14 +6,14 @@ use lib.ListN.{get_or-eq_default}
 use Rattle.list.proofs.byte_at.Statement.{statement}
 use Rattle.list.proofs.byte_at.Tie as tie
 
-shared-slice-read-result : tie.Need-shared-slice-read-result
+shared-slice-read-result : tie.Need-bounds-b-at
 shared-slice-read-result c = search rules
 
-returns : tie.Need-returns
+returns : tie.Need-returns-then-at-b
 returns c = search rules
 
-returns-2 : tie.Need-returns-2
-returns-2 c = sym (get_or-eq_default c.before.args.b.now 0 (omega arith))
+returns-2 : tie.Need-returns-else-at-b
+returns-2 c = sym (get_or-eq_default c.args.b.now 0 (omega arith))
 
-pub byte-at-spec : {M : Type 1} → statement M
-byte-at-spec = tie.close (tie.spec shared-slice-read-result returns returns-2)
+pub byte_at_spec : {M : Type 1} → statement M
+byte_at_spec = tie.close (tie.spec shared-slice-read-result returns returns-2)

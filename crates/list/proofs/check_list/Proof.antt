@@ -5,37 +5,37 @@ use Rattle.rules.proofs.Rules.{skip, stop, last}
 use Rattle.list.proofs.check_list.Statement.{statement}
 use Rattle.list.proofs.check_list.Tie as tie
 
-bad-length-requires : tie.Need-bad-length-requires
+bad-length-requires : tie.Need-bad_length-requires
 bad-length-requires c κs = search rules
 
-returns : tie.Need-returns
-returns c = sym (stop 1 _ (sym c.before.bad-length.ensures ∙ c.if1.true))
+returns : tie.Need-returns-then-bad_length
+returns c = sym (stop 1 _ (sym c.bad_length.ensures ∙ c.if-bad_length.true))
 
-bad-record-requires : tie.Need-bad-record-requires
+bad-record-requires : tie.Need-bad_record-requires
 bad-record-requires c κs = search rules
 
-returns-2 : tie.Need-returns-2
-returns-2 c = sym (skip 1 _ (sym c.before.before.before.bad-length.ensures ∙ c.before.before.if1.false) ∙ stop 2 _ (sym c.before.bad-record.ensures ∙ c.if2.true))
+returns-2 : tie.Need-returns-then-bad_record
+returns-2 c = sym (skip 1 _ (sym c.bad_length.ensures ∙ c.if-bad_length.false) ∙ stop 2 _ (sym c.bad_record.ensures ∙ c.if-bad_record.true))
 
-no-start-requires : tie.Need-no-start-requires
+no-start-requires : tie.Need-no_start-requires
 no-start-requires c κs = search rules
 
-returns-3 : tie.Need-returns-3
+returns-3 : tie.Need-returns-then-no_start
 returns-3 c =
     sym (
-    skip 1 _ (sym c.before.before.before.before.before.bad-length.ensures ∙ c.before.before.before.before.if1.false)
-    ∙ skip 2 _ (sym c.before.before.before.bad-record.ensures ∙ c.before.before.if2.false)
-    ∙ stop 3 _ (sym c.before.no_start.ensures ∙ c.if3.true))
+    skip 1 _ (sym c.bad_length.ensures ∙ c.if-bad_length.false)
+    ∙ skip 2 _ (sym c.bad_record.ensures ∙ c.if-bad_record.false)
+    ∙ stop 3 _ (sym c.no_start.ensures ∙ c.if-no_start.true))
 
-returns-4 : tie.Need-returns-4
+returns-4 : tie.Need-returns
 returns-4 c =
     sym (
-    skip 1 _ (sym c.before.before.before.before.before.bad-length.ensures ∙ c.before.before.before.before.if1.false)
-    ∙ skip 2 _ (sym c.before.before.before.bad-record.ensures ∙ c.before.before.if2.false)
-    ∙ last 3 (sym c.before.no_start.ensures ∙ c.if3.false))
+    skip 1 _ (sym c.bad_length.ensures ∙ c.if-bad_length.false)
+    ∙ skip 2 _ (sym c.bad_record.ensures ∙ c.if-bad_record.false)
+    ∙ last 3 (sym c.no_start.ensures ∙ c.if-no_start.false))
 
-pub check-list-spec : {M : Type 1} → statement M
-check-list-spec =
+pub check_list_spec : {M : Type 1} → statement M
+check_list_spec =
     tie.close
     (tie.spec
     bad-length-requires

@@ -4,7 +4,7 @@ use mathlib.Core.Path.{refl}
 use Rattle.list.proofs.good_accept.Statement.{statement}
 use Rattle.list.proofs.good_accept.Tie as tie
 
-is-accept-requires : tie.Need-is-accept-requires
+is-accept-requires : tie.Need-is_accept-requires
 is-accept-requires c κs = search rules
 
 zeros-requires : tie.Need-zeros-requires
@@ -17,8 +17,8 @@ target-requires : tie.Need-target-requires
 target-requires c κs = search rules
 
 returns : tie.Need-returns
-returns c = rw (c.before.before.before.is-accept.ensures, c.before.before.zeros.ensures, c.before.from.ensures, c.target.ensures) refl
+returns c = rw (c.is_accept.ensures, c.zeros.ensures, c.from.ensures, c.target.ensures) refl
 
-pub good-accept-spec : {M : Type 1} → statement M
-good-accept-spec =
+pub good_accept_spec : {M : Type 1} → statement M
+good_accept_spec =
     tie.close (tie.spec is-accept-requires zeros-requires from-requires target-requires returns)

@@ -12,40 +12,40 @@ use Rattle.list.specs.List.{good_record}
 use Rattle.list.proofs.good_from.Statement.{statement}
 use Rattle.list.proofs.good_from.Tie as tie
 
-abbrev invariant-loop : tie.invariant-loop
+abbrev invariant-loop : tie.invariant-loop-i
 invariant-loop list from end i₀ i = (i ≤ end) × (every i (good_record list) ≡ every from (good_record list))
 
-abbrev decreases-loop : tie.decreases-loop
+abbrev decreases-loop : tie.decreases-loop-i
 decreases-loop list from end i₀ i = end - i
 
-loop-holds : tie.Need-loop-init invariant-loop decreases-loop
+loop-holds : tie.Need-loop-i-init invariant-loop decreases-loop
 loop-holds c = (search rules, refl)
 
-good-record-requires : tie.Need-good-record-requires invariant-loop decreases-loop
+good-record-requires : tie.Need-good_record-requires invariant-loop decreases-loop
 good-record-requires c κs = search rules
 
-returns : tie.Need-returns invariant-loop decreases-loop
+returns : tie.Need-returns-then-not-good_record invariant-loop decreases-loop
 returns c =
     let h = c.before.before.before in
-    let a = h.before.before.args in
-    and-false (every a.from (good_record a.list.now)) ∙ sym (every-fails a.end (good_record a.list.now) h.loop.i (omega arith) (sym c.before.good-record.ensures ∙ not-true _ c.if1.true))
+    let a = h.args in
+    and-false (every a.from (good_record a.list.now)) ∙ sym (every-fails a.end (good_record a.list.now) h.loop-i.i (omega arith) (sym c.good_record.ensures ∙ not-true _ c.if-not-good_record.true-raw))
 
-add-i : tie.Need-overflow-add-i invariant-loop decreases-loop
+add-i : tie.Need-overflow_step-i invariant-loop decreases-loop
 add-i c = search rules
 
-loop-less : tie.Need-loop-smaller invariant-loop decreases-loop
+loop-less : tie.Need-loop-i-smaller invariant-loop decreases-loop
 loop-less c = search rules
 
-loop-again : tie.Need-loop-preserved invariant-loop decreases-loop
+loop-again : tie.Need-loop-i-preserved invariant-loop decreases-loop
 unfolding every
 loop-again c =
-    (search rules, rw (add-one, c.before.before.before.loop.invariant.1, sym c.before.good-record.ensures ∙ not-false _ c.if1.false) (and-true _))
+    (search rules, rw (add-one, c.loop-i.invariant.1, sym c.good_record.ensures ∙ not-false _ c.if-not-good_record.false-raw) (and-true _))
 
-returns-2 : tie.Need-returns-2 invariant-loop decreases-loop
+returns-2 : tie.Need-returns invariant-loop decreases-loop
 returns-2 c =
-    let l = c.before.loop in
-    let e : l.i ≡ c.before.before.before.args.end = omega arith in
+    let l = c.loop-i in
+    let e : l.i ≡ c.args.end = omega arith in
     and-true _ ∙ sym (rw e at l.invariant.1)
 
-pub good-from-spec : {M : Type 1} → statement M
-good-from-spec = tie.close (tie.spec invariant-loop decreases-loop loop-holds good-record-requires returns add-i loop-less loop-again returns-2)
+pub good_from_spec : {M : Type 1} → statement M
+good_from_spec = tie.close (tie.spec invariant-loop decreases-loop loop-holds good-record-requires returns add-i loop-less loop-again returns-2)

@@ -9,19 +9,19 @@ use Rattle.list.specs.Automaton.{names_from, names_target}
 use Rattle.list.proofs.higher.Statement.{statement}
 use Rattle.list.proofs.higher.Tie as tie
 
-is-edge-requires : tie.Need-is-edge-requires
+is-edge-requires : tie.Need-is_edge-linked-requires
 is-edge-requires c κs = search rules
 
-is-accept-requires : tie.Need-is-accept-requires
+is-accept-requires : tie.Need-is_accept-requires
 is-accept-requires c κs = search rules
 
-from-requires : tie.Need-from-requires
+from-requires : tie.Need-from-x-requires
 from-requires c κs = search rules
 
-is-start-requires : tie.Need-is-start-requires
+is-start-requires : tie.Need-is_start-requires
 is-start-requires c κs = search rules
 
-target-requires : tie.Need-target-requires
+target-requires : tie.Need-target-y-requires
 target-requires c κs = search rules
 
 larger-requires : tie.Need-larger-requires
@@ -38,27 +38,27 @@ none_named : {x : ℕ} {l a m n : Bool} (y : ℕ) → l ≡ m → a ≡ n → (l
 none_named y p q t e = rw (← p, ← q, t) e
 
 -- what the branches leave: a number that is named, or 0
-x-is : (c : tie.Joined1)
-    → let a = c.before.before.before.before.args in c.if1.x ≡ cond (names_from a.list.now a.i) (from a.list.now a.i) 0
+x-is : (c : tie.Joined-linked-is_accept)
+    → let a = c.args in c.if-linked-is_accept.x ≡ cond (names_from a.list.now a.i) (from a.list.now a.i) 0
 x-is c =
-    let e = c.before.before.is-edge.ensures in
-    let k = c.before.is-accept.ensures in
-    choose c.if1.branch (λ w. some-named e k w.0.taken (w.2 ∙ w.1.ensures)) (λ w. none_named _ e k w.0.left w.1)
+    let e = c.is_edge-linked.ensures in
+    let k = c.is_accept.ensures in
+    choose c.if-linked-is_accept.branch-raw (λ w. some-named e k w.if-linked-is_accept.true (w.x-is ∙ w.from-x.ensures)) (λ w. none_named _ e k w.if-linked-is_accept.false w.x-is)
 
-y-is : (c : tie.Joined2)
-    → let a = c.before.before.before.before.before.before.args in c.if2.y ≡ cond (names_target a.list.now a.i) (target a.list.now a.i) 0
+y-is : (c : tie.Joined-linked-is_start)
+    → let a = c.args in c.if-linked-is_start.y ≡ cond (names_target a.list.now a.i) (target a.list.now a.i) 0
 y-is c =
-    let e = c.before.before.before.before.is-edge.ensures in
-    let k = c.before.is-start.ensures in
-    choose c.if2.branch (λ w. some-named e k w.0.taken (w.2 ∙ w.1.ensures)) (λ w. none_named _ e k w.0.left w.1)
+    let e = c.is_edge-linked.ensures in
+    let k = c.is_start.ensures in
+    choose c.if-linked-is_start.branch-raw (λ w. some-named e k w.if-linked-is_start.true (w.y-is ∙ w.target-y.ensures)) (λ w. none_named _ e k w.if-linked-is_start.false w.y-is)
 
 returns : tie.Need-returns
 returns c =
     let j = c.before.before in
-    c.larger2.ensures ∙ rw (c.before.larger.ensures, x-is j.before.before, y-is j)
+    c.larger-2.ensures ∙ rw (c.larger.ensures, x-is j.before.before, y-is j)
 
-pub higher-spec : {M : Type 1} → statement M
-higher-spec =
+pub higher_spec : {M : Type 1} → statement M
+higher_spec =
     tie.close
     (tie.spec
     is-edge-requires

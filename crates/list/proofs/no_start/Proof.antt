@@ -11,45 +11,45 @@ use Rattle.rules.proofs.Scanning.{some-intro}
 use Rattle.list.proofs.no_start.Statement.{statement}
 use Rattle.list.proofs.no_start.Tie as tie
 
-abbrev invariant-loop : tie.invariant-loop
+abbrev invariant-loop : tie.invariant-loop-i
 invariant-loop list n i₀ i = (i ≤ n) × (some i (is_start list) ≡ false)
 
-abbrev decreases-loop : tie.decreases-loop
+abbrev decreases-loop : tie.decreases-loop-i
 decreases-loop list n i₀ i = n - i
 
-records-requires : tie.Need-records-requires invariant-loop decreases-loop
+records-requires : tie.Need-records-n-requires invariant-loop decreases-loop
 records-requires c κs = search rules
 
-loop-holds : tie.Need-loop-init invariant-loop decreases-loop
+loop-holds : tie.Need-loop-i-init invariant-loop decreases-loop
 unfolding some
 loop-holds c = (search rules, refl)
 
-is-start-requires : tie.Need-is-start-requires invariant-loop decreases-loop
+is-start-requires : tie.Need-is_start-requires invariant-loop decreases-loop
 is-start-requires c κs = search rules
 
-returns : tie.Need-returns invariant-loop decreases-loop
+returns : tie.Need-returns-then-is_start invariant-loop decreases-loop
 unfolding no_start
 returns c =
-    let p = c.before.before.before.loop in
-    let a = c.before.before.before.before.before.before.args in
-    sym (ap not (some-intro (records a.list.now) (is_start a.list.now) p.i (omega arith) (sym c.before.is-start.ensures ∙ c.if1.true)))
+    let p = c.loop-i in
+    let a = c.args in
+    sym (ap not (some-intro (records a.list.now) (is_start a.list.now) p.i (omega arith) (sym c.is_start.ensures ∙ c.if-is_start.true)))
 
-add-i : tie.Need-overflow-add-i invariant-loop decreases-loop
+add-i : tie.Need-overflow_step-i invariant-loop decreases-loop
 add-i c = search rules
 
-loop-less : tie.Need-loop-smaller invariant-loop decreases-loop
+loop-less : tie.Need-loop-i-smaller invariant-loop decreases-loop
 loop-less c = search rules
 
-loop-again : tie.Need-loop-preserved invariant-loop decreases-loop
+loop-again : tie.Need-loop-i-preserved invariant-loop decreases-loop
 unfolding some
 loop-again c = (search rules, rw add-one (cc))
 
-returns-2 : tie.Need-returns-2 invariant-loop decreases-loop
+returns-2 : tie.Need-returns invariant-loop decreases-loop
 unfolding no_start
-returns-2 c = let e : c.before.loop.i ≡ records c.before.before.before.before.args.list.now = omega arith in rw (sym e, c.before.loop.invariant.1)
+returns-2 c = let e : c.loop-i.i ≡ records c.args.list.now = omega arith in rw (sym e, c.loop-i.invariant.1)
 
-pub no-start-spec : {M : Type 1} → statement M
-no-start-spec =
+pub no_start_spec : {M : Type 1} → statement M
+no_start_spec =
     tie.close
     (tie.spec
     invariant-loop

@@ -11,41 +11,41 @@ use Rattle.rules.specs.Scan.{some}
 use Rattle.list.proofs.places.Statement.{statement}
 use Rattle.list.proofs.places.Tie as tie
 
-abbrev invariant-loop : tie.invariant-loop
+abbrev invariant-loop : tie.invariant-loop-i
 invariant-loop w all₀ i₀ i-end all i = (i ≤ length w) × ((j : ℕ) → holds all j ≡ some i (λ k. holds (get_or w k 0) j))
 
-abbrev decreases-loop : tie.decreases-loop
+abbrev decreases-loop : tie.decreases-loop-i
 decreases-loop w all₀ i₀ i-end all i = length w - i
 
-loop-holds : tie.Need-loop-init invariant-loop decreases-loop
+loop-holds : tie.Need-loop-i-init invariant-loop decreases-loop
 unfolding some
 loop-holds c = (search rules, holds-empty)
 
-mul-all : tie.Need-overflow-mul-all invariant-loop decreases-loop
+mul-all : tie.Need-offset_bounds-w-i invariant-loop decreases-loop
 mul-all c = search rules
 
-shared-slice-read-all : tie.Need-shared-slice-read-all invariant-loop decreases-loop
+shared-slice-read-all : tie.Need-bounds-w-i invariant-loop decreases-loop
 shared-slice-read-all c = search rules
 
-add-i : tie.Need-overflow-add-i invariant-loop decreases-loop
+add-i : tie.Need-overflow_step-i invariant-loop decreases-loop
 add-i c = search rules
 
-loop-less : tie.Need-loop-smaller invariant-loop decreases-loop
+loop-less : tie.Need-loop-i-smaller invariant-loop decreases-loop
 loop-less c = search rules
 
-loop-again : tie.Need-loop-preserved invariant-loop decreases-loop
+loop-again : tie.Need-loop-i-preserved invariant-loop decreases-loop
 unfolding some join
 loop-again c =
-    let l = c.before.before.loop in
-    let w = c.before.before.before.args.w.now in
+    let l = c.loop-i in
+    let w = c.args.w.now in
     (omega arith, λ j. rw (add-one l.i) (holds-join l.all (get_or w l.i 0) j ∙ rw (l.invariant.1 j) refl))
 
 returns : tie.Need-returns invariant-loop decreases-loop
 returns c =
-    let l = c.before.loop in
-    let w = c.before.before.args.w.now in
+    let l = c.loop-i in
+    let w = c.args.w.now in
     let e : l.i ≡ length w = omega arith in
     λ j. rw (← e) (l.invariant.1 j)
 
-pub places-spec : {M : Type 1} → statement M
-places-spec = tie.close (tie.spec invariant-loop decreases-loop loop-holds mul-all shared-slice-read-all add-i loop-less loop-again returns)
+pub places_spec : {M : Type 1} → statement M
+places_spec = tie.close (tie.spec invariant-loop decreases-loop loop-holds mul-all shared-slice-read-all add-i loop-less loop-again returns)

@@ -3,20 +3,20 @@ use borrow.Author.Rules.{rules}
 use Rattle.list.proofs.put_word.Statement.{statement}
 use Rattle.list.proofs.put_word.Tie as tie
 
-word-of-requires : tie.Need-word-of-requires
+word-of-requires : tie.Need-word_of-requires
 word-of-requires c κs = search rules
 
-put-bit-requires : tie.Need-put-bit-requires
+put-bit-requires : tie.Need-put_bit-requires
 put-bit-requires c κs = search rules
 
-same_length : tie.Need-same-length
+same_length : tie.Need-shape_of-w
 same_length c = search rules
 
-returns : tie.Need-returns
-returns c = rw c.before.before.before.before.before.if1.true (cc)
+returns : tie.Need-returns-then-test
+returns c = rw c.if-test.true (cc)
 
-returns-2 : tie.Need-returns-2
-returns-2 c = rw c.if1.false
+returns-2 : tie.Need-returns-else-test
+returns-2 c = rw c.if-test.false
 
-pub put-word-spec : {M : Type 1} → statement M
-put-word-spec = tie.close (tie.spec word-of-requires put-bit-requires same_length returns returns-2)
+pub put_word_spec : {M : Type 1} → statement M
+put_word_spec = tie.close (tie.spec word-of-requires put-bit-requires same_length returns returns-2)

@@ -6,5 +6,5 @@ use Rattle.list.proofs.records.Tie as tie
 returns : tie.Need-returns
 returns c = refl
 
-pub records-spec : {M : Type 1} → statement M
-records-spec = tie.close (tie.spec returns)
+pub records_spec : {M : Type 1} → statement M
+records_spec = tie.close (tie.spec returns)

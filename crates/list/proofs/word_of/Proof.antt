@@ -8,19 +8,19 @@ use Rattle.list.specs.List.{record_size}
 use Rattle.list.proofs.word_of.Statement.{statement}
 use Rattle.list.proofs.word_of.Tie as tie
 
-mul-whole-number : tie.Need-overflow-mul-whole-number
+mul-whole-number : tie.Need-overflow_mul-i
 mul-whole-number c = search rules
 
-add-whole-number : tie.Need-overflow-add-whole-number
+add-whole-number : tie.Need-overflow_add-i
 add-whole-number c = search rules
 
-whole-number-requires : tie.Need-whole-number-requires
+whole-number-requires : tie.Need-whole_number-requires
 whole-number-requires c κs = search rules
 
 returns : tie.Need-returns
 returns c =
-    let a = c.before.before.args in
-    c.whole-number.ensures ∙ num-two a.list.now (record_size * a.i + a.k) (omega arith)
+    let a = c.args in
+    c.whole_number.ensures ∙ num-two a.list.now (record_size * a.i + a.k) (omega arith)
 
-pub word-of-spec : {M : Type 1} → statement M
-word-of-spec = tie.close (tie.spec mul-whole-number add-whole-number whole-number-requires returns)
+pub word_of_spec : {M : Type 1} → statement M
+word_of_spec = tie.close (tie.spec mul-whole-number add-whole-number whole-number-requires returns)

@@ -3,26 +3,26 @@ use Rattle.std.proofs.Common.{◌∙◌, rules}
 use Rattle.list_alike.proofs.add_edges.Statement.{statement}
 use Rattle.list_alike.proofs.add_edges.Tie as tie
 
-slice-aggregate-mark-edges : tie.Need-slice-aggregate-mark-edges
+slice-aggregate-mark-edges : tie.Need-slice_bounds-mark_edges-end
 slice-aggregate-mark-edges c = search rules
 
-mark-edges-requires : tie.Need-mark-edges-requires
+mark-edges-requires : tie.Need-mark_edges-requires
 mark-edges-requires c κs = search rules
 
-slice-aggregate-add-marks : tie.Need-slice-aggregate-add-marks
+slice-aggregate-add-marks : tie.Need-slice_bounds-add_marks-end
 slice-aggregate-add-marks c = search rules
 
-add-marks-requires : tie.Need-add-marks-requires
+add-marks-requires : tie.Need-add_marks-requires
 add-marks-requires c κs = search rules
 
-same_length : tie.Need-same-length
-same_length c = c.before.before.add-marks.auto.1.0 ∙ c.before.before.before.before.before.before.before.before.mark-edges.auto.1.1.0
+same_length : tie.Need-shape_of-keys
+same_length c = c.add_marks.auto.keys ∙ c.mark_edges.auto.keys
 
 returns : tie.Need-returns
 returns c = search rules
 
-pub add-edges-spec : {M : Type 1} → statement M
-add-edges-spec =
+pub add_edges_spec : {M : Type 1} → statement M
+add_edges_spec =
     tie.close
     (tie.spec
     slice-aggregate-mark-edges

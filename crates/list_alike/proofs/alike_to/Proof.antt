@@ -4,49 +4,49 @@ use Rattle.list_alike.proofs.Alike.{alike-steps}
 use Rattle.list_alike.proofs.alike_to.Statement.{statement}
 use Rattle.list_alike.proofs.alike_to.Tie as tie
 
-place-of-requires : tie.Need-place-of-requires
+place-of-requires : tie.Need-place_of-at-requires
 place-of-requires c κs = search rules
 
-byte-at-requires : tie.Need-byte-at-requires
+byte-at-requires : tie.Need-byte_at-d-requires
 byte-at-requires c κs = search rules
 
-cast-key-at : tie.Need-overflow-cast-key-at
+cast-key-at : tie.Need-overflow_cast-d
 cast-key-at c = search rules
 
-key-at-requires : tie.Need-key-at-requires
+key-at-requires : tie.Need-key_at-requires
 key-at-requires c κs = search rules
 
-key-at-requires-2 : tie.Need-key-at-requires-2
+key-at-requires-2 : tie.Need-key_at-requires-2
 key-at-requires-2 c κs = search rules
 
-edges-alike-requires : tie.Need-edges-alike-requires
+edges-alike-requires : tie.Need-edges_alike-requires
 edges-alike-requires c κs = search rules
 
-same_length : tie.Need-same-length
+same_length : tie.Need-shape_of-places-then-edges_alike
 same_length c = search rules
 
-returns : tie.Need-returns
+returns : tie.Need-returns-then-edges_alike
 returns c =
-    let a = c.before.before.before.before.before.before.before.before.before.before.before.before.args in
-    alike-steps a.list.now c.before.before.before.before.before.byte_at.result a.c (sym c.before.edges-alike.ensures ∙ c.if2.true)
+    let a = c.args in
+    alike-steps a.list.now c.byte_at-d.result a.c (sym c.edges_alike.ensures ∙ c.if-edges_alike.true)
 
-same-length-2 : tie.Need-same-length-2
+same-length-2 : tie.Need-shape_of-places-then-d-c
 same-length-2 c = search rules
 
-returns-2 : tie.Need-returns-2
+returns-2 : tie.Need-returns-then-d-c
 returns-2 c = λ F. refl
 
-put-byte-requires : tie.Need-put-byte-requires
+put-byte-requires : tie.Need-put_byte-requires
 put-byte-requires c κs = search rules
 
-same-length-3 : tie.Need-same-length-3
-same-length-3 c = c.before.before.put_byte.auto.0
+same-length-3 : tie.Need-shape_of-places
+same-length-3 c = c.put_byte.auto.places
 
-returns-3 : tie.Need-returns-3
+returns-3 : tie.Need-returns
 returns-3 c = λ F. refl
 
-pub alike-to-spec : {M : Type 1} → statement M
-alike-to-spec =
+pub alike_to_spec : {M : Type 1} → statement M
+alike_to_spec =
     tie.close
     (tie.spec
     place-of-requires

@@ -3,11 +3,11 @@ use borrow.Author.Rules.{rules}
 use Rattle.list_flow.proofs.rows_of.Statement.{statement}
 use Rattle.list_flow.proofs.rows_of.Tie as tie
 
-number-at-requires : tie.Need-number-at-requires
+number-at-requires : tie.Need-number_at-requires
 number-at-requires c κs = search rules
 
 returns : tie.Need-returns
 returns c = c.number_at.ensures
 
-pub rows-of-spec : {M : Type 1} → statement M
-rows-of-spec = tie.close (tie.spec number-at-requires returns)
+pub rows_of_spec : {M : Type 1} → statement M
+rows_of_spec = tie.close (tie.spec number-at-requires returns)

@@ -14,53 +14,51 @@ use Prim.Native.Nat.{◌≤◌, ◌<◌, ◌-◌}
 use Rattle.list_fold.proofs.add.Statement.{statement}
 use Rattle.list_fold.proofs.add.Tie as tie
 
-abbrev invariant-loop : tie.invariant-loop
+abbrev invariant-loop : tie.invariant-loop-i
 invariant-loop list leads numbers top out₀ n at₀ i₀ out at i = (i ≤ n) × (at ≡ length (front (chief_of list) list i)) × (out ≡ placed out₀ 0 (front (chief_of list) list i)) × (length out ≡ length out₀)
 
-abbrev decreases-loop : tie.decreases-loop
+abbrev decreases-loop : tie.decreases-loop-i
 decreases-loop list leads numbers top out₀ n at₀ i₀ out at i = n - i
 
-records-requires : tie.Need-records-requires invariant-loop decreases-loop
+records-requires : tie.Need-records-n-requires invariant-loop decreases-loop
 records-requires c κs = search rules
 
-loop-holds : tie.Need-loop-init invariant-loop decreases-loop
+loop-holds : tie.Need-loop-i-init invariant-loop decreases-loop
 unfolding stack
 loop-holds c =
-    (search rules, refl, placed-none c.before.before.before.before.before.args.out.now 0 (omega arith), refl)
+    (search rules, refl, placed-none c.args.out.now 0 (omega arith), refl)
 
-add-record-requires : tie.Need-add-record-requires invariant-loop decreases-loop
+add-record-requires : tie.Need-add_record-at-requires invariant-loop decreases-loop
 add-record-requires c κs =
-    let s = c.before.before.before.before.before.before.before.before in
-    let L = s.args.list.now in
-    let l = c.before.before.loop in
-    let k : l.i < records L = omega (arith, c.before.before.before.records.ensures, c.before.loop-test.true) in
-    (s.requires.0, k, omega (arith, l.invariant.1, l.invariant.3, s.requires.1, front-room (chief_of L) L l.i (records L) k, ap length (front-whole (chief_of L) L)))
+    let L = c.args.list.now in
+    let l = c.loop-i in
+    let k : l.i < records L = omega (arith, c.records-n.ensures, c.loop-i-test.true) in
+    (c.requires.0, k, omega (arith, l.invariant.1, l.invariant.3, c.requires.1, front-room (chief_of L) L l.i (records L) k, ap length (front-whole (chief_of L) L)))
 
-add-i : tie.Need-overflow-add-i invariant-loop decreases-loop
+add-i : tie.Need-overflow_step-i invariant-loop decreases-loop
 add-i c = search rules
 
-loop-less : tie.Need-loop-smaller invariant-loop decreases-loop
+loop-less : tie.Need-loop-i-smaller invariant-loop decreases-loop
 loop-less c = search rules
 
-loop-again : tie.Need-loop-preserved invariant-loop decreases-loop
+loop-again : tie.Need-loop-i-preserved invariant-loop decreases-loop
 loop-again c =
-    let s = c.before.before.before.before.before.before.before.before.before.before.before in
-    let L = s.args.list.now in
-    let l = c.before.before.before.before.before.loop in
-    let r = c.before.before.add-record.ensures in
-    let k : l.i < records L = omega (arith, c.before.before.before.before.before.before.records.ensures, c.before.before.before.before.loop-test.true) in
-    let m = add-more (chief_of L) L s.args.out.now l.i k s.requires.1 in
+    let L = c.args.list.now in
+    let l = c.loop-i in
+    let r = c.add_record-at.ensures in
+    let k : l.i < records L = omega (arith, c.records-n.ensures, c.loop-i-test.true) in
+    let m = add-more (chief_of L) L c.args.out.now l.i k c.requires.1 in
     (omega arith, rw (add-one, front-more (chief_of L) L l.i, length-append) (omega (arith, r.0, l.invariant.1)), rw add-one (r.1 ∙ rw (l.invariant.1, l.invariant.2) m), search rules)
 
-same_length : tie.Need-same-length invariant-loop decreases-loop
+same_length : tie.Need-shape_of-out invariant-loop decreases-loop
 same_length c =
     search rules
 
 returns : tie.Need-returns invariant-loop decreases-loop
 returns c =
-    let L = c.before.before.before.before.before.before.before.args.list.now in
-    let e : c.before.loop.i ≡ records L = omega (arith, c.before.before.records.ensures) in
-    rw (← front-whole (chief_of L) L, ← e) c.before.loop.invariant.2
+    let L = c.args.list.now in
+    let e : c.loop-i.i ≡ records L = omega (arith, c.records-n.ensures) in
+    rw (← front-whole (chief_of L) L, ← e) c.loop-i.invariant.2
 
 pub add_spec : {M : Type 1} → statement M
 add_spec =

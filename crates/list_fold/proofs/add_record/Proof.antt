@@ -11,42 +11,42 @@ use Rattle.list_fold.proofs.add_record.Tie as tie
 
 stays-requires : tie.Need-stays-requires
 stays-requires c κs =
-    let p = c.before.before.before.before.requires in (p.1, p.0.top-is, omega (arith, p.0.low, p.0.long), p.0.chiefs-are)
+    let p = c.requires in (p.1, p.0.top-is, omega (arith, p.0.low, p.0.long), p.0.chiefs-are)
 
-put-record-requires : tie.Need-put-record-requires
+put-record-requires : tie.Need-put_record-requires
 put-record-requires c κs =
-    let p = c.before.before.before.before.before.before.before.requires in
-    let a = c.before.before.before.before.before.before.before.args in
+    let p = c.requires in
+    let a = c.args in
     let L = a.list.now in
-    let e = gives-in (chief_of L) L a.i (sym c.before.before.stays.ensures ∙ c.before.if1.true) in (
+    let e = gives-in (chief_of L) L a.i (sym c.stays.ensures ∙ c.if-stays.true) in (
       p.1,
       omega (arith, p.0.top-is, p.0.low, p.0.many),
       λ s h. p.0.numbered s (omega (arith, p.0.top-is, h)),
       omega (arith, record-long (chief_of L) L a.i, rw e at p.2),
     )
 
-add-result : tie.Need-overflow-add-result
+add-result : tie.Need-overflow_add-result
 add-result c = search rules
 
-same_length : tie.Need-same-length
+same_length : tie.Need-shape_of-out-then-stays
 same_length c = search rules
 
-returns : tie.Need-returns
+returns : tie.Need-returns-then-stays
 returns c =
-    let a = c.before.before.before.before.before.before.before.before.before.before.args in
+    let a = c.args in
     let L = a.list.now in
-    let e = gives-in (chief_of L) L a.i (sym c.before.before.before.before.before.stays.ensures ∙ c.before.before.before.before.if1.true) in
-    rw (e, record-long (chief_of L) L a.i) (refl, c.before.before.put_record.ensures)
+    let e = gives-in (chief_of L) L a.i (sym c.stays.ensures ∙ c.if-stays.true) in
+    rw (e, record-long (chief_of L) L a.i) (refl, c.put_record.ensures)
 
-returns-2 : tie.Need-returns-2
+returns-2 : tie.Need-returns
 returns-2 c =
-    let a = c.before.before.before.before.before.before.args in
+    let a = c.args in
     let L = a.list.now in
-    let e = gives-out (chief_of L) L a.i (sym c.before.stays.ensures ∙ c.if1.false) in
-    rw e (omega arith, placed-none a.out.now a.at (omega (arith, c.before.before.before.before.before.before.requires.2)))
+    let e = gives-out (chief_of L) L a.i (sym c.stays.ensures ∙ c.if-stays.false) in
+    rw e (omega arith, placed-none a.out.now a.at (omega (arith, c.requires.2)))
 
-pub add-record-spec : {M : Type 1} → statement M
-add-record-spec =
+pub add_record_spec : {M : Type 1} → statement M
+add_record_spec =
     tie.close
     (tie.spec
     stays-requires

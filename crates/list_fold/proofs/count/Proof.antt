@@ -11,48 +11,48 @@ use Prim.Native.Nat.{◌≤◌, ◌-◌}
 use Rattle.list_fold.proofs.count.Statement.{statement}
 use Rattle.list_fold.proofs.count.Tie as tie
 
-abbrev invariant-loop : tie.invariant-loop
+abbrev invariant-loop : tie.invariant-loop-i
 invariant-loop list leads top n kept₀ i₀ kept i = (i ≤ n) × (kept ≡ counted (stays (chief_of list) list) i) × (kept ≤ i)
 
-abbrev decreases-loop : tie.decreases-loop
+abbrev decreases-loop : tie.decreases-loop-i
 decreases-loop list leads top n kept₀ i₀ kept i = n - i
 
-records-requires : tie.Need-records-requires invariant-loop decreases-loop
+records-requires : tie.Need-records-n-requires invariant-loop decreases-loop
 records-requires c κs = search rules
 
-loop-holds : tie.Need-loop-init invariant-loop decreases-loop
+loop-holds : tie.Need-loop-i-init invariant-loop decreases-loop
 unfolding counted
 loop-holds c =
     (search rules, refl, search rules)
 
 stays-requires : tie.Need-stays-requires invariant-loop decreases-loop
 stays-requires c κs =
-    let p = c.before.before.before.before.before.requires in (search rules, p.0, p.1, p.2)
+    let p = c.requires in (search rules, p.0, p.1, p.2)
 
-add_kept : tie.Need-overflow-add-kept invariant-loop decreases-loop
+add_kept : tie.Need-overflow_add-kept invariant-loop decreases-loop
 add_kept c =
-    omega (arith, c.before.before.before.loop.invariant.2)
+    omega (arith, c.loop-i.invariant.2)
 
-add-i : tie.Need-overflow-add-i invariant-loop decreases-loop
+add-i : tie.Need-overflow_step-i invariant-loop decreases-loop
 add-i c = search rules
 
-loop-less : tie.Need-loop-smaller invariant-loop decreases-loop
+loop-less : tie.Need-loop-i-smaller invariant-loop decreases-loop
 loop-less c = search rules
 
-loop-again : tie.Need-loop-preserved invariant-loop decreases-loop
+loop-again : tie.Need-loop-i-preserved invariant-loop decreases-loop
 loop-again c =
-    let L = c.before.before.before.before.before.before.before.args.list.now in
-    let l = c.before.before.before.loop in
-    let s = c.before.stays.ensures in
-    choose c.if1.branch
-    (λ w. (omega arith, rw add-one (w.1 ∙ omega (arith, l.invariant.1) ∙ sym (counted-in (stays (chief_of L) L) l.i (sym s ∙ w.0.taken))), omega (arith, w.1, l.invariant.2)))
-    (λ w. (omega arith, rw add-one (w.1 ∙ l.invariant.1 ∙ sym (counted-out (stays (chief_of L) L) l.i (sym s ∙ w.0.left))), omega (arith, w.1, l.invariant.2)))
+    let L = c.args.list.now in
+    let l = c.loop-i in
+    let s = c.stays.ensures in
+    choose c.if-stays.branch-raw
+    (λ w. (omega arith, rw add-one (w.kept-is ∙ omega (arith, l.invariant.1) ∙ sym (counted-in (stays (chief_of L) L) l.i (sym s ∙ w.if-stays.true))), omega (arith, w.kept-is, l.invariant.2)))
+    (λ w. (omega arith, rw add-one (w.kept-is ∙ l.invariant.1 ∙ sym (counted-out (stays (chief_of L) L) l.i (sym s ∙ w.if-stays.false))), omega (arith, w.kept-is, l.invariant.2)))
 
 returns : tie.Need-returns invariant-loop decreases-loop
 returns c =
-    let L = c.before.before.before.before.before.args.list.now in
-    let e : c.before.loop.i ≡ records L = omega (arith, c.before.before.records.ensures) in
-    rw (← e) c.before.loop.invariant.1
+    let L = c.args.list.now in
+    let e : c.loop-i.i ≡ records L = omega (arith, c.records-n.ensures) in
+    rw (← e) c.loop-i.invariant.1
 
 pub count_spec : {M : Type 1} → statement M
 count_spec =

@@ -6,23 +6,21 @@ use mathlib.Core.Path.{sym, ◌∙◌}
 use Rattle.list_fold.proofs.follows.Statement.{statement}
 use Rattle.list_fold.proofs.follows.Tie as tie
 
-number-at-requires : tie.Need-number-at-requires
+number-at-requires : tie.Need-number_at-requires
 number-at-requires c κs = search rules
 
 alike-requires : tie.Need-alike-requires
 alike-requires c κs = search rules
 
-returns : tie.Need-returns
+returns : tie.Need-returns-then-number_at-r
 returns c =
-    let s = c.before.before.before.before.before.before.before in
-    let a = s.args in
-    c.alike.ensures ∙ follows-when (take a.s a.leads.now) a.list.now a.s a.r (chief-among a.leads.now a.s s.requires.4 a.r s.requires.3 ∙ sym c.before.before.number_at.ensures.0 ∙ c.before.if1.true)
+    let a = c.args in
+    c.alike.ensures ∙ follows-when (take a.s a.leads.now) a.list.now a.s a.r (chief-among a.leads.now a.s c.requires.4 a.r c.requires.3 ∙ sym c.number_at.ensures.0 ∙ c.if-number_at-r.true)
 
-returns-2 : tie.Need-returns-2
+returns-2 : tie.Need-returns
 returns-2 c =
-    let s = c.before.before.before.before.before.before in
-    let a = s.args in
-    follows-not (take a.s a.leads.now) a.list.now a.s a.r (λ e. c.if1.false (c.before.number_at.ensures.0 ∙ sym (chief-among a.leads.now a.s s.requires.4 a.r s.requires.3) ∙ e))
+    let a = c.args in
+    follows-not (take a.s a.leads.now) a.list.now a.s a.r (λ e. c.if-number_at-r.false (c.number_at.ensures.0 ∙ sym (chief-among a.leads.now a.s c.requires.4 a.r c.requires.3) ∙ e))
 
-pub follows-spec : {M : Type 1} → statement M
-follows-spec = tie.close (tie.spec number-at-requires alike-requires returns returns-2)
+pub follows_spec : {M : Type 1} → statement M
+follows_spec = tie.close (tie.spec number-at-requires alike-requires returns returns-2)

@@ -7,35 +7,33 @@ use mathlib.Core.Path.{◌∙◌}
 use Rattle.list_fold.proofs.new_from.Statement.{statement}
 use Rattle.list_fold.proofs.new_from.Tie as tie
 
-from-requires : tie.Need-from-requires
+from-requires : tie.Need-from-t-requires
 from-requires c κs = search rules
 
-is-edge-requires : tie.Need-is-edge-requires
+is-edge-requires : tie.Need-is_edge-requires
 is-edge-requires c κs = search rules
 
-is-accept-requires : tie.Need-is-accept-requires
+is-accept-requires : tie.Need-is_accept-requires
 is-accept-requires c κs = search rules
 
-number-at-requires : tie.Need-number-at-requires
+number-at-requires : tie.Need-number_at-requires
 number-at-requires c κs =
-    let s = c.before.before.before.before.before.before in
-    let k = from_low s.args.list.now s.args.i s.requires.0 (rw (← c.before.before.is-edge.ensures, ← c.before.is-accept.ensures) c.if1.true) in
-    omega (arith, c.before.before.before.from.ensures, k, s.requires.1)
+    let k = from_low c.args.list.now c.args.i c.requires.0 (rw (← c.is_edge.ensures, ← c.is_accept.ensures) c.if-is_edge-is_accept.true) in
+    omega (arith, c.from-t.ensures, k, c.requires.1)
 
-returns : tie.Need-returns
+returns : tie.Need-returns-then-is_edge-is_accept
 returns c =
-    let s = c.before.before.before.before.before.before.before in
-    let L = s.args.list.now in
-    let i = s.args.i in
-    let k = from_low L i s.requires.0 (rw (← c.before.before.before.is-edge.ensures, ← c.before.before.is-accept.ensures) c.before.if1.true) in
-    rw (← c.before.before.before.is-edge.ensures, ← c.before.before.is-accept.ensures, c.before.if1.true) (c.number_at.ensures.0 ∙ rw c.before.before.before.before.from.ensures (s.requires.2 (from L i) k))
+    let L = c.args.list.now in
+    let i = c.args.i in
+    let k = from_low L i c.requires.0 (rw (← c.is_edge.ensures, ← c.is_accept.ensures) c.if-is_edge-is_accept.true) in
+    rw (← c.is_edge.ensures, ← c.is_accept.ensures, c.if-is_edge-is_accept.true) (c.number_at.ensures.0 ∙ rw c.from-t.ensures (c.requires.2 (from L i) k))
 
-returns-2 : tie.Need-returns-2
+returns-2 : tie.Need-returns
 returns-2 c =
-    rw (← c.before.before.is-edge.ensures, ← c.before.is-accept.ensures, c.if1.false) c.before.before.before.from.ensures
+    rw (← c.is_edge.ensures, ← c.is_accept.ensures, c.if-is_edge-is_accept.false) c.from-t.ensures
 
-pub new-from-spec : {M : Type 1} → statement M
-new-from-spec =
+pub new_from_spec : {M : Type 1} → statement M
+new_from_spec =
     tie.close
     (tie.spec
     from-requires

@@ -7,35 +7,33 @@ use mathlib.Core.Path.{◌∙◌}
 use Rattle.list_fold.proofs.new_target.Statement.{statement}
 use Rattle.list_fold.proofs.new_target.Tie as tie
 
-target-requires : tie.Need-target-requires
+target-requires : tie.Need-target-t-requires
 target-requires c κs = search rules
 
-is-edge-requires : tie.Need-is-edge-requires
+is-edge-requires : tie.Need-is_edge-requires
 is-edge-requires c κs = search rules
 
-is-start-requires : tie.Need-is-start-requires
+is-start-requires : tie.Need-is_start-requires
 is-start-requires c κs = search rules
 
-number-at-requires : tie.Need-number-at-requires
+number-at-requires : tie.Need-number_at-requires
 number-at-requires c κs =
-    let s = c.before.before.before.before.before.before in
-    let k = target-low s.args.list.now s.args.i s.requires.0 (rw (← c.before.before.is-edge.ensures, ← c.before.is-start.ensures) c.if1.true) in
-    omega (arith, c.before.before.before.target.ensures, k, s.requires.1)
+    let k = target-low c.args.list.now c.args.i c.requires.0 (rw (← c.is_edge.ensures, ← c.is_start.ensures) c.if-is_edge-is_start.true) in
+    omega (arith, c.target-t.ensures, k, c.requires.1)
 
-returns : tie.Need-returns
+returns : tie.Need-returns-then-is_edge-is_start
 returns c =
-    let s = c.before.before.before.before.before.before.before in
-    let L = s.args.list.now in
-    let i = s.args.i in
-    let k = target-low L i s.requires.0 (rw (← c.before.before.before.is-edge.ensures, ← c.before.before.is-start.ensures) c.before.if1.true) in
-    rw (← c.before.before.before.is-edge.ensures, ← c.before.before.is-start.ensures, c.before.if1.true) (c.number_at.ensures.0 ∙ rw c.before.before.before.before.target.ensures (s.requires.2 (target L i) k))
+    let L = c.args.list.now in
+    let i = c.args.i in
+    let k = target-low L i c.requires.0 (rw (← c.is_edge.ensures, ← c.is_start.ensures) c.if-is_edge-is_start.true) in
+    rw (← c.is_edge.ensures, ← c.is_start.ensures, c.if-is_edge-is_start.true) (c.number_at.ensures.0 ∙ rw c.target-t.ensures (c.requires.2 (target L i) k))
 
-returns-2 : tie.Need-returns-2
+returns-2 : tie.Need-returns
 returns-2 c =
-    rw (← c.before.before.is-edge.ensures, ← c.before.is-start.ensures, c.if1.false) c.before.before.before.target.ensures
+    rw (← c.is_edge.ensures, ← c.is_start.ensures, c.if-is_edge-is_start.false) c.target-t.ensures
 
-pub new-target-spec : {M : Type 1} → statement M
-new-target-spec =
+pub new_target_spec : {M : Type 1} → statement M
+new_target_spec =
     tie.close
     (tie.spec
     target-requires

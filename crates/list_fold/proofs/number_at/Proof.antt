@@ -5,19 +5,19 @@ use native.Mathlib.Omega.{arith}
 use Rattle.list_fold.proofs.number_at.Statement.{statement}
 use Rattle.list_fold.proofs.number_at.Tie as tie
 
-mul-result : tie.Need-overflow-mul-result
+mul-result : tie.Need-offset_bounds-a-i
 mul-result c = search rules
 
-shared-slice-read-result : tie.Need-shared-slice-read-result
+shared-slice-read-result : tie.Need-bounds-a-i
 shared-slice-read-result c = search rules
 
-cast-result : tie.Need-overflow-cast-result
+cast-result : tie.Need-overflow_cast-result
 cast-result c =
-    omega (arith, c.shared-slice-known.given c.before.args.i)
+    omega (arith, c.shared_slice_known-1.given c.args.i)
 
 returns : tie.Need-returns
 returns c =
-    (refl, omega (arith, c.shared-slice-known.given c.before.args.i))
+    (refl, omega (arith, c.shared_slice_known-1.given c.args.i))
 
-pub number-at-spec : {M : Type 1} → statement M
-number-at-spec = tie.close (tie.spec mul-result shared-slice-read-result cast-result returns)
+pub number_at_spec : {M : Type 1} → statement M
+number_at_spec = tie.close (tie.spec mul-result shared-slice-read-result cast-result returns)

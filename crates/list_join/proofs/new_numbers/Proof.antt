@@ -11,53 +11,52 @@ use borrow.Author.Rules.{rules}
 use Rattle.list_join.proofs.new_numbers.Statement.{statement}
 use Rattle.list_join.proofs.new_numbers.Tie as tie
 
-abbrev invariant-loop : tie.invariant-loop
+abbrev invariant-loop : tie.invariant-loop-t
 invariant-loop n top new₀ t₀ t-end new t = (t ≤ t-end) × (length new ≡ 1024) × ((s : ℕ) → s < t → get_or new s 0 ≡ renamed n s)
 
-abbrev decreases-loop : tie.decreases-loop
+abbrev decreases-loop : tie.decreases-loop-t
 decreases-loop n top new₀ t₀ t-end new t = t-end - t
 
-add-t-end : tie.Need-overflow-add-t-end invariant-loop decreases-loop
+add-t-end : tie.Need-overflow_add-t-end invariant-loop decreases-loop
 add-t-end c = let w = c.requires.below in omega (arith, w)
 
-loop-holds : tie.Need-loop-init invariant-loop decreases-loop
+loop-holds : tie.Need-loop-t-init invariant-loop decreases-loop
 loop-holds c = (search rules, search rules, λ s h. absurd (omega arith))
 
 rename-requires : tie.Need-rename-requires invariant-loop decreases-loop
-rename-requires c κs = let w = c.before.before.requires in (omega (arith, w.next), omega (arith, w.below))
+rename-requires c κs = let w = c.requires in (omega (arith, w.next), omega (arith, w.below))
 
-cast-new : tie.Need-overflow-cast-new invariant-loop decreases-loop
+cast-new : tie.Need-overflow_cast-new invariant-loop decreases-loop
 cast-new c = search rules
 
-mul-new : tie.Need-overflow-mul-new invariant-loop decreases-loop
-mul-new c = let w = c.before.before.before.requires.below in omega (arith, w)
+mul-new : tie.Need-offset_bounds-new-t invariant-loop decreases-loop
+mul-new c = let w = c.requires.below in omega (arith, w)
 
-array-write-new : tie.Need-array-write-new invariant-loop decreases-loop
-array-write-new c = let w = c.before.before.before.requires.below in omega (arith, w)
+array-write-new : tie.Need-bounds-new-t invariant-loop decreases-loop
+array-write-new c = let w = c.requires.below in omega (arith, w)
 
-add-t : tie.Need-overflow-add-t invariant-loop decreases-loop
+add-t : tie.Need-overflow_step-t invariant-loop decreases-loop
 add-t c = search rules
 
-loop-less : tie.Need-loop-smaller invariant-loop decreases-loop
+loop-less : tie.Need-loop-t-smaller invariant-loop decreases-loop
 loop-less c = search rules
 
-loop-again : tie.Need-loop-preserved invariant-loop decreases-loop
+loop-again : tie.Need-loop-t-preserved invariant-loop decreases-loop
 loop-again c =
-    let s = c.before.before.before in
-    let l = c.before.before.loop in
-    let n = s.args.n in
-    let d = renamed-most n l.t s.requires.low in
-    let e : c.rename.result % 65536 ≡ renamed n l.t = rw c.rename.ensures (low-mod (renamed n l.t) (omega (arith, d, s.requires.next, s.requires.below))) in
+    let l = c.loop-t in
+    let n = c.args.n in
+    let d = renamed-most n l.t c.requires.low in
+    let e : c.rename.result % 65536 ≡ renamed n l.t = rw c.rename.ensures (low-mod (renamed n l.t) (omega (arith, d, c.requires.next, c.requires.below))) in
     (search rules, search rules, rw add-one (set_more (renamed n) l.new l.t (c.rename.result % 65536) (omega arith) l.invariant.2 e))
 
 returns : tie.Need-returns invariant-loop decreases-loop
 returns c =
-    let l = c.before.loop in
-    let w = c.before.before.requires.below in
+    let l = c.loop-t in
+    let w = c.requires.below in
     record { room = omega (arith, l.invariant.1, w); each = λ t h. l.invariant.2 t (omega arith) }
 
-pub new-numbers-spec : {M : Type 1} → statement M
-new-numbers-spec =
+pub new_numbers_spec : {M : Type 1} → statement M
+new_numbers_spec =
     tie.close
     (tie.spec
     invariant-loop

@@ -6,70 +6,66 @@ use borrow.Author.Rules.{rules}
 use Rattle.list_join.proofs.note.Statement.{statement}
 use Rattle.list_join.proofs.note.Tie as tie
 
-is-start-requires : tie.Need-is-start-requires
+is-start-requires : tie.Need-is_start-requires
 is-start-requires c κs = search rules
 
-note-start-requires : tie.Need-note-start-requires
+note-start-requires : tie.Need-note_start-requires
 note-start-requires c κs =
-    let s = c.before.before.before.before.before.before.before.before in
-    let a = s.args in
-    (s.requires.0, sym c.before.before.before.is-start.ensures ∙ c.before.before.if1.true, s.requires.2.marked.0, s.requires.2.long, λ q l. count_low a.list.now a.i a.marks.now a.staying.now a.spares.now s.requires.2 q l s.requires.1)
+    let a = c.args in
+    (c.requires.0, sym c.is_start.ensures ∙ c.if-is_start.true, c.requires.2.marked.0, c.requires.2.long, λ q l. count_low a.list.now a.i a.marks.now a.staying.now a.spares.now c.requires.2 q l c.requires.1)
 
-same_length : tie.Need-same-length
+same_length : tie.Need-shape_of-marks-then-is_start
 same_length c = search rules
 
-same-length-2 : tie.Need-same-length-2
+same-length-2 : tie.Need-shape_of-spares-then-is_start
 same-length-2 c = search rules
 
-returns : tie.Need-returns
+returns : tie.Need-returns-then-is_start
 returns c =
-    let s = c.before.before.before.before.before.before.before.before.before.before.before.before.before in
-    let a = s.args in
-    let n = c.before.before.before.before.note-start.ensures in
-    (n.0, λ z. let m = n.1 z in rw (m.1, m.2) (seen_start a.list.now a.i a.marks.now a.staying.now a.spares.now s.requires.2 (sym c.before.before.before.before.before.before.before.before.is-start.ensures ∙ c.before.before.before.before.before.before.before.if1.true) m.0))
+    let a = c.args in
+    let n = c.note_start.ensures in
+    (n.0, λ z. let m = n.1 z in rw (m.1, m.2) (seen_start a.list.now a.i a.marks.now a.staying.now a.spares.now c.requires.2 (sym c.is_start.ensures ∙ c.if-is_start.true) m.0))
 
-is-edge-requires : tie.Need-is-edge-requires
+is-edge-requires : tie.Need-is_edge-requires
 is-edge-requires c κs = search rules
 
-note-edge-requires : tie.Need-note-edge-requires
-note-edge-requires c κs = let s = c.before.before.before.before.before.before.before.before.before.before.before in (s.requires.0, s.requires.1, sym c.before.before.before.before.is-edge.ensures ∙ c.before.before.before.if2.true, s.requires.2)
+note-edge-requires : tie.Need-note_edge-requires
+note-edge-requires c κs = (c.requires.0, c.requires.1, sym c.is_edge.ensures ∙ c.if-is_edge.true, c.requires.2)
 
-same-length-3 : tie.Need-same-length-3
+same-length-3 : tie.Need-shape_of-marks-then-is_edge
 same-length-3 c = search rules
 
-same-length-4 : tie.Need-same-length-4
+same-length-4 : tie.Need-shape_of-staying-then-is_edge
 same-length-4 c = search rules
 
-same-length-5 : tie.Need-same-length-5
+same-length-5 : tie.Need-shape_of-spares-then-is_edge
 same-length-5 c = search rules
 
-returns-2 : tie.Need-returns-2
+returns-2 : tie.Need-returns-then-is_edge
 returns-2 c = search rules
 
-note-accept-requires : tie.Need-note-accept-requires
+note-accept-requires : tie.Need-note_accept-requires
 note-accept-requires c κs =
-    let s = c.before.before.before.before.before.before.before.before.before in
-    (s.requires.0, sym c.before.before.is-edge.ensures ∙ c.before.if2.false, sym c.before.before.before.before.is-start.ensures ∙ c.before.before.before.if1.false, s.requires.2.marked.0)
+    (c.requires.0, sym c.is_edge.ensures ∙ c.if-is_edge.false, sym c.is_start.ensures ∙ c.if-is_start.false, c.requires.2.marked.0)
 
-same-length-6 : tie.Need-same-length-6
+same-length-6 : tie.Need-shape_of-marks
 same-length-6 c = search rules
 
-returns-3 : tie.Need-returns-3
+returns-3 : tie.Need-returns
 returns-3 c =
-    let s = c.before.before.before.before.before.before.before.before.before.before.before.before in
-    let a = s.args in
-    let n = c.before.before.note-accept.ensures in
-    let e = sym c.before.before.before.before.before.is-edge.ensures ∙ c.before.before.before.before.if2.false in
-    let d = sym c.before.before.before.before.before.before.before.is-start.ensures ∙ c.before.before.before.before.before.before.if1.false in (
+    let a = c.args in
+    let n = c.note_accept.ensures in
+    let e = sym c.is_edge.ensures ∙ c.if-is_edge.false in
+    let d = sym c.is_start.ensures ∙ c.if-is_start.false in (
       n.0,
       λ z.
           let m = n.1 z in
           let g = (accept-good a.list.now a.i).0 (sym (good-other a.list.now a.i e d) ∙ sym n.0 ∙ z) in
-          rw m.1 (seen-accept a.list.now a.i a.marks.now a.staying.now a.spares.now s.requires.2 e d g.0 m.0),
+          rw m.1 (seen-accept a.list.now a.i a.marks.now a.staying.now a.spares.now c.requires.2 e d g.0 m.0),
     )
 
-pub note-spec : {M : Type 1} → statement M
-note-spec =
+pub note_spec : {M : Type 1} → statement M
+note_spec =
     tie.close
     (tie.spec
     is-start-requires

@@ -6,43 +6,41 @@ use borrow.Author.Rules.{rules}
 use Rattle.list_join.proofs.note_loop.Statement.{statement}
 use Rattle.list_join.proofs.note_loop.Tie as tie
 
-target-requires : tie.Need-target-requires
+target-requires : tie.Need-target-t-requires
 target-requires c κs = search rules
 
-put-spare-requires : tie.Need-put-spare-requires
+put-spare-requires : tie.Need-put_spare-requires
 put-spare-requires c κs =
-    let s = c.before.before.before.before.before.before in
-    let a = s.args in
-    let e = c.before.target.ensures in
-    (omega (arith, e, s.requires.3, s.requires.5.long), rw e (count_low a.list.now a.i a.marks.now a.staying.now a.spares.now s.requires.5 (target a.list.now a.i) s.requires.3 s.requires.1))
+    let a = c.args in
+    let e = c.target-t.ensures in
+    (omega (arith, e, c.requires.3, c.requires.5.long), rw e (count_low a.list.now a.i a.marks.now a.staying.now a.spares.now c.requires.5 (target a.list.now a.i) c.requires.3 c.requires.1))
 
-put-flag-requires : tie.Need-put-flag-requires
+put-flag-requires : tie.Need-put_flag-requires
 put-flag-requires c κs = search rules
 
 full-requires : tie.Need-full-requires
 full-requires c κs = search rules
 
-put-mark-requires : tie.Need-put-mark-requires
+put-mark-requires : tie.Need-put_mark-requires
 put-mark-requires c κs = search rules
 
-same_length : tie.Need-same-length
+same_length : tie.Need-shape_of-marks
 same_length c = search rules
 
-same-length-2 : tie.Need-same-length-2
+same-length-2 : tie.Need-shape_of-staying
 same-length-2 c = search rules
 
-same-length-3 : tie.Need-same-length-3
+same-length-3 : tie.Need-shape_of-spares
 same-length-3 c = search rules
 
 returns : tie.Need-returns
 returns c =
-    let s = c.before.before.before.before.before.before.before.before.before.before.before.before.before.before.before.before.before.before in
-    let a = s.args in
-    rw (c.before.before.put-mark.ensures, c.before.before.before.before.before.before.before.put-flag.ensures, c.before.before.before.before.before.before.before.before.before.before.before.put-spare.ensures, c.before.before.before.before.before.before.before.before.before.before.before.before.before.target.ensures)
-    (seen-loop a.list.now a.i a.marks.now a.staying.now a.spares.now s.requires.5 s.requires.2 (omega (arith, s.requires.3, s.requires.4)) s.requires.3 s.requires.4 c.before.before.before.full.result c.before.before.before.full.ensures)
+    let a = c.args in
+    rw (c.put_mark.ensures, c.put_flag.ensures, c.put_spare.ensures, c.target-t.ensures)
+    (seen-loop a.list.now a.i a.marks.now a.staying.now a.spares.now c.requires.5 c.requires.2 (omega (arith, c.requires.3, c.requires.4)) c.requires.3 c.requires.4 c.full.result c.full.ensures)
 
-pub note-loop-spec : {M : Type 1} → statement M
-note-loop-spec =
+pub note_loop_spec : {M : Type 1} → statement M
+note_loop_spec =
     tie.close
     (tie.spec
     target-requires

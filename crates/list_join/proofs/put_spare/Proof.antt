@@ -5,29 +5,29 @@ use borrow.Author.Rules.{rules}
 use Rattle.list_join.proofs.put_spare.Statement.{statement}
 use Rattle.list_join.proofs.put_spare.Tie as tie
 
-mul-spares : tie.Need-overflow-mul-spares
+mul-spares : tie.Need-offset_bounds-spares-s
 mul-spares c = search rules
 
-slice-read-spares : tie.Need-slice-read-spares
+slice-read-spares : tie.Need-bounds-spares-s
 slice-read-spares c = search rules
 
-add-spares : tie.Need-overflow-add-spares
+add-spares : tie.Need-overflow_add-spares
 add-spares c = search rules
 
-mul-spares-2 : tie.Need-overflow-mul-spares-2
+mul-spares-2 : tie.Need-offset_bounds-spares-s-2
 mul-spares-2 c = search rules
 
-slice-write-spares : tie.Need-slice-write-spares
+slice-write-spares : tie.Need-bounds-spares-s-2
 slice-write-spares c = search rules
 
-same_length : tie.Need-same-length
+same_length : tie.Need-shape_of-spares
 same_length c = search rules
 
 returns : tie.Need-returns
-returns c = rw (add-one (get_or c.before.args.spares.now c.before.args.s 0))
+returns c = rw (add-one (get_or c.args.spares.now c.args.s 0))
 
-pub put-spare-spec : {M : Type 1} → statement M
-put-spare-spec =
+pub put_spare_spec : {M : Type 1} → statement M
+put_spare_spec =
     tie.close
     (tie.spec
     mul-spares

@@ -6,38 +6,38 @@ use native.Mathlib.Omega.{arith}
 use Rattle.list_join.proofs.rename.Statement.{statement}
 use Rattle.list_join.proofs.rename.Tie as tie
 
-returns : tie.Need-returns
+returns : tie.Need-returns-then-t-n
 unfolding renamed
-returns c = rw (c.before.before.if1.true, eq-eqb _ _ c.if2.true)
+returns c = rw (c.if-n.true, eq-eqb _ _ c.if-t-n.true)
 
-add-result : tie.Need-overflow-add-result
+add-result : tie.Need-overflow_add-result
 add-result c = search rules
 
-returns-2 : tie.Need-returns-2
+returns-2 : tie.Need-returns-then-t-n-2
 unfolding renamed
-returns-2 c = rw (c.before.before.before.before.before.if1.true, ne_eqb _ _ c.before.before.before.if2.false, lt-ltb _ _ c.before.if3.true)
+returns-2 c = rw (c.if-n.true, ne_eqb _ _ c.if-t-n.false, lt-ltb _ _ c.if-t-n-2.true)
 
-add-result-2 : tie.Need-overflow-add-result-2
+add-result-2 : tie.Need-overflow_add-result-then-n
 add-result-2 c = search rules
 
-sub-result : tie.Need-overflow-sub-result
+sub-result : tie.Need-overflow_sub-result
 sub-result c = search rules
 
-returns-3 : tie.Need-returns-3
+returns-3 : tie.Need-returns-then-n
 unfolding renamed
 returns-3 c =
-    let a = c.before.before.before.before.before.before.args in
-    rw (c.before.before.before.before.before.if1.true, ne_eqb _ _ c.before.before.before.if2.false, le-ltb a.t a.n.own (omega arith))
+    let a = c.args in
+    rw (c.if-n.true, ne_eqb _ _ c.if-t-n.false, le-ltb a.t a.n.own (omega arith))
 
-add-result-3 : tie.Need-overflow-add-result-3
+add-result-3 : tie.Need-overflow_add-result-2
 add-result-3 c = search rules
 
-returns-4 : tie.Need-returns-4
+returns-4 : tie.Need-returns
 unfolding renamed
-returns-4 c = rw c.before.if1.false
+returns-4 c = rw c.if-n.false
 
-pub rename-spec : {M : Type 1} → statement M
-rename-spec =
+pub rename_spec : {M : Type 1} → statement M
+rename_spec =
     tie.close
     (tie.spec
     returns

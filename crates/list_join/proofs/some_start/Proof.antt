@@ -10,39 +10,39 @@ use Rattle.list_join.proofs.Marking.{start-bit, none-bit, some-bit}
 use Rattle.list_join.proofs.some_start.Statement.{statement}
 use Rattle.list_join.proofs.some_start.Tie as tie
 
-abbrev invariant-loop : tie.invariant-loop
+abbrev invariant-loop : tie.invariant-loop-s
 invariant-loop marks all₀ s₀ all s = (s ≤ states) × (holds all 1 ≡ some s (λ q. holds (get_or marks q 0) 1))
 
-abbrev decreases-loop : tie.decreases-loop
+abbrev decreases-loop : tie.decreases-loop-s
 decreases-loop marks all₀ s₀ all s = states - s
 
-loop-holds : tie.Need-loop-init invariant-loop decreases-loop
+loop-holds : tie.Need-loop-s-init invariant-loop decreases-loop
 unfolding some
 loop-holds c = (omega arith, none-bit)
 
-shared-slice-read-all : tie.Need-shared-slice-read-all invariant-loop decreases-loop
+shared-slice-read-all : tie.Need-bounds-marks-s invariant-loop decreases-loop
 shared-slice-read-all c = search rules
 
-add-s : tie.Need-overflow-add-s invariant-loop decreases-loop
+add-s : tie.Need-overflow_step-s invariant-loop decreases-loop
 add-s c = search rules
 
-loop-less : tie.Need-loop-smaller invariant-loop decreases-loop
+loop-less : tie.Need-loop-s-smaller invariant-loop decreases-loop
 loop-less c = search rules
 
-loop-again : tie.Need-loop-preserved invariant-loop decreases-loop
+loop-again : tie.Need-loop-s-preserved invariant-loop decreases-loop
 loop-again c =
-    let w = c.before.before.before.args.marks.now in
-    let l = c.before.before.loop in
-    (omega (arith, c.before.loop-test.true), some-bit w l.all l.s l.invariant.1)
+    let w = c.args.marks.now in
+    let l = c.loop-s in
+    (omega (arith, c.loop-s-test.true), some-bit w l.all l.s l.invariant.1)
 
 returns : tie.Need-returns invariant-loop decreases-loop
 returns c =
-    let l = c.before.loop in
-    let e : l.s ≡ states = omega (arith, l.invariant.0, c.loop-test.false) in
+    let l = c.loop-s in
+    let e : l.s ≡ states = omega (arith, l.invariant.0, c.loop-s-test.false) in
     sym (start-bit l.all) ∙ (rw e at l.invariant.1)
 
-pub some-start-spec : {M : Type 1} → statement M
-some-start-spec =
+pub some_start_spec : {M : Type 1} → statement M
+some_start_spec =
     tie.close
     (tie.spec
     invariant-loop

@@ -5,21 +5,21 @@ use Rattle.list_renew.proofs.Renewing.{offset-list, offset-extended, offset-none
 use Rattle.list_renew.proofs.offset.Statement.{statement}
 use Rattle.list_renew.proofs.offset.Tie as tie
 
-offset-of-requires : tie.Need-offset-of-requires
+offset-of-requires : tie.Need-offset_of-requires
 offset-of-requires c κs = search rules
 
-returns : tie.Need-returns
-returns c = c.offset-of.ensures ∙ sym (offset-list c.before.before.before.args.flow.now c.before.if1.true)
+returns : tie.Need-returns-then-flow-eq-FLOW_SIZE
+returns c = c.offset_of.ensures ∙ sym (offset-list c.args.flow.now c.if-flow-eq-FLOW_SIZE.true)
 
-offset-of-requires-2 : tie.Need-offset-of-requires-2
+offset-of-requires-2 : tie.Need-offset_of-requires-then-flow-eq-X_FLOW_SIZE
 offset-of-requires-2 c κs = search rules
 
-returns-2 : tie.Need-returns-2
-returns-2 c = c.offset-of2.ensures ∙ sym (offset-extended c.before.before.before.before.args.flow.now c.before.before.if1.false c.before.if2.true)
+returns-2 : tie.Need-returns-then-flow-eq-X_FLOW_SIZE
+returns-2 c = c.offset_of-then-flow-eq-X_FLOW_SIZE.ensures ∙ sym (offset-extended c.args.flow.now c.if-flow-eq-FLOW_SIZE.false c.if-flow-eq-X_FLOW_SIZE.true)
 
-returns-3 : tie.Need-returns-3
-returns-3 c = sym (offset-none c.before.before.before.args.flow.now c.before.if1.false c.if2.false)
+returns-3 : tie.Need-returns
+returns-3 c = sym (offset-none c.args.flow.now c.if-flow-eq-FLOW_SIZE.false c.if-flow-eq-X_FLOW_SIZE.false)
 
-pub offset-spec : {M : Type 1} → statement M
-offset-spec =
+pub offset_spec : {M : Type 1} → statement M
+offset_spec =
     tie.close (tie.spec offset-of-requires returns offset-of-requires-2 returns-2 returns-3)

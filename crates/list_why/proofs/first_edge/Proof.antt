@@ -13,47 +13,45 @@ use Rattle.list_why.proofs.Finding.{none_more}
 use Rattle.list_why.proofs.first_edge.Statement.{statement}
 use Rattle.list_why.proofs.first_edge.Tie as tie
 
-abbrev invariant-loop : tie.invariant-loop
+abbrev invariant-loop : tie.invariant-loop-i
 invariant-loop list s c t n d i₀ i = (i ≤ n) × (some i (links list s c t) ≡ false)
 
-abbrev decreases-loop : tie.decreases-loop
+abbrev decreases-loop : tie.decreases-loop-i
 decreases-loop list s c t n d i₀ i = n - i
 
-records-requires : tie.Need-records-requires invariant-loop decreases-loop
+records-requires : tie.Need-records-n-requires invariant-loop decreases-loop
 records-requires c κs = search rules
 
-exchanged-requires : tie.Need-exchanged-requires invariant-loop decreases-loop
+exchanged-requires : tie.Need-exchanged-d-requires invariant-loop decreases-loop
 exchanged-requires c κs = search rules
 
-loop-holds : tie.Need-loop-init invariant-loop decreases-loop
+loop-holds : tie.Need-loop-i-init invariant-loop decreases-loop
 unfolding some
 loop-holds c = (search rules, refl)
 
 joins-requires : tie.Need-joins-requires invariant-loop decreases-loop
 joins-requires c κs = search rules
 
-returns : tie.Need-returns invariant-loop decreases-loop
+returns : tie.Need-returns-then-joins invariant-loop decreases-loop
 returns c =
-    let l = c.before.before.before in
-    sym (first-at _ _ l.loop.i (omega arith) l.loop.invariant.1 (sym c.before.joins.ensures ∙ c.if1.true))
+    sym (first-at _ _ c.loop-i.i (omega arith) c.loop-i.invariant.1 (sym c.joins.ensures ∙ c.if-joins.true))
 
-add-i : tie.Need-overflow-add-i invariant-loop decreases-loop
+add-i : tie.Need-overflow_step-i invariant-loop decreases-loop
 add-i c = search rules
 
-loop-less : tie.Need-loop-smaller invariant-loop decreases-loop
+loop-less : tie.Need-loop-i-smaller invariant-loop decreases-loop
 loop-less c = search rules
 
-loop-again : tie.Need-loop-preserved invariant-loop decreases-loop
-loop-again c = (search rules, rw add-one (none_more _ _ c.before.before.before.loop.invariant.1 (sym c.before.joins.ensures ∙ c.if1.false)))
+loop-again : tie.Need-loop-i-preserved invariant-loop decreases-loop
+loop-again c = (search rules, rw add-one (none_more _ _ c.loop-i.invariant.1 (sym c.joins.ensures ∙ c.if-joins.false)))
 
-returns-2 : tie.Need-returns-2 invariant-loop decreases-loop
+returns-2 : tie.Need-returns invariant-loop decreases-loop
 returns-2 c =
-    let s = c.before.before.before.before.before in
-    let e : c.before.loop.i ≡ records s.args.list.now = omega arith in
-    c.before.before.before.records.ensures ∙ sym (first-none _ _ (rw e at c.before.loop.invariant.1))
+    let e : c.loop-i.i ≡ records c.args.list.now = omega arith in
+    c.records-n.ensures ∙ sym (first-none _ _ (rw e at c.loop-i.invariant.1))
 
-pub first-edge-spec : {M : Type 1} → statement M
-first-edge-spec =
+pub first_edge_spec : {M : Type 1} → statement M
+first_edge_spec =
     tie.close
     (tie.spec
     invariant-loop

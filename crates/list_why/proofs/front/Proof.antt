@@ -10,38 +10,38 @@ use Rattle.list_why.proofs.Traces.{front-none, front-more}
 use Rattle.list_why.proofs.front.Statement.{statement}
 use Rattle.list_why.proofs.front.Tie as tie
 
-abbrev invariant-loop : tie.invariant-loop
+abbrev invariant-loop : tie.invariant-loop-i
 invariant-loop list piece n f₀ i₀ f i = (i ≤ n) × (set_of f ≡ front list (set_of f₀) piece i)
 
-abbrev decreases-loop : tie.decreases-loop
+abbrev decreases-loop : tie.decreases-loop-i
 decreases-loop list piece n f₀ i₀ f i = n - i
 
-loop-holds : tie.Need-loop-init invariant-loop decreases-loop
-loop-holds c = let a = c.before.before.args in (search rules, sym (front-none a.list.now (set_of a.first) a.piece.now))
+loop-holds : tie.Need-loop-i-init invariant-loop decreases-loop
+loop-holds c = let a = c.args in (search rules, sym (front-none a.list.now (set_of a.first) a.piece.now))
 
-shared-slice-read-step : tie.Need-shared-slice-read-step invariant-loop decreases-loop
+shared-slice-read-step : tie.Need-bounds-piece-i invariant-loop decreases-loop
 shared-slice-read-step c = search rules
 
-step-requires : tie.Need-step-requires invariant-loop decreases-loop
+step-requires : tie.Need-step-f-requires invariant-loop decreases-loop
 step-requires c κs = search rules
 
-add-i : tie.Need-overflow-add-i invariant-loop decreases-loop
+add-i : tie.Need-overflow_step-i invariant-loop decreases-loop
 add-i c = search rules
 
-loop-less : tie.Need-loop-smaller invariant-loop decreases-loop
+loop-less : tie.Need-loop-i-smaller invariant-loop decreases-loop
 loop-less c = search rules
 
-loop-again : tie.Need-loop-preserved invariant-loop decreases-loop
+loop-again : tie.Need-loop-i-preserved invariant-loop decreases-loop
 loop-again c =
-    let a = c.before.before.before.before.before.before.args in
-    let p = c.before.before.before.loop in
-    (search rules, rw (add-one, front-more a.list.now (set_of a.first) a.piece.now p.i (search rules), c.step.ensures, p.invariant.1) refl)
+    let a = c.args in
+    let p = c.loop-i in
+    (search rules, rw (add-one, front-more a.list.now (set_of a.first) a.piece.now p.i (search rules), c.step-f.ensures, p.invariant.1) refl)
 
 returns : tie.Need-returns invariant-loop decreases-loop
-returns c = let e : c.before.loop.i ≡ c.before.before.before.before.args.n = omega arith in rw (sym e) c.before.loop.invariant.1
+returns c = let e : c.loop-i.i ≡ c.args.n = omega arith in rw (sym e) c.loop-i.invariant.1
 
-pub front-spec : {M : Type 1} → statement M
-front-spec =
+pub front_spec : {M : Type 1} → statement M
+front_spec =
     tie.close
     (tie.spec
     invariant-loop

@@ -12,44 +12,44 @@ use Rattle.list_why.proofs.Sources.{least-most, least_on, least-none}
 use Rattle.list_why.proofs.giving.Statement.{statement}
 use Rattle.list_why.proofs.giving.Tie as tie
 
-abbrev invariant-loop : tie.invariant-loop
+abbrev invariant-loop : tie.invariant-loop-i
 invariant-loop list g n frontier best₀ i₀ best i = (i ≤ n) × (best ≡ least states (leads_to list (num 64 frontier) (is_accept list) g) (from list) i)
 
-abbrev decreases-loop : tie.decreases-loop
+abbrev decreases-loop : tie.decreases-loop-i
 decreases-loop list g n frontier best₀ i₀ best i = n - i
 
-records-requires : tie.Need-records-requires invariant-loop decreases-loop
+records-requires : tie.Need-records-n-requires invariant-loop decreases-loop
 records-requires c κs = search rules
 
-loop-holds : tie.Need-loop-init invariant-loop decreases-loop
+loop-holds : tie.Need-loop-i-init invariant-loop decreases-loop
 loop-holds c = (search rules, sym (least-none _ _ _))
 
-slice-aggregate-gives : tie.Need-slice-aggregate-gives invariant-loop decreases-loop
+slice-aggregate-gives : tie.Need-slice_bounds-gives-end invariant-loop decreases-loop
 slice-aggregate-gives c = search rules
 
 gives-requires : tie.Need-gives-requires invariant-loop decreases-loop
 gives-requires c κs = search rules
 
-lower-requires : tie.Need-lower-requires invariant-loop decreases-loop
+lower-requires : tie.Need-lower-best-requires invariant-loop decreases-loop
 lower-requires c κs = search rules
 
-add-i : tie.Need-overflow-add-i invariant-loop decreases-loop
+add-i : tie.Need-overflow_step-i invariant-loop decreases-loop
 add-i c = search rules
 
-loop-less : tie.Need-loop-smaller invariant-loop decreases-loop
+loop-less : tie.Need-loop-i-smaller invariant-loop decreases-loop
 loop-less c = search rules
 
-loop-again : tie.Need-loop-preserved invariant-loop decreases-loop
-loop-again c = (search rules, rw add-one (least_on _ _ _ _ _ _ _ c.before.before.before.before.loop.invariant.1 c.before.gives.ensures c.lower.ensures))
+loop-again : tie.Need-loop-i-preserved invariant-loop decreases-loop
+loop-again c = (search rules, rw add-one (least_on _ _ _ _ _ _ _ c.loop-i.invariant.1 c.gives.ensures c.lower-best.ensures))
 
 returns : tie.Need-returns invariant-loop decreases-loop
 returns c =
-    let e : c.before.loop.i ≡ records c.before.before.before.before.before.args.list.now = omega arith in
-    let h = rw e at c.before.loop.invariant.1 in
+    let e : c.loop-i.i ≡ records c.args.list.now = omega arith in
+    let h = rw e at c.loop-i.invariant.1 in
     (h, rw h (least-most _ _ _ _))
 
-pub giving-spec : {M : Type 1} → statement M
-giving-spec =
+pub giving_spec : {M : Type 1} → statement M
+giving_spec =
     tie.close
     (tie.spec
     invariant-loop

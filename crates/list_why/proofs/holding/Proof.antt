@@ -11,16 +11,15 @@ use Rattle.list_why.proofs.holding.Tie as tie
 has-requires : tie.Need-has-requires
 has-requires c κs = search rules
 
-returns : tie.Need-returns
-returns c = (rw (sym c.before.has.ensures ∙ c.if2.true), omega arith)
+returns : tie.Need-returns-then-has
+returns c = (rw (sym c.has.ensures ∙ c.if-has.true), omega arith)
 
-returns-2 : tie.Need-returns-2
-returns-2 c = (rw (sym c.before.has.ensures ∙ c.if2.false), omega arith)
+returns-2 : tie.Need-returns-else-has
+returns-2 c = (rw (sym c.has.ensures ∙ c.if-has.false), omega arith)
 
-returns-3 : tie.Need-returns-3
+returns-3 : tie.Need-returns-else-state-lt-STATES
 returns-3 c =
-    let s = c.before in
-    (rw (holds-past states (set_of s.args.f) s.args.state (words-lt set_words s.args.f.words (valid-of s.args.f _ s.well-formed.0)) c.if1.false), omega arith)
+    (rw (holds-past states (set_of c.args.f) c.args.state (words-lt set_words c.args.f.words (valid-of c.args.f _ c.well_formed.0)) c.if-state-lt-STATES.false), omega arith)
 
-pub holding-spec : {M : Type 1} → statement M
-holding-spec = tie.close (tie.spec has-requires returns returns-2 returns-3)
+pub holding_spec : {M : Type 1} → statement M
+holding_spec = tie.close (tie.spec has-requires returns returns-2 returns-3)

@@ -9,8 +9,8 @@ use Rattle.list_why.proofs.leads.Tie as tie
 target-requires : tie.Need-target-requires
 target-requires c κs = search rules
 
-returns : tie.Need-returns
-returns c = rw (ne_eqb _ _ (λ e. c.if1.true (c.before.target.ensures ∙ e)))
+returns : tie.Need-returns-then-target-t
+returns c = rw (ne_eqb _ _ (λ e. c.if-target-t.true (c.target.ensures ∙ e)))
 
 edge-requires : tie.Need-edge-requires
 edge-requires c κs = search rules
@@ -18,19 +18,18 @@ edge-requires c κs = search rules
 from-requires : tie.Need-from-requires
 from-requires c κs = search rules
 
-bit-of-requires : tie.Need-bit-of-requires
+bit-of-requires : tie.Need-bit_of-requires
 bit-of-requires c κs = search rules
 
-returns-2 : tie.Need-returns-2
+returns-2 : tie.Need-returns-then-edge
 returns-2 c =
-    let y = c.before.before.before in
-    rw (eq-eqb _ _ (sym y.before.before.target.ensures ∙ y.before.if1.false), sym y.edge.ensures ∙ c.before.before.if2.true, c.bit-of.ensures, c.before.from.ensures) refl
+    rw (eq-eqb _ _ (sym c.target.ensures ∙ c.if-target-t.false), sym c.edge.ensures ∙ c.if-edge.true, c.bit_of.ensures, c.from.ensures) refl
 
-returns-3 : tie.Need-returns-3
-returns-3 c = rw (eq-eqb _ _ (sym c.before.before.before.target.ensures ∙ c.before.before.if1.false), sym c.before.edge.ensures ∙ c.if2.false)
+returns-3 : tie.Need-returns-else-edge
+returns-3 c = rw (eq-eqb _ _ (sym c.target.ensures ∙ c.if-target-t.false), sym c.edge.ensures ∙ c.if-edge.false)
 
-pub leads-spec : {M : Type 1} → statement M
-leads-spec =
+pub leads_spec : {M : Type 1} → statement M
+leads_spec =
     tie.close
     (tie.spec
     target-requires

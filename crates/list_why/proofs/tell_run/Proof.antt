@@ -13,48 +13,48 @@ use Rattle.list_why.proofs.Keeping.{kept-fronts}
 use Rattle.list_why.proofs.tell_run.Statement.{statement}
 use Rattle.list_why.proofs.tell_run.Tie as tie
 
-returns : tie.Need-returns
-returns c = let z = eq-eqb _ _ c.if1.true in (rw z, rw z, rw z)
+returns : tie.Need-returns-then-end-eq-STATES
+returns c = let z = eq-eqb _ _ c.if-end-eq-STATES.true in (rw z, rw z, rw z)
 
-keep-fronts-requires : tie.Need-keep-fronts-requires
-keep-fronts-requires c κs = let s = c.before.before.before.before.before.before in (s.requires.0, s.requires.2)
+keep-fronts-requires : tie.Need-keep_fronts-requires
+keep-fronts-requires c κs = (c.requires.0, c.requires.2)
 
 -- the way back from the frontiers kept to the entry
-abbrev entry : tie.After-keep-fronts → tie.Start
+abbrev entry : tie.After-keep_fronts → tie.Start
 entry c = c.before.before.before.before.before.before.before
 
 -- the frontier is a set of states
 small : (s : tie.Start) → set_of s.args.first < 2 ^ states
-small s = words-lt set_words s.args.first.words (valid-of s.args.first _ s.well-formed.1.0)
+small s = words-lt set_words s.args.first.words (valid-of s.args.first _ s.well_formed.1.0)
 
 -- the work place holds the frontiers
-fronts-kept : (c : tie.After-keep-fronts)
+fronts-kept : (c : tie.After-keep_fronts)
     → let a = (entry c).args in
-    let w = c.keep-fronts.new.1.1.1.1.0 in
+    let w = c.keep_fronts.new.work in
     (set_at w 0 ≡ set_of a.first) × ((i : ℕ) → i ≤ a.n → set_at w (set_size * i) ≡ front a.list.now (set_at w 0) a.piece.now i)
 fronts-kept c =
     let s = entry c in
-    kept-fronts s.args.list.now (set_of s.args.first) s.args.piece.now s.args.work.now _ s.args.n s.pre.0 (small s) s.pre.2 c.keep-fronts.ensures
+    kept-fronts s.args.list.now (set_of s.args.first) s.args.piece.now s.args.work.now _ s.args.n s.requires.0 (small s) s.requires.2 c.keep_fronts.ensures
 
-trace-back-requires : tie.Need-trace-back-requires
+trace-back-requires : tie.Need-trace_back-requires
 trace-back-requires c κs =
-    let k = c.before.before.before.before in
+    let k = c.before.before.before in
     let s = entry k in
-    let same : length k.keep-fronts.new.1.1.1.1.0 ≡ length s.args.work.now = ap length k.keep-fronts.ensures ∙ length-placed s.args.work.now 0 _ in
-    let fits : set_size * suc s.args.n ≤ length k.keep-fronts.new.1.1.1.1.0 = rw same s.pre.2 in
-    (s.pre.0, s.pre.1, fits, s.pre.3, (fronts-kept k).1)
+    let same : length k.keep_fronts.new.work ≡ length s.args.work.now = ap length k.keep_fronts.ensures ∙ length-placed s.args.work.now 0 _ in
+    let fits : set_size * suc s.args.n ≤ length k.keep_fronts.new.work = rw same s.requires.2 in
+    (s.requires.0, s.requires.1, fits, s.requires.3, (fronts-kept k).1)
 
-same_length : tie.Need-same-length
+same_length : tie.Need-shape_of-run
 same_length c = search rules
 
-same-length-2 : tie.Need-same-length-2
+same-length-2 : tie.Need-shape_of-work
 same-length-2 c = search rules
 
-returns-2 : tie.Need-returns-2
+returns-2 : tie.Need-returns
 returns-2 c =
-    let k = c.before.before.before.before.before.before.before in
-    let z = ne_eqb _ _ k.before.before.if1.false in
-    (rw z, rw z (rw (fronts-kept k).0 at c.before.before.trace-back.ensures), rw z k.keep-fronts.ensures)
+    let k = c.before.before.before.before.before.before in
+    let z = ne_eqb _ _ k.if-end-eq-STATES.false in
+    (rw z, rw z (rw (fronts-kept k).0 at c.trace_back.ensures), rw z k.keep_fronts.ensures)
 
-pub tell-run-spec : {M : Type 1} → statement M
-tell-run-spec = tie.close (tie.spec returns keep-fronts-requires trace-back-requires same_length same-length-2 returns-2)
+pub tell_run_spec : {M : Type 1} → statement M
+tell_run_spec = tie.close (tie.spec returns keep-fronts-requires trace-back-requires same_length same-length-2 returns-2)
