@@ -1,4 +1,6 @@
 // The index by places: what its bytes are, whether the lists of a feed fit together, and the split of a frontier.
+#![tactic(auto)]
+
 ghost use Rattle.std.specs.Prelude.{◌≡◌, ◌≤◌, ◌<◌};
 ghost use Rattle.sets.specs.Set.{set_of};
 ghost use Rattle.table.specs.Table.{most_splits, split_count};

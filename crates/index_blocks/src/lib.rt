@@ -1,4 +1,6 @@
 // Blocks of bytes at which a feed stays: which bytes leave a place of an index, as two ranges, and where the first of a block lies in them.
+#![tactic(auto)]
+
 ghost use Rattle.std.specs.Prelude.{◌≡◌, ℕ, ◌+◌, ◌<◌, ◌≤◌, false, ◌⊎◌, length, if◌then◌else◌, slice_index};
 ghost use Rattle.index_blocks.specs.inner.Ranges.{block_size, above, inside, hot, least, met};
 ghost use Rattle.index_blocks.specs.Block.{word4, word_at};
@@ -10,7 +12,7 @@ pub const BLOCK: usize = 32;
 pub const NONE: u8 = 255;
 
 // Two ranges of bytes: where each begins, and how many more bytes it has.
-#[derive(Drop)]
+#[derive(Clone, Copy)]
 pub struct Ranges {
     pub low: u8,
     pub lows: u8,
@@ -19,7 +21,7 @@ pub struct Ranges {
 }
 
 // The lowest and the highest byte that leaves a place.
-#[derive(Drop)]
+#[derive(Clone, Copy)]
 struct Hull {
     low: u8,
     high: u8,

@@ -1,4 +1,6 @@
 // The feed by places: the check of a call and of its hint, the run over the piece, and what the call answers and saves.
+#![tactic(auto)]
+
 ghost use Rattle.std.specs.Prelude.{◌≡◌, true, false, not, ◌&&◌, cond, [], ◌∷◌, ◌++◌, ◌+◌, ◌*◌, ◌-◌, ◌/◌, ◌<◌, ◌≤◌, ◌^◌, length, leb, ltb, eqb};
 ghost use Rattle.numbers.specs.Number.{placed};
 ghost use Rattle.sets.specs.Set.{set_size, set_bytes, set_at};
@@ -20,7 +22,7 @@ use sets::StateSet;
 const SHORT: usize = 16;
 
 // What a call answers: as every feed, and the split where the flow then stands.
-#[derive(Drop)]
+#[derive(Clone, Copy)]
 pub struct Stood {
     pub fed: Fed,
     pub split: usize,

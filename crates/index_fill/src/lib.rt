@@ -1,4 +1,6 @@
 // The filler of an index by places: for each split of splits in order, where each byte leads by the list's step, what is told there, what a byte at it costs, and whether its states are all named.
+#![tactic(auto)]
+
 ghost use Rattle.std.specs.Prelude.{◌≡◌, true, not, cond, ℕ, ◌+◌, ◌*◌, ◌^◌, ◌≤◌, ◌<◌, length, get_or, take, drop, eqb};
 ghost use Rattle.numbers.specs.Number.{num, digits, placed};
 ghost use Rattle.sets.specs.Set.{states, set_size, set_of, sigs_of, within};

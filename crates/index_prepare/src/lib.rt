@@ -1,4 +1,6 @@
 // Splits and an index straight from a list: the sets that can be reached, found by a search, each as a split, and their index.
+#![tactic(auto)]
+
 ghost use Rattle.std.specs.Prelude.{◌≡◌, ◌||◌, List, ℕ, ◌+◌, ◌*◌, ◌^◌, ◌<◌, ◌≤◌, length, get_or, ltb};
 ghost use Rattle.numbers.specs.Number.{placed};
 ghost use Rattle.sets.specs.Set.{states, set_size, set_of};
@@ -22,7 +24,7 @@ pub const PREPARE_INDEX: usize = sets::BYTES + index::ENTRY_SIZE * table::MOST_S
 const NO_SLOTS: u64 = 18446744073709551615;
 
 // What is answered: a refusal, or 0 and the bytes used of each list.
-#[derive(Drop)]
+#[derive(Clone, Copy)]
 pub struct Made {
     pub refusal: u32,
     pub splits: usize,

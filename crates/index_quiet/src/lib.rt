@@ -1,4 +1,6 @@
 // Quiet bytes: the loops of a feed by places over bytes that tell nothing. Turns of four bytes, bytes one by one, and blocks of bytes skipped where the feed stays at a place. No definition mentions turns or blocks.
+#![tactic(auto)]
+
 ghost use Rattle.std.specs.Prelude.{◌≡◌, false, ℕ, ◌+◌, ◌*◌, ◌≤◌, ◌<◌, length};
 ghost use Rattle.index_blocks.specs.inner.Ranges.{hot};
 ghost use Rattle.index_blocks.specs.Block.{word_at};
@@ -16,7 +18,7 @@ const LITTLE: usize = 8;
 const TRIES: usize = 4;
 
 // How far quiet bytes led: so many bytes of the piece, a place, the rows read on the way.
-#[derive(Drop)]
+#[derive(Clone, Copy)]
 pub struct Led {
     pub bytes: usize,
     pub place: usize,

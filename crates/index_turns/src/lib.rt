@@ -1,4 +1,6 @@
 // The loops of a feed by places that tell: stretches of turns with the bytes that tell between them, and blocks of bytes skipped where a stretch stays at a place.
+#![tactic(auto)]
+
 ghost use Rattle.std.specs.Prelude.{◌≡◌, ◌+◌, ◌≤◌, ◌<◌, length};
 ghost use Rattle.feed.specs.Engine.{most_offset};
 ghost use Rattle.feed.specs.inner.Told.{TellsAll};
@@ -15,7 +17,7 @@ const STRETCH: usize = 64;
 const WORTH: usize = 256;
 
 // Where a word leads: whether its pairs fit, the place, and the words then written.
-#[derive(Drop)]
+#[derive(Clone, Copy)]
 struct Followed {
     fits: bool,
     place: usize,
@@ -23,7 +25,7 @@ struct Followed {
 }
 
 // What a loop leaves: whether the feed goes on from there, the place, the bytes consumed, the words written and the rows read.
-#[derive(Drop)]
+#[derive(Clone, Copy)]
 pub struct Stands {
     pub on: bool,
     pub place: usize,

@@ -1,4 +1,6 @@
 // The bit matrix: the filler that writes it from a list, and the feed that joins the stored sets of the frontier's states.
+#![tactic(auto)]
+
 ghost use Rattle.std.specs.Prelude.{◌≡◌, true, false, cond, ℕ, suc, ◌+◌, ◌*◌, ◌/◌, ◌^◌, ◌≤◌, ◌<◌, length, replicate, ltb};
 ghost use Rattle.std.specs.Int.Count.{ones};
 ghost use Rattle.sets.specs.Set.{states, set_size, set_words, set_of, set_at, meets, join};
@@ -24,7 +26,7 @@ pub const ROW_SIZE: usize = sets::BYTES * BYTE_VALUES;
 
 // What a byte leaves: the bytes of the next frontier, and the rows read. The loop of a feed has sets in bytes, as the matrix has them: so a stored set
 // is joined 16 bytes at a time.
-#[derive(Drop)]
+#[derive(Clone, Copy)]
 struct Stepped {
     next: [u8; sets::BYTES],
     rows: u64,

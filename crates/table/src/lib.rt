@@ -1,4 +1,6 @@
 // The split table: the reads of its four lists, and its check.
+#![tactic(auto)]
+
 ghost use Rattle.std.specs.Prelude.{◌≡◌, true, false, ◌&&◌, cond, ◌+◌, ◌*◌, ◌^◌, ◌<◌, ◌≤◌, max, length, get_or, ltb, eqb};
 ghost use Rattle.sets.specs.Set.{set_size, set_of, set_at, join};
 ghost use Rattle.rules.specs.Scan.{every};

@@ -1,4 +1,6 @@
 // The classes of the bytes, as coarse as a list permits: two bytes share one where every state steps alike on both.
+#![tactic(auto)]
+
 ghost use Rattle.std.specs.Prelude.{◌≡◌, true, false, not, ◌&&◌, List, ◌++◌, ℕ, ◌+◌, ◌-◌, ◌*◌, ◌^◌, ◌<◌, ◌≤◌, length, get_or, take, replicate, eqb};
 ghost use Rattle.sets.specs.Set.{states, set_size, set_of, holds, join};
 ghost use Rattle.rules.specs.Scan.{some, first};

@@ -1,4 +1,6 @@
 // The split feed: each byte is moved by the rows of the split that is the frontier, and the list gives the pairs.
+#![tactic(auto)]
+
 ghost use Rattle.std.specs.Prelude.{◌≡◌, true, ◌+◌, ◌*◌, ◌≤◌, ◌<◌, length};
 ghost use Rattle.sets.specs.Set.{set_size, set_of};
 ghost use Rattle.rules.specs.Scan.{every};
@@ -15,7 +17,7 @@ use list_flow::Ran;
 use sets::StateSet;
 
 // What a split gives for a byte: whether it halts there, the slots taken, and the union of their rows.
-#[derive(Drop)]
+#[derive(Clone, Copy)]
 struct Taken {
     halts: bool,
     rows: u64,

@@ -6,19 +6,19 @@ use Rattle.index.proofs.Sizes.{few-splits}
 use Rattle.index.proofs.bad_index.Statement.{statement}
 use Rattle.index.proofs.bad_index.Tie as tie
 
-bad-count-requires : tie.Need-bad-count-requires
+bad-count-requires : tie.Need-bad_count-requires
 bad-count-requires c κs = (omega arith, omega arith)
 
-returns : tie.Need-returns
+returns : tie.Need-returns-then-bad_count
 unfolding bad_index
-returns c = sym (rw (sym c.before.bad-count.ensures ∙ c.if1.true))
+returns c = sym (rw (sym c.bad_count.ensures ∙ c.if-bad_count.true))
 
-wrong-index-requires : tie.Need-wrong-index-requires
-wrong-index-requires c κs = few-splits _ (sym c.before.bad-count.ensures ∙ c.if1.false)
+wrong-index-requires : tie.Need-wrong_index-requires
+wrong-index-requires c κs = few-splits _ (sym c.bad_count.ensures ∙ c.if-bad_count.false)
 
-returns-2 : tie.Need-returns-2
+returns-2 : tie.Need-returns
 unfolding bad_index
-returns-2 c = c.wrong-index.ensures ∙ sym (rw (sym c.before.before.bad-count.ensures ∙ c.before.if1.false))
+returns-2 c = c.wrong_index.ensures ∙ sym (rw (sym c.bad_count.ensures ∙ c.if-bad_count.false))
 
-pub bad-index-spec : {M : Type 1} → statement M
-bad-index-spec = tie.close (tie.spec bad-count-requires returns wrong-index-requires returns-2)
+pub bad_index_spec : {M : Type 1} → statement M
+bad_index_spec = tie.close (tie.spec bad-count-requires returns wrong-index-requires returns-2)

@@ -15,88 +15,88 @@ use Rattle.index.proofs.Halving.{other-here, not-less, Seeking, seeking-start, s
 use Rattle.index.proofs.find.Statement.{statement}
 use Rattle.index.proofs.find.Tie as tie
 
-abbrev invariant-loop : tie.invariant-loop
+abbrev invariant-loop : tie.invariant-loop-lo
 invariant-loop splits f n lo₀ hi₀ lo hi = Seeking splits (set_of f) lo hi
 
-abbrev decreases-loop : tie.decreases-loop
+abbrev decreases-loop : tie.decreases-loop-lo
 decreases-loop splits f n lo₀ hi₀ lo hi = hi - lo
 
 -- the way back from the loop's head to the entry, the set that is sought, and the place in the middle
-abbrev entry : tie.At-loop invariant-loop decreases-loop → tie.Start invariant-loop decreases-loop
+abbrev entry : tie.At-loop-lo invariant-loop decreases-loop → tie.Start invariant-loop decreases-loop
 entry c = c.before.before.before
 
-abbrev sought : tie.At-loop invariant-loop decreases-loop → ℕ
+abbrev sought : tie.At-loop-lo invariant-loop decreases-loop → ℕ
 sought c = set_of (entry c).args.f
 
-abbrev middle : tie.At-loop invariant-loop decreases-loop → ℕ
-middle c = (c.loop.lo + c.loop.hi) / 2
+abbrev middle : tie.At-loop-lo invariant-loop decreases-loop → ℕ
+middle c = (c.loop-lo.lo + c.loop-lo.hi) / 2
 
 -- the splits are bytes, and the set is one
-bytes : (c : tie.At-loop invariant-loop decreases-loop) → Small 8 (entry c).args.splits.now
-bytes c i = (c.before.before.shared-slice-known.given i).fits
+bytes : (c : tie.At-loop-lo invariant-loop decreases-loop) → Small 8 (entry c).args.splits.now
+bytes c i = (c.shared_slice_known-1.given i).fits
 
-small : (c : tie.At-loop invariant-loop decreases-loop) → sought c < 2 ^ (8 * set_size)
-small c = words-lt set_words (entry c).args.f.words (valid-of (entry c).args.f _ (entry c).well-formed.1.0)
+small : (c : tie.At-loop-lo invariant-loop decreases-loop) → sought c < 2 ^ (8 * set_size)
+small c = words-lt set_words (entry c).args.f.words (valid-of (entry c).args.f _ (entry c).well_formed.1.0)
 
 -- how the split in the middle stands to it
-said : (c : tie.After-compare-whole invariant-loop decreases-loop)
-    → compare (set_bytes (split_set (entry c.before.before).args.splits.now (middle c.before.before))) (set_bytes (sought c.before.before)) ≡ c.compare-whole.result
+said : (c : tie.After-compare_whole-met invariant-loop decreases-loop)
+    → compare (set_bytes (split_set (entry c.before.before).args.splits.now (middle c.before.before))) (set_bytes (sought c.before.before)) ≡ c.compare_whole-met.result
 unfolding split_set
-said c = sym c.compare-whole.ensures
+said c = sym c.compare_whole-met.ensures
 
-split-count-requires : tie.Need-split-count-requires invariant-loop decreases-loop
+split-count-requires : tie.Need-split_count-n-requires invariant-loop decreases-loop
 split-count-requires c κs = search rules
 
-loop-holds : tie.Need-loop-init invariant-loop decreases-loop
+loop-holds : tie.Need-loop-lo-init invariant-loop decreases-loop
 loop-holds c =
-    seeking-start c.before.before.args.splits.now (set_of c.before.before.args.f) c.split-count.result c.split-count.ensures
+    seeking-start c.args.splits.now (set_of c.args.f) c.split_count-n.result c.split_count-n.ensures
 
-add-mid : tie.Need-overflow-add-mid invariant-loop decreases-loop
-add-mid c = omega (arith, c.before.loop.invariant.order, c.before.loop.invariant.most)
+add-mid : tie.Need-overflow_add-mid invariant-loop decreases-loop
+add-mid c = omega (arith, c.loop-lo.invariant.order, c.loop-lo.invariant.most)
 
-mul-compare-whole : tie.Need-overflow-mul-compare-whole invariant-loop decreases-loop
-mul-compare-whole c = omega (arith, c.before.loop.invariant.order, c.before.loop.invariant.most)
+mul-compare-whole : tie.Need-overflow_mul-mid invariant-loop decreases-loop
+mul-compare-whole c = omega (arith, c.loop-lo.invariant.order, c.loop-lo.invariant.most)
 
-compare-whole-requires : tie.Need-compare-whole-requires invariant-loop decreases-loop
-compare-whole-requires c κs = omega (arith, c.before.loop.invariant.order, c.before.loop.invariant.most)
+compare-whole-requires : tie.Need-compare_whole-met-requires invariant-loop decreases-loop
+compare-whole-requires c κs = omega (arith, c.loop-lo.invariant.order, c.loop-lo.invariant.most)
 
-returns : tie.Need-returns invariant-loop decreases-loop
+returns : tie.Need-returns-then-met-eq-SAME invariant-loop decreases-loop
 returns c =
     let h = c.before.before.before in
     let S = (entry h).args.splits.now in
-    seeking-here S (sought h) h.loop.lo h.loop.hi h.loop.invariant c.before.before.loop-test.true
-    (eq-eqb _ _ (compared_same (split_set S (middle h)) (sought h) (split-lt S (bytes h) (middle h)) (small h) (said c.before ∙ c.if1.true)))
+    seeking-here S (sought h) h.loop-lo.lo h.loop-lo.hi h.loop-lo.invariant c.loop-lo-test.true
+    (eq-eqb _ _ (compared_same (split_set S (middle h)) (sought h) (split-lt S (bytes h) (middle h)) (small h) (said c.before ∙ c.if-met-eq-SAME.true)))
 
-add-lo : tie.Need-overflow-add-lo invariant-loop decreases-loop
+add-lo : tie.Need-overflow_add-lo invariant-loop decreases-loop
 add-lo c =
-    omega (arith, c.before.before.before.before.loop.invariant.order, c.before.before.before.before.loop.invariant.most)
+    omega (arith, c.loop-lo.invariant.order, c.loop-lo.invariant.most)
 
-loop-less : tie.Need-loop-smaller invariant-loop decreases-loop
+loop-less : tie.Need-loop-lo-smaller-then-met-eq-BEFORE invariant-loop decreases-loop
 loop-less c = search rules
 
-loop-again : tie.Need-loop-preserved invariant-loop decreases-loop
+loop-again : tie.Need-loop-lo-preserved-then-met-eq-BEFORE invariant-loop decreases-loop
 loop-again c =
     let h = c.before.before.before.before in
     let S = (entry h).args.splits.now in
     let met = said c.before.before in
-    seeking-right S (sought h) h.loop.lo h.loop.hi h.loop.invariant c.before.before.before.loop-test.true (other-here S (sought h) h.loop.lo h.loop.hi (λ z. c.before.if1.false (sym met ∙ z)))
-    (compared-before (split_set S (middle h)) (sought h) (split-lt S (bytes h) (middle h)) (small h) (met ∙ c.if2.true))
+    seeking-right S (sought h) h.loop-lo.lo h.loop-lo.hi h.loop-lo.invariant c.loop-lo-test.true (other-here S (sought h) h.loop-lo.lo h.loop-lo.hi (λ z. c.if-met-eq-SAME.false (sym met ∙ z)))
+    (compared-before (split_set S (middle h)) (sought h) (split-lt S (bytes h) (middle h)) (small h) (met ∙ c.if-met-eq-BEFORE.true))
 
-loop-less-2 : tie.Need-loop-smaller-2 invariant-loop decreases-loop
+loop-less-2 : tie.Need-loop-lo-smaller invariant-loop decreases-loop
 loop-less-2 c = search rules
 
-loop-again-2 : tie.Need-loop-preserved-2 invariant-loop decreases-loop
+loop-again-2 : tie.Need-loop-lo-preserved invariant-loop decreases-loop
 loop-again-2 c =
     let h = c.before.before.before.before in
     let S = (entry h).args.splits.now in
     let met = said c.before.before in
-    seeking-left S (sought h) h.loop.lo h.loop.hi h.loop.invariant c.before.before.before.loop-test.true (other-here S (sought h) h.loop.lo h.loop.hi (λ z. c.before.if1.false (sym met ∙ z)))
-    (not-less S (sought h) h.loop.lo h.loop.hi (λ z. c.if2.false (sym met ∙ z)))
+    seeking-left S (sought h) h.loop-lo.lo h.loop-lo.hi h.loop-lo.invariant c.loop-lo-test.true (other-here S (sought h) h.loop-lo.lo h.loop-lo.hi (λ z. c.if-met-eq-SAME.false (sym met ∙ z)))
+    (not-less S (sought h) h.loop-lo.lo h.loop-lo.hi (λ z. c.if-met-eq-BEFORE.false (sym met ∙ z)))
 
-returns-2 : tie.Need-returns-2 invariant-loop decreases-loop
+returns-2 : tie.Need-returns invariant-loop decreases-loop
 returns-2 c =
     let h = c.before in
-    h.before.split-count.ensures ∙ seeking-none (entry h).args.splits.now (sought h) h.loop.lo h.loop.hi h.loop.invariant (omega arith)
+    h.split_count-n.ensures ∙ seeking-none (entry h).args.splits.now (sought h) h.loop-lo.lo h.loop-lo.hi h.loop-lo.invariant (omega arith)
 
 pub find_spec : {M : Type 1} → statement M
 find_spec =

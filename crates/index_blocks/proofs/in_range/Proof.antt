@@ -9,5 +9,5 @@ past-requires c κs = search rules
 returns : tie.Need-returns
 returns c = cc
 
-pub in-range-spec : {M : Type 1} → statement M
-in-range-spec = tie.close (tie.spec past-requires returns)
+pub in_range_spec : {M : Type 1} → statement M
+in_range_spec = tie.close (tie.spec past-requires returns)

@@ -3,11 +3,11 @@ use Rattle.std.proofs.Common.{rules}
 use Rattle.index_blocks.proofs.past.Statement.{statement}
 use Rattle.index_blocks.proofs.past.Tie as tie
 
-wrapping-sub-u8-requires : tie.Need-wrapping-sub-u8-requires
+wrapping-sub-u8-requires : tie.Need-wrapping_sub_u8-requires
 wrapping-sub-u8-requires c κs = search rules
 
 returns : tie.Need-returns
 returns c = search rules
 
-pub past-spec : {M : Type 1} → statement M
-past-spec = tie.close (tie.spec wrapping-sub-u8-requires returns)
+pub past_spec : {M : Type 1} → statement M
+past_spec = tie.close (tie.spec wrapping-sub-u8-requires returns)

@@ -12,63 +12,63 @@ use Rattle.index_feed.proofs.feed.Statement.{statement}
 use Rattle.index_feed.proofs.feed.Tie as tie
 
 -- the way back from the check to the entry; the rules that are given
-abbrev entry : tie.After-checked → tie.Start
-entry c = c.before.before.before.before.before.before.before.before.before.before
+abbrev entry : tie.After-checked-refusal → tie.Start
+entry c = c.before.before.before.before.before.before.before.before
 
-abbrev rules : tie.After-checked → List Rule
-rules c =
+abbrev its-rules : tie.After-checked-refusal → List Rule
+its-rules c =
     let a = (entry c).args in
     stand_rules a.splits.now a.index.now a.hint a.flow.now a.start a.piece.now
 
 refused-requires : tie.Need-refused-requires
 refused-requires c κs = search rules
 
-returns : tie.Need-returns
+returns : tie.Need-returns-then-flow-ne-FLOW_SIZE
 returns c =
-    let a = c.before.before.before.before.before.before.before.args in
-    let e = unsized a.splits.now a.index.now a.hint a.flow.now a.start a.piece.now c.before.if1.true in
+    let a = c.args in
+    let e = unsized a.splits.now a.index.now a.hint a.flow.now a.start a.piece.now c.if-flow-ne-FLOW_SIZE.true in
     let n : verdict (stand_rules a.splits.now a.index.now a.hint a.flow.now a.start a.piece.now) ≡ 0 → ⊥ = λ z. omega (arith, z, e) in (
       answers-refused (indexed a.splits.now a.index.now) (stand_layout a.splits.now a.index.now a.hint) a.flow.now a.piece.now a.pairs.now
           (stand_rules a.splits.now a.index.now a.hint a.flow.now a.start a.piece.now) _ n (rw (← e) at c.refused.ensures.0),
       c.refused.ensures.1 ∙ hint-kept a.splits.now a.index.now a.hint a.flow.now a.start a.piece.now a.pairs.now n,
     )
 
-holds-at-requires : tie.Need-holds-at-requires
-holds-at-requires c κs = omega (arith, c.before.if1.false)
+holds-at-requires : tie.Need-holds_at-held-requires
+holds-at-requires c κs = omega (arith, c.if-flow-ne-FLOW_SIZE.false)
 
-checked-requires : tie.Need-checked-requires
-checked-requires c κs = (c.before.holds_at.ensures, omega (arith, c.before.before.before.if1.false))
+checked-requires : tie.Need-checked-refusal-requires
+checked-requires c κs = (c.holds_at-held.ensures, omega (arith, c.if-flow-ne-FLOW_SIZE.false))
 
-refused-requires-2 : tie.Need-refused-requires-2
+refused-requires-2 : tie.Need-refused-requires-then-refusal-ne-PASSED
 refused-requires-2 c κs = search rules
 
-same_length : tie.Need-same-length
+same_length : tie.Need-shape_of-flow-then-refusal-ne-PASSED
 same_length c = search rules
 
-returns-2 : tie.Need-returns-2
+returns-2 : tie.Need-returns-then-refusal-ne-PASSED
 returns-2 c =
     let check = c.before.before in
     let a = (entry check).args in
-    let n : verdict (rules check) ≡ 0 → ⊥ = λ z. c.before.if2.true (check.checked.ensures ∙ z) in (
-      answers-refused (indexed a.splits.now a.index.now) (stand_layout a.splits.now a.index.now a.hint) a.flow.now a.piece.now a.pairs.now (rules check) _ n
-          (rw check.checked.ensures at c.refused2.ensures.0),
-      c.refused2.ensures.1 ∙ hint-kept a.splits.now a.index.now a.hint a.flow.now a.start a.piece.now a.pairs.now n,
+    let n : verdict (its-rules check) ≡ 0 → ⊥ = λ z. c.if-refusal-ne-PASSED.true (check.checked-refusal.ensures ∙ z) in (
+      answers-refused (indexed a.splits.now a.index.now) (stand_layout a.splits.now a.index.now a.hint) a.flow.now a.piece.now a.pairs.now (its-rules check) _ n
+          (rw check.checked-refusal.ensures at c.refused-then-refusal-ne-PASSED.ensures.0),
+      c.refused-then-refusal-ne-PASSED.ensures.1 ∙ hint-kept a.splits.now a.index.now a.hint a.flow.now a.start a.piece.now a.pairs.now n,
     )
 
 go-requires : tie.Need-go-requires
-go-requires c κs = let e = c.before.before in (e.before.before.before.holds_at.ensures, sym e.before.checked.ensures ∙ e.if2.false)
+go-requires c κs = let e = c.before.before in (e.holds_at-held.ensures, sym e.checked-refusal.ensures ∙ e.if-refusal-ne-PASSED.false)
 
-same-length-2 : tie.Need-same-length-2
+same-length-2 : tie.Need-shape_of-flow
 same-length-2 c = search rules
 
-same-length-3 : tie.Need-same-length-3
+same-length-3 : tie.Need-shape_of-pairs
 same-length-3 c = search rules
 
-returns-3 : tie.Need-returns-3
-returns-3 c = c.before.before.before.before.go.ensures
+returns-3 : tie.Need-returns
+returns-3 c = c.go.ensures
 
-pub feed-spec : {M : Type 1} → statement M
-feed-spec =
+pub feed_spec : {M : Type 1} → statement M
+feed_spec =
     tie.close
     (tie.spec
     refused-requires

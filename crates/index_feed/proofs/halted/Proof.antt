@@ -6,21 +6,21 @@ use Rattle.index.specs.Entry.{limit}
 use Rattle.index_feed.proofs.halted.Statement.{statement}
 use Rattle.index_feed.proofs.halted.Tie as tie
 
-returns : tie.Need-returns
-returns c = let a = c.before.args in sym (rw (le-ltb a.bytes a.len c.if1.true))
+returns : tie.Need-returns-then-len-bytes
+returns c = let a = c.args in sym (rw (le-ltb a.bytes a.len c.if-len-bytes.true))
 
-sub-if2 : tie.Need-overflow-sub-if2
+sub-if2 : tie.Need-overflow_sub-index
 sub-if2 c = search rules
 
-returns-2 : tie.Need-returns-2
+returns-2 : tie.Need-returns-then-place-index
 returns-2 c =
-    let a = c.before.before.args in
-    sym (rw (lt-ltb a.bytes a.len c.before.if1.false, lt-leb (limit a.index.now) a.place c.if2.true))
+    let a = c.args in
+    sym (rw (lt-ltb a.bytes a.len c.if-len-bytes.false, lt-leb (limit a.index.now) a.place c.if-place-index.true))
 
-returns-3 : tie.Need-returns-3
+returns-3 : tie.Need-returns
 returns-3 c =
-    let a = c.before.before.args in
-    sym (rw (lt-ltb a.bytes a.len c.before.if1.false, le-leb (limit a.index.now) a.place c.if2.false))
+    let a = c.args in
+    sym (rw (lt-ltb a.bytes a.len c.if-len-bytes.false, le-leb (limit a.index.now) a.place c.if-place-index.false))
 
-pub halted-spec : {M : Type 1} → statement M
-halted-spec = tie.close (tie.spec returns sub-if2 returns-2 returns-3)
+pub halted_spec : {M : Type 1} → statement M
+halted_spec = tie.close (tie.spec returns sub-if2 returns-2 returns-3)

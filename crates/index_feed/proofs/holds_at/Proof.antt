@@ -16,25 +16,25 @@ use Rattle.index_feed.proofs.holds_at.Statement.{statement}
 use Rattle.index_feed.proofs.holds_at.Tie as tie
 
 -- the way back to the entry; the split is there
-abbrev entry : tie.After-there → tie.Start
+abbrev entry : tie.After-there-found → tie.Start
 entry c = c.before.before.before.before
 
-found : (c : tie.Then1) → let a = (entry c.before).args in a.hint < split_count a.splits.now
+found : (c : tie.Then-found) → let a = (entry c.before).args in a.hint < split_count a.splits.now
 found c =
     let a = (entry c.before).args in
     ltb-true a.hint (split_count a.splits.now)
-    (both (ltb a.hint (split_count a.splits.now)) (not (bad_index a.splits.now a.index.now)) (sym c.before.there.ensures ∙ c.if1.true)).0
+    (both (ltb a.hint (split_count a.splits.now)) (not (bad_index a.splits.now a.index.now)) (sym c.there-found.ensures ∙ c.if-found.true)).0
 
-there-requires : tie.Need-there-requires
+there-requires : tie.Need-there-found-requires
 there-requires c κs = search rules
 
-mul-same-set : tie.Need-overflow-mul-same-set
+mul-same-set : tie.Need-overflow_mul-hint
 mul-same-set c = omega (arith, found c)
 
-same-set-requires : tie.Need-same-set-requires
+same-set-requires : tie.Need-same_set-requires
 same-set-requires c κs = (omega (arith, found c), (entry c.before).requires)
 
-returns : tie.Need-returns
+returns : tie.Need-returns-then-found
 unfolding holds_at split_set
 returns c =
     let t = c.before in
@@ -43,16 +43,16 @@ returns c =
     c.same_set.ensures
     ∙ sym
     (both-on (ltb a.hint (split_count a.splits.now)) (not (bad_index a.splits.now a.index.now)) (eqb (split_set a.splits.now a.hint) (frontier_of a.flow.now))
-    (sym n.there.ensures ∙ t.if1.true))
+    (sym n.there-found.ensures ∙ t.if-found.true))
 
-returns-2 : tie.Need-returns-2
+returns-2 : tie.Need-returns
 unfolding holds_at
 returns-2 c =
     let n = c.before in
     let a = (entry n).args in
     sym
     (both-off (ltb a.hint (split_count a.splits.now)) (not (bad_index a.splits.now a.index.now)) (eqb (split_set a.splits.now a.hint) (frontier_of a.flow.now))
-    (sym n.there.ensures ∙ c.if1.false))
+    (sym n.there-found.ensures ∙ c.if-found.false))
 
-pub holds-at-spec : {M : Type 1} → statement M
-holds-at-spec = tie.close (tie.spec there-requires mul-same-set same-set-requires returns returns-2)
+pub holds_at_spec : {M : Type 1} → statement M
+holds_at_spec = tie.close (tie.spec there-requires mul-same-set same-set-requires returns returns-2)

@@ -4,11 +4,11 @@ use mathlib.Core.Path.{refl}
 use Rattle.index_feed.proofs.refused.Statement.{statement}
 use Rattle.index_feed.proofs.refused.Tie as tie
 
-refused-requires : tie.Need-refused-requires
+refused-requires : tie.Need-refused-fed-requires
 refused-requires c κs = search rules
 
 returns : tie.Need-returns
-returns c = (c.refused.ensures, refl)
+returns c = (c.refused-fed.ensures, refl)
 
-pub refused-spec : {M : Type 1} → statement M
-refused-spec = tie.close (tie.spec refused-requires returns)
+pub refused_spec : {M : Type 1} → statement M
+refused_spec = tie.close (tie.spec refused-requires returns)

@@ -14,28 +14,28 @@ use Rattle.index_feed.proofs.save.Tie as tie
 advance-requires : tie.Need-advance-requires
 advance-requires c κs = let s = c.before.before.before in (s.requires.1, s.requires.2)
 
-put-frontier-requires : tie.Need-put-frontier-requires
+put-frontier-requires : tie.Need-put_frontier-requires
 put-frontier-requires c κs = search rules
 
-same_length : tie.Need-same-length
+same_length : tie.Need-shape_of-flow-then-moved
 same_length c = search rules
 
-returns : tie.Need-returns
+returns : tie.Need-returns-then-moved
 returns c =
     let put = c.before.before in
     let moved = put.before.before in
     let advance = moved.before.before.before in
-    let a = advance.before.before.before.before.args in
-    put.put-frontier.ensures
+    let a = advance.args in
+    put.put_frontier.ensures
     ∙ ap (λ (b : List ℕ). placed b 0 (set_bytes (split_set a.splits.now a.i))) advance.advance.ensures
     ∙ front-over (frontier_of a.flow.now) (split_set a.splits.now a.i) a.offset (rows_of a.flow.now + a.rows)
-    ∙ sym (rw moved.if1.true)
+    ∙ sym (rw moved.if-moved.true)
 
-same-length-2 : tie.Need-same-length-2
+same-length-2 : tie.Need-shape_of-flow-else-moved
 same-length-2 c = search rules
 
-returns-2 : tie.Need-returns-2
-returns-2 c = c.before.before.before.advance.ensures ∙ sym (rw c.if1.false)
+returns-2 : tie.Need-returns-else-moved
+returns-2 c = c.advance.ensures ∙ sym (rw c.if-moved.false)
 
-pub save-spec : {M : Type 1} → statement M
-save-spec = tie.close (tie.spec advance-requires put-frontier-requires same_length returns same-length-2 returns-2)
+pub save_spec : {M : Type 1} → statement M
+save_spec = tie.close (tie.spec advance-requires put-frontier-requires same_length returns same-length-2 returns-2)

@@ -3,11 +3,11 @@ use borrow.Author.Rules.{rules}
 use Rattle.index_feed.proofs.unheld_refusal.Statement.{statement}
 use Rattle.index_feed.proofs.unheld_refusal.Tie as tie
 
-sought-refusal-requires : tie.Need-sought-refusal-requires
+sought-refusal-requires : tie.Need-sought_refusal-requires
 sought-refusal-requires c κs = search rules
 
 returns : tie.Need-returns
-returns c = c.sought-refusal.ensures
+returns c = c.sought_refusal.ensures
 
-pub unheld-refusal-spec : {M : Type 1} → statement M
-unheld-refusal-spec = tie.close (tie.spec sought-refusal-requires returns)
+pub unheld_refusal_spec : {M : Type 1} → statement M
+unheld_refusal_spec = tie.close (tie.spec sought-refusal-requires returns)

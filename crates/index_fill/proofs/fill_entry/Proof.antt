@@ -19,24 +19,24 @@ use Rattle.index_fill.proofs.fill_entry.Statement.{statement}
 use Rattle.index_fill.proofs.fill_entry.Tie as tie
 
 -- the ways back: from the split's set to the entry, from the steps to the set, from its signatures to the steps, and from its slots to the signatures
-abbrev begun : tie.After-split-set → tie.Start
+abbrev begun : tie.After-split_set-f → tie.Start
 begun c = c.before.before.before.before.before.before.before
 
-abbrev stepped : tie.After-fill-steps → tie.After-split-set
+abbrev stepped : tie.After-fill_steps → tie.After-split_set-f
 stepped c = c.before.before
 
-abbrev worded : tie.After-accepted → tie.After-fill-words
+abbrev worded : tie.After-accepted → tie.After-fill_words
 worded c = c.before.before.before
 
-abbrev stood : tie.After-accepted → tie.After-split-set
-stood c = stepped (worded c).before.before.before.before.before
+abbrev stood : tie.After-accepted → tie.After-split_set-f
+stood c = stepped (worded c).before.before.before.before
 
 abbrev told : tie.After-taken → tie.After-accepted
 told c = c.before.before.before.before.before
 
 -- the sets of `work` are the steps
-steps : (c : tie.After-fill-steps) → let a = (begun (stepped c)).args in (d : ℕ) → d < byte_values → part c.fill-steps.new.1.1.0 d ≡ step a.list.now (split_set a.splits.now a.i) d
-steps c d h = let a = (begun (stepped c)).args in c.fill-steps.ensures.1 d h ∙ ap (λ (F : ℕ). step a.list.now F d) (stepped c).split-set.ensures
+steps : (c : tie.After-fill_steps) → let a = (begun (stepped c)).args in (d : ℕ) → d < byte_values → part c.fill_steps.new.rows d ≡ step a.list.now (split_set a.splits.now a.i) d
+steps c d h = let a = (begun (stepped c)).args in c.fill_steps.ensures.1 d h ∙ ap (λ (F : ℕ). step a.list.now F d) (stepped c).split_set-f.ensures
 
 -- four slots at most
 few : (c : tie.After-taken) → c.taken.result ≤ 4
@@ -45,48 +45,48 @@ few c = let a = (begun (stood (told c))).args in omega (arith, c.taken.ensures, 
 -- the note is the cost, and whether all states are named
 noted : (c : tie.After-note) → let sp = stood (told c.before.before) in
     let a = (begun sp).args in
-    sigs_of c.note.result ≡ note_of (cost_of a.m a.splits.now a.i) (within (set_of sp.split-set.result) (named a.list.now))
+    sigs_of c.note.result ≡ note_of (cost_of a.m a.splits.now a.i) (within (set_of sp.split_set-f.result) (named a.list.now))
 unfolding cost_of
 noted c =
     let t = c.before.before in
     let sp = stood (told t) in
     let s = begun sp in
     c.note.ensures
-    ∙ ap₂ (λ (n : ℕ) (b : Bool). note_of n b) (ap (λ (x : ℕ). s.args.m + x) t.taken.ensures) (c.before.named-all.ensures ∙ ap (within (set_of sp.split-set.result)) s.pre.1)
+    ∙ ap₂ (λ (n : ℕ) (b : Bool). note_of n b) (ap (λ (x : ℕ). s.args.m + x) t.taken.ensures) (c.named_all.ensures ∙ ap (within (set_of sp.split_set-f.result)) s.requires.1)
 
-entry-place-requires : tie.Need-entry-place-requires
-entry-place-requires c κs = let s = c.before.before.before.before.before in omega (arith, s.requires.2, s.requires.6)
+entry-place-requires : tie.Need-entry_place-at-requires
+entry-place-requires c κs = let s = c in omega (arith, s.requires.2, s.requires.6)
 
 -- the entry that is written is within the index
-inside : (c : tie.After-entry-place) → let s = c.before.before.before.before.before.before in c.entry_place.result + entry_size ≤ length s.args.index.now
-inside c = omega (arith, c.entry_place.ensures, c.before.before.before.before.before.before.requires.7)
+inside : (c : tie.After-entry_place-at) → let s = c.before.before.before.before.before.before in c.entry_place-at.result + entry_size ≤ length s.args.index.now
+inside c = omega (arith, c.entry_place-at.ensures, c.requires.7)
 
-add-set-at : tie.Need-overflow-add-set-at
+add-set-at : tie.Need-overflow_add-set_at
 add-set-at c = omega (arith, inside c)
 
-add-note-at : tie.Need-overflow-add-note-at
+add-note-at : tie.Need-overflow_add-note_at
 add-note-at c = omega (arith, inside c)
 
-split-set-requires : tie.Need-split-set-requires
+split-set-requires : tie.Need-split_set-f-requires
 split-set-requires c κs = search rules
 
-fill-steps-requires : tie.Need-fill-steps-requires
+fill-steps-requires : tie.Need-fill_steps-requires
 fill-steps-requires c κs = (begun c.before).requires.8
 
-fill-words-requires : tie.Need-fill-words-requires
+fill-words-requires : tie.Need-fill_words-requires
 fill-words-requires c κs =
-    let st = c.before.before.before.before in
+    let st = c.before.before.before in
     let s = begun (stepped st) in
     let a = s.args in
     let t = step a.list.now (split_set a.splits.now a.i) in
-    let w = part st.fill-steps.new.1.1.0 in (
-      s.pre.0,
-      s.pre.2,
-      s.pre.3,
-      s.pre.4,
-      omega (arith, st.fill-steps.ensures.0, s.pre.8),
+    let w = part st.fill_steps.new.rows in (
+      s.requires.0,
+      s.requires.2,
+      s.requires.3,
+      s.requires.4,
+      omega (arith, st.fill_steps.ensures.0, s.requires.8),
       inside (stepped st).before,
-      λ d h. (led-by t w a.lows.now d (steps st) h (s.pre.9 d h), rw (steps st d h) (step-lt a.list.now (split_set a.splits.now a.i) d)),
+      λ d h. (led-by t w a.lows.now d (steps st) h (s.requires.9 d h), rw (steps st d h) (step-lt a.list.now (split_set a.splits.now a.i) d)),
     )
 
 accepted-requires : tie.Need-accepted-requires
@@ -98,10 +98,10 @@ store-requires c κs = omega (arith, inside (stood c.before).before)
 taken-requires : tie.Need-taken-requires
 taken-requires c κs = (begun (stood c.before.before.before.before)).requires.6
 
-add-note : tie.Need-overflow-add-note
+add-note : tie.Need-overflow_add-m
 add-note c = omega (arith, few c, (begun (stood (told c))).requires.5)
 
-named-all-requires : tie.Need-named-all-requires
+named-all-requires : tie.Need-named_all-requires
 named-all-requires c κs = search rules
 
 note-requires : tie.Need-note-requires
@@ -110,10 +110,10 @@ note-requires c κs = omega (arith, few c.before, (begun (stood (told c.before))
 store-requires-2 : tie.Need-store-requires-2
 store-requires-2 c κs = omega (arith, inside (stood (told c.before.before.before)).before)
 
-same_length : tie.Need-same-length
+same_length : tie.Need-shape_of-work
 same_length c = search rules
 
-same-length-2 : tie.Need-same-length-2
+same-length-2 : tie.Need-shape_of-index
 same-length-2 c = search rules
 
 returns : tie.Need-returns
@@ -121,26 +121,26 @@ returns c =
     let note = c.before.before.before.before in
     let t = note.before.before in
     let acc = told t in
-    let st = (worded acc).before.before.before.before.before in
+    let st = (worded acc).before.before.before.before in
     let sp = stood acc in
     let s = begun sp in
     let a = s.args in
-    let F = set_of sp.split-set.result in
-    let same : words_of a.list.now a.splits.now (part st.fill-steps.last.1.1.0) byte_values ≡ words_of a.list.now a.splits.now (step a.list.now F) byte_values =
-    words_same a.list.now a.splits.now (part st.fill-steps.last.1.1.0) (step a.list.now F) byte_values st.fill-steps.ensures.1 in
-    let place = sp.before.entry_place in
-    let words = (worded acc).fill-words.ensures ∙ ap (λ (ws : List ℕ). placed a.index.now place.result ws) same in
-    let set = t.before.before.before.store.ensures in (
-      st.fill-steps.ensures.0,
-      c.before.before.store2.ensures
+    let F = set_of sp.split_set-f.result in
+    let same : words_of a.list.now a.splits.now (part st.fill_steps.new.rows) byte_values ≡ words_of a.list.now a.splits.now (step a.list.now F) byte_values =
+    words_same a.list.now a.splits.now (part st.fill_steps.new.rows) (step a.list.now F) byte_values st.fill_steps.ensures.1 in
+    let place = sp.entry_place-at in
+    let words = (worded acc).fill_words.ensures ∙ ap (λ (ws : List ℕ). placed a.index.now place.result ws) same in
+    let set = t.store.ensures in (
+      st.fill_steps.ensures.0,
+      c.store-2.ensures
           ∙ ap (λ (Y : List ℕ). placed Y (place.result + cost_place) (sig_bytes (sigs_of note.note.result))) (set ∙ ap (λ (Y : List ℕ). placed Y (place.result + sigs_place) (sig_bytes (sigs_of acc.accepted.result))) words)
-          ∙ entry-placed a.index.now a.list.now a.m a.splits.now a.i place.result (inside sp.before) F sp.split-set.ensures (sigs_of acc.accepted.result) acc.accepted.ensures
+          ∙ entry-placed a.index.now a.list.now a.m a.splits.now a.i place.result (inside sp.before) F sp.split_set-f.ensures (sigs_of acc.accepted.result) acc.accepted.ensures
           (sigs_of note.note.result) (noted note)
           ∙ ap (λ (p : ℕ). placed a.index.now p (entry_of a.list.now a.m a.splits.now a.i)) place.ensures,
     )
 
-pub fill-entry-spec : {M : Type 1} → statement M
-fill-entry-spec =
+pub fill_entry_spec : {M : Type 1} → statement M
+fill_entry_spec =
     tie.close
     (tie.spec
     entry-place-requires

@@ -3,11 +3,11 @@ use mathlib.Core.Path.{sym}
 use Rattle.index_fill.proofs.flag_of.Statement.{statement}
 use Rattle.index_fill.proofs.flag_of.Tie as tie
 
-returns : tie.Need-returns
-returns c = sym (rw c.if1.true)
+returns : tie.Need-returns-then-known
+returns c = sym (rw c.if-known.true)
 
-returns-2 : tie.Need-returns-2
-returns-2 c = sym (rw c.if1.false)
+returns-2 : tie.Need-returns-else-known
+returns-2 c = sym (rw c.if-known.false)
 
-pub flag-of-spec : {M : Type 1} → statement M
-flag-of-spec = tie.close (tie.spec returns returns-2)
+pub flag_of_spec : {M : Type 1} → statement M
+flag_of_spec = tie.close (tie.spec returns returns-2)

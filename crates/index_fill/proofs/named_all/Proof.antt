@@ -13,7 +13,7 @@ same-requires c κs = search rules
 
 returns : tie.Need-returns
 unfolding within
-returns c = c.same.ensures ∙ rw c.before.union.ensures
+returns c = c.same.ensures ∙ rw c.union.ensures
 
-pub named-all-spec : {M : Type 1} → statement M
-named-all-spec = tie.close (tie.spec union-requires same-requires returns)
+pub named_all_spec : {M : Type 1} → statement M
+named_all_spec = tie.close (tie.spec union-requires same-requires returns)

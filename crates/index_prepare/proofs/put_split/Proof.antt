@@ -18,19 +18,19 @@ unused : digits 8 8 18446744073709551615 ≡ replicate 8 255
 unfolding digits
 unused = refl
 
-mul_at : tie.Need-overflow-mul-at
-mul_at c = omega (arith, c.before.requires)
+mul_at : tie.Need-overflow_mul-at
+mul_at c = omega (arith, c.requires)
 
 store-requires : tie.Need-store-requires
-store-requires c κs = omega (arith, c.before.before.requires)
+store-requires c κs = omega (arith, c.requires)
 
-add-put-number : tie.Need-overflow-add-put-number
-add-put-number c = omega (arith, c.before.before.before.before.before.before.requires)
+add-put-number : tie.Need-overflow_add-at
+add-put-number c = omega (arith, c.requires)
 
-put-number-requires : tie.Need-put-number-requires
+put-number-requires : tie.Need-put_number-requires
 put-number-requires c κs = search rules
 
-same_length : tie.Need-same-length
+same_length : tie.Need-shape_of-splits
 same_length c = search rules
 
 returns : tie.Need-returns
@@ -38,10 +38,10 @@ returns c =
     let s = c.before.before.before.before.before.before.before.before.before in
     let a = s.args in
     let x = set_of a.f in
-    c.before.before.put-number.ensures
-    ∙ ap (λ (b : List ℕ). placed b (split_size * a.i + set_size) (digits 8 8 18446744073709551615)) c.before.before.before.before.before.before.store.ensures
+    c.put_number.ensures
+    ∙ ap (λ (b : List ℕ). placed b (split_size * a.i + set_size) (digits 8 8 18446744073709551615)) c.store.ensures
     ∙ ap (λ (ys : List ℕ). placed (placed a.splits.now (split_size * a.i) (set_bytes x)) (split_size * a.i + set_size) ys) unused
     ∙ placed-twice a.splits.now (split_size * a.i) (set_bytes x) (replicate 8 255) set_size 8 (length_digits 8 set_size x) (length-replicate {A = ℕ} 8 255) (omega (arith, s.requires))
 
-pub put-split-spec : {M : Type 1} → statement M
-put-split-spec = tie.close (tie.spec mul_at store-requires add-put-number put-number-requires same_length returns)
+pub put_split_spec : {M : Type 1} → statement M
+put_split_spec = tie.close (tie.spec mul_at store-requires add-put-number put-number-requires same_length returns)

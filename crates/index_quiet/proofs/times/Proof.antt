@@ -6,7 +6,7 @@ use native.Mathlib.Nat.{mul-le-mul_left}
 use Rattle.index_quiet.proofs.times.Statement.{statement}
 use Rattle.index_quiet.proofs.times.Tie as tie
 
-mul-result : tie.Need-overflow-mul-result
+mul-result : tie.Need-overflow_mul-result
 mul-result c =
     let a = c.args in
     let h : a.n * a.c ≤ a.n * 255 = mul-le-mul_left a.n (omega arith) in
@@ -18,5 +18,5 @@ returns c =
     let h : a.n * a.c ≤ a.n * 255 = mul-le-mul_left a.n (omega arith) in
     (search rules, omega (arith, h))
 
-pub times-spec : {M : Type 1} → statement M
-times-spec = tie.close (tie.spec mul-result returns)
+pub times_spec : {M : Type 1} → statement M
+times_spec = tie.close (tie.spec mul-result returns)

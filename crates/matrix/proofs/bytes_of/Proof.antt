@@ -10,7 +10,7 @@ use Rattle.matrix.proofs.Joining.{bytes-set}
 use Rattle.matrix.proofs.bytes_of.Statement.{statement}
 use Rattle.matrix.proofs.bytes_of.Tie as tie
 
-slice-aggregate-store : tie.Need-slice-aggregate-store
+slice-aggregate-store : tie.Need-slice_bounds-store-end
 slice-aggregate-store c = search rules
 
 store-requires : tie.Need-store-requires
@@ -19,8 +19,8 @@ store-requires c κs = search rules
 returns : tie.Need-returns
 returns c =
     let s = c.before.before.before in
-    ap (λ (b : List ℕ). set_at b 0) c.before.store.ensures
-    ∙ bytes-set _ (set_of s.args.f) (search rules) (words-lt set_words s.args.f.words (valid-of s.args.f _ s.well-formed.0))
+    ap (λ (b : List ℕ). set_at b 0) c.store.ensures
+    ∙ bytes-set _ (set_of s.args.f) (search rules) (words-lt set_words s.args.f.words (valid-of s.args.f _ s.well_formed.0))
 
-pub bytes-of-spec : {M : Type 1} → statement M
-bytes-of-spec = tie.close (tie.spec slice-aggregate-store store-requires returns)
+pub bytes_of_spec : {M : Type 1} → statement M
+bytes_of_spec = tie.close (tie.spec slice-aggregate-store store-requires returns)

@@ -14,34 +14,34 @@ use borrow.Author.Rules.{rules}
 use Rattle.matrix.proofs.feed_refusal.Statement.{statement}
 use Rattle.matrix.proofs.feed_refusal.Tie as tie
 
-feed-refusal-requires : tie.Need-feed-refusal-requires
+feed-refusal-requires : tie.Need-feed_refusal-met-requires
 feed-refusal-requires c κs = search rules
 
 -- past the list and the flow the length decides
-past : (c : tie.Else1)
-    → let a = c.before.before.before.before.before.before.args in
+past : (c : tie.Else-met-ne-PASSED)
+    → let a = c.args in
     verdict (matrix_rules a.list.now a.matrix.now a.flow.now a.start a.piece.now) ≡ verdict ((8, wrong_matrix a.list.now a.matrix.now) ∷ [])
 past c =
-    let a = c.before.before.before.before.before.before.args in
-    verdict-then (feed_rules a.list.now a.flow.now a.start a.piece.now) ((8, wrong_matrix a.list.now a.matrix.now) ∷ []) refl (sym c.before.feed-refusal.ensures ∙ c.if1.false)
+    let a = c.args in
+    verdict-then (feed_rules a.list.now a.flow.now a.start a.piece.now) ((8, wrong_matrix a.list.now a.matrix.now) ∷ []) refl (sym c.feed_refusal-met.ensures ∙ c.if-met-ne-PASSED.false)
 
-sized : (c : tie.Else1) → let a = c.before.before.before.before.before.before.args in matrix_length a.list.now ≡ 32768 * a.n
-sized c = omega (arith, c.before.before.before.before.before.before.requires.0)
+sized : (c : tie.Else-met-ne-PASSED) → let a = c.args in matrix_length a.list.now ≡ 32768 * a.n
+sized c = omega (arith, c.requires.0)
 
-returns : tie.Need-returns
+returns : tie.Need-returns-then-met-ne-PASSED
 returns c =
-    let a = c.before.before.before.before.before.before.args in
-    let e = c.before.feed-refusal.ensures in
-    e ∙ sym (verdict-refused (feed_rules a.list.now a.flow.now a.start a.piece.now) ((8, wrong_matrix a.list.now a.matrix.now) ∷ []) (λ z. c.if1.true (e ∙ z)))
+    let a = c.args in
+    let e = c.feed_refusal-met.ensures in
+    e ∙ sym (verdict-refused (feed_rules a.list.now a.flow.now a.start a.piece.now) ((8, wrong_matrix a.list.now a.matrix.now) ∷ []) (λ z. c.if-met-ne-PASSED.true (e ∙ z)))
 
-mul-if2 : tie.Need-overflow-mul-if2
+mul-if2 : tie.Need-overflow_mul-n
 mul-if2 c = search rules
 
-returns-2 : tie.Need-returns-2
-returns-2 c = sym (past c.before ∙ stop 8 [] (ap not (ne_eqb _ _ (λ e. c.if2.true (e ∙ sized c.before)))))
+returns-2 : tie.Need-returns-then-matrix-n
+returns-2 c = sym (past c.before ∙ stop 8 [] (ap not (ne_eqb _ _ (λ e. c.if-matrix-n.true (e ∙ sized c.before)))))
 
-returns-3 : tie.Need-returns-3
-returns-3 c = sym (past c.before ∙ last 8 (ap not (eq-eqb _ _ (c.if2.false ∙ sym (sized c.before)))))
+returns-3 : tie.Need-returns
+returns-3 c = sym (past c.before ∙ last 8 (ap not (eq-eqb _ _ (c.if-matrix-n.false ∙ sym (sized c.before)))))
 
-pub feed-refusal-spec : {M : Type 1} → statement M
-feed-refusal-spec = tie.close (tie.spec feed-refusal-requires returns mul-if2 returns-2 returns-3)
+pub feed_refusal_spec : {M : Type 1} → statement M
+feed_refusal_spec = tie.close (tie.spec feed-refusal-requires returns mul-if2 returns-2 returns-3)

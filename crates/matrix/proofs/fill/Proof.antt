@@ -18,82 +18,82 @@ use Rattle.matrix.proofs.Filling.{fill-passes, edge-placed, all-filled}
 use Rattle.matrix.proofs.fill.Statement.{statement}
 use Rattle.matrix.proofs.fill.Tie as tie
 
-abbrev invariant-loop : tie.invariant-loop
+abbrev invariant-loop : tie.invariant-loop-i
 invariant-loop list matrix₀ rows refusal n i₀ matrix i = (i ≤ n) × (matrix ≡ marked_records list matrix₀ i) × (length matrix ≡ matrix_length list)
 
-abbrev decreases-loop : tie.decreases-loop
+abbrev decreases-loop : tie.decreases-loop-i
 decreases-loop list matrix₀ rows refusal n i₀ matrix i = n - i
 
 -- past the check no rule refuses, so the list is good, and the matrix has its length
-verdict-0 : (c : tie.Else1 invariant-loop decreases-loop) → let a = c.before.before.before.before.before.before.args in verdict (fill_rules a.list.now a.matrix.now) ≡ 0
-verdict-0 c = sym c.before.fill-refusal.ensures ∙ c.if1.false
+verdict-0 : (c : tie.Else-refusal-ne-PASSED invariant-loop decreases-loop) → let a = c.args in verdict (fill_rules a.list.now a.matrix.now) ≡ 0
+verdict-0 c = sym c.fill_refusal-refusal.ensures ∙ c.if-refusal-ne-PASSED.false
 
-passed : (c : tie.Else1 invariant-loop decreases-loop) → let a = c.before.before.before.before.before.before.args in (list_refusal a.list.now ≡ 0) × (length a.matrix.now ≡ matrix_length a.list.now)
-passed c = let a = c.before.before.before.before.before.before.args in fill-passes a.list.now a.matrix.now (verdict-0 c)
+passed : (c : tie.Else-refusal-ne-PASSED invariant-loop decreases-loop) → let a = c.args in (list_refusal a.list.now ≡ 0) × (length a.matrix.now ≡ matrix_length a.list.now)
+passed c = let a = c.args in fill-passes a.list.now a.matrix.now (verdict-0 c)
 
 -- and so have the zeros
-kept : {m : List ℕ} (c : tie.Else1 invariant-loop decreases-loop) → let a = c.before.before.before.before.before.before.args in m ≡ replicate (length a.matrix.now) 0 → length m ≡ matrix_length a.list.now
+kept : {m : List ℕ} (c : tie.Else-refusal-ne-PASSED invariant-loop decreases-loop) → let a = c.args in m ≡ replicate (length a.matrix.now) 0 → length m ≡ matrix_length a.list.now
 kept c e = ap (λ (m : List ℕ). length m) e ∙ zeros-long _ ∙ (passed c).1
 
-state-count-requires : tie.Need-state-count-requires invariant-loop decreases-loop
+state-count-requires : tie.Need-state_count-rows-requires invariant-loop decreases-loop
 state-count-requires c κs = search rules
 
-fill-refusal-requires : tie.Need-fill-refusal-requires invariant-loop decreases-loop
+fill-refusal-requires : tie.Need-fill_refusal-refusal-requires invariant-loop decreases-loop
 fill-refusal-requires c κs = search rules
 
-same_length : tie.Need-same-length invariant-loop decreases-loop
+same_length : tie.Need-shape_of-matrix-then-refusal-ne-PASSED invariant-loop decreases-loop
 same_length c = search rules
 
-returns : tie.Need-returns invariant-loop decreases-loop
+returns : tie.Need-returns-then-refusal-ne-PASSED invariant-loop decreases-loop
 returns c =
-    let e = c.before.fill-refusal.ensures in
-    record { refuses = e; wrote = sym (rw (ne_eqb _ _ (λ z. c.if1.true (e ∙ z)))) }
+    let e = c.fill_refusal-refusal.ensures in
+    record { refuses = e; wrote = sym (rw (ne_eqb _ _ (λ z. c.if-refusal-ne-PASSED.true (e ∙ z)))) }
 
 clear-requires : tie.Need-clear-requires invariant-loop decreases-loop
 clear-requires c κs = search rules
 
-records-requires : tie.Need-records-requires invariant-loop decreases-loop
+records-requires : tie.Need-records-n-requires invariant-loop decreases-loop
 records-requires c κs = search rules
 
-loop-holds : tie.Need-loop-init invariant-loop decreases-loop
+loop-holds : tie.Need-loop-i-init invariant-loop decreases-loop
 unfolding marked_records
-loop-holds c = (search rules, refl, kept c.before.before.before.before.before c.before.before.before.clear.ensures)
+loop-holds c = (search rules, refl, kept c.before.before.before.before.before c.clear.ensures)
 
-fill-record-requires : tie.Need-fill-record-requires invariant-loop decreases-loop
+fill-record-requires : tie.Need-fill_record-requires invariant-loop decreases-loop
 fill-record-requires c κs =
     let p = c.before.before.before.before.before.before.before.before in
-    let l = c.before.before.loop in
-    let h : l.i < records c.before.before.before.before.before.before.before.before.before.before.before.before.before.before.args.list.now = omega (arith, c.before.before.before.records.ensures) in
-    (h, edge-placed c.before.before.before.before.before.before.before.before.before.before.before.before.before.before.args.list.now (passed p).0 l.i _ l.invariant.2 h)
+    let l = c.loop-i in
+    let h : l.i < records c.args.list.now = omega (arith, c.records-n.ensures) in
+    (h, edge-placed c.args.list.now (passed p).0 l.i _ l.invariant.2 h)
 
-add-i : tie.Need-overflow-add-i invariant-loop decreases-loop
+add-i : tie.Need-overflow_step-i invariant-loop decreases-loop
 add-i c = search rules
 
-loop-less : tie.Need-loop-smaller invariant-loop decreases-loop
+loop-less : tie.Need-loop-i-smaller invariant-loop decreases-loop
 loop-less c = search rules
 
-loop-again : tie.Need-loop-preserved invariant-loop decreases-loop
+loop-again : tie.Need-loop-i-preserved invariant-loop decreases-loop
 unfolding marked_records
 loop-again c =
-    let l = c.before.before.before.before.before.loop in
-    let a = c.before.before.before.before.before.before.before.before.before.before.before.before.before.before.before.before.before.args in
-    (search rules, rw add-one (c.before.before.fill-record.ensures ∙ ap (λ (m : List ℕ). marked_bytes a.list.now l.i m byte_values) l.invariant.1), search rules)
+    let l = c.loop-i in
+    let a = c.args in
+    (search rules, rw add-one (c.fill_record.ensures ∙ ap (λ (m : List ℕ). marked_bytes a.list.now l.i m byte_values) l.invariant.1), search rules)
 
-same-length-2 : tie.Need-same-length-2 invariant-loop decreases-loop
-same-length-2 c = omega (arith, c.before.loop.invariant.2, (passed c.before.before.before.before.before.before.before).1)
+same-length-2 : tie.Need-shape_of-matrix invariant-loop decreases-loop
+same-length-2 c = omega (arith, c.loop-i.invariant.2, (passed c.before.before.before.before.before.before.before).1)
 
-returns-2 : tie.Need-returns-2 invariant-loop decreases-loop
+returns-2 : tie.Need-returns invariant-loop decreases-loop
 returns-2 c =
-    let l = c.before.loop in
+    let l = c.loop-i in
     let p = c.before.before.before.before.before.before.before in
-    let a = c.before.before.before.before.before.before.before.before.before.before.before.before.before.args in
-    let e : l.i ≡ records a.list.now = omega (arith, c.before.before.records.ensures) in
+    let a = c.args in
+    let e : l.i ≡ records a.list.now = omega (arith, c.records-n.ensures) in
     let v = verdict-0 p in
     let whole : marked_records a.list.now (replicate (length a.matrix.now) 0) (records a.list.now) ≡ cond (eqb (verdict (fill_rules a.list.now a.matrix.now)) 0) (filled a.list.now) a.matrix.now =
     all-filled a.list.now (passed p).0 (length a.matrix.now) (passed p).1 ∙ sym (rw (eq-eqb _ _ v)) in
     record {
       refuses = sym v;
-      wrote = l.invariant.1 ∙ rw (e, c.before.before.before.before.before.clear.ensures) whole;
+      wrote = l.invariant.1 ∙ rw (e, c.clear.ensures) whole;
     }
 
 pub fill_spec : {M : Type 1} → statement M

@@ -12,31 +12,31 @@ exchanged-requires c κs = search rules
 edge-requires : tie.Need-edge-requires
 edge-requires c κs = search rules
 
-mul-join-at : tie.Need-overflow-mul-join-at
+mul-join-at : tie.Need-overflow_mul-s
 mul-join-at c = search rules
 
-add-join-at : tie.Need-overflow-add-join-at
+add-join-at : tie.Need-overflow_add-s
 add-join-at c = search rules
 
-mul-join-at-2 : tie.Need-overflow-mul-join-at-2
+mul-join-at-2 : tie.Need-overflow_mul-s-then-edge
 mul-join-at-2 c = search rules
 
-join-at-requires : tie.Need-join-at-requires
-join-at-requires c κs = (omega (arith, c.before.before.before.before.before.before.requires.4), c.before.before.before.before.before.before.requires.3)
+join-at-requires : tie.Need-join_at-requires
+join-at-requires c κs = (omega (arith, c.requires.4), c.requires.3)
 
-same_length : tie.Need-same-length
+same_length : tie.Need-shape_of-matrix
 same_length c = search rules
 
-returns : tie.Need-returns
+returns : tie.Need-returns-then-edge
 returns c =
     let s = c.before.before.before.before.before.before.before.before.before in
-    c.before.before.join-at.ensures ∙ rw (← s.requires.1, ← s.requires.2, ← c.before.before.before.before.before.edge.ensures, c.before.before.before.before.if1.true)
+    c.join_at.ensures ∙ rw (← s.requires.1, ← s.requires.2, ← c.edge.ensures, c.if-edge.true)
 
-returns-2 : tie.Need-returns-2
-returns-2 c = rw (← c.before.edge.ensures, c.if1.false)
+returns-2 : tie.Need-returns-else-edge
+returns-2 c = rw (← c.edge.ensures, c.if-edge.false)
 
-pub fill-byte-spec : {M : Type 1} → statement M
-fill-byte-spec =
+pub fill_byte_spec : {M : Type 1} → statement M
+fill_byte_spec =
     tie.close
     (tie.spec
     exchanged-requires

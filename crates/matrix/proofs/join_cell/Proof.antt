@@ -10,60 +10,60 @@ use Rattle.matrix.proofs.Joining.{Joins, joins-none, joins-more, joins-small, jo
 use Rattle.matrix.proofs.join_cell.Statement.{statement}
 use Rattle.matrix.proofs.join_cell.Tie as tie
 
-abbrev invariant-loop : tie.invariant-loop
+abbrev invariant-loop : tie.invariant-loop-i
 invariant-loop matrix at w₀ i₀ w i = (i ≤ set_size) × Joins (λ j. get_or matrix (at + j) 0) w₀ i w × (zero < i → Small 8 w₀) × (zero < i → Small 8 matrix)
 
-abbrev decreases-loop : tie.decreases-loop
+abbrev decreases-loop : tie.decreases-loop-i
 decreases-loop matrix at w₀ i₀ w i = set_size - i
 
 -- the bytes keep their number
-kept : (c : tie.At-loop invariant-loop decreases-loop) → length c.loop.w ≡ set_size
-kept c = omega (arith, c.loop.invariant.1.0, c.before.requires.1)
+kept : (c : tie.At-loop-i invariant-loop decreases-loop) → length c.loop-i.w ≡ set_size
+kept c = omega (arith, c.loop-i.invariant.1.0, c.requires.1)
 
-loop-holds : tie.Need-loop-init invariant-loop decreases-loop
+loop-holds : tie.Need-loop-i-init invariant-loop decreases-loop
 loop-holds c =
     let a = c.args in
     (omega arith, joins-none (λ j. get_or a.matrix.now (a.at + j) 0) a.w.now, λ h. absurd (omega arith), λ h. absurd (omega arith))
 
-slice-read-w : tie.Need-slice-read-w invariant-loop decreases-loop
+slice-read-w : tie.Need-bounds-w-i invariant-loop decreases-loop
 slice-read-w c = omega (arith, kept c.before.before)
 
-add-w : tie.Need-overflow-add-w invariant-loop decreases-loop
+add-w : tie.Need-overflow_add-w invariant-loop decreases-loop
 add-w c = search rules
 
-shared-slice-read-w : tie.Need-shared-slice-read-w invariant-loop decreases-loop
+shared-slice-read-w : tie.Need-bounds-matrix-at invariant-loop decreases-loop
 shared-slice-read-w c = search rules
 
-slice-write-w : tie.Need-slice-write-w invariant-loop decreases-loop
+slice-write-w : tie.Need-bounds-w-i-in-loop-i invariant-loop decreases-loop
 slice-write-w c = omega (arith, kept c.before.before.before)
 
-add-i : tie.Need-overflow-add-i invariant-loop decreases-loop
+add-i : tie.Need-overflow_step-i invariant-loop decreases-loop
 add-i c = search rules
 
-loop-less : tie.Need-loop-smaller invariant-loop decreases-loop
+loop-less : tie.Need-loop-i-smaller invariant-loop decreases-loop
 loop-less c = search rules
 
-loop-again : tie.Need-loop-preserved invariant-loop decreases-loop
+loop-again : tie.Need-loop-i-preserved invariant-loop decreases-loop
 loop-again c =
     let s = c.before.before.before.before in
-    let l = c.before.before.before.loop in (
+    let l = c.loop-i in (
       search rules,
       joins-more (λ j. get_or s.args.matrix.now (s.args.at + j) 0) s.args.w.now l.i l.w (omega (arith, s.requires.1)) l.invariant.1,
-      λ h. joins-small (λ j. get_or s.args.matrix.now (s.args.at + j) 0) s.args.w.now l.i l.w l.invariant.1 (λ j. (c.before.slice-known.given j).fits) l.invariant.2,
-      λ h j. (c.shared-slice-known.given j).fits,
+      λ h. joins-small (λ j. get_or s.args.matrix.now (s.args.at + j) 0) s.args.w.now l.i l.w l.invariant.1 (λ j. (c.slice_known-1.given j).fits) l.invariant.2,
+      λ h j. (c.shared_slice_known-1.given j).fits,
     )
 
-same_length : tie.Need-same-length invariant-loop decreases-loop
-same_length c = c.before.loop.invariant.1.0
+same_length : tie.Need-shape_of-w invariant-loop decreases-loop
+same_length c = c.loop-i.invariant.1.0
 
 returns : tie.Need-returns invariant-loop decreases-loop
 returns c =
     let s = c.before.before in
-    let l = c.before.loop in
+    let l = c.loop-i in
     let e : l.i ≡ set_size = omega arith in
     joins-all s.args.w.now s.args.matrix.now s.args.at l.w
     (l.invariant.2 (omega (arith, e))) s.requires.1 (l.invariant.3 (omega (arith, e))) s.requires.0 (rw e at l.invariant.1)
 
-pub join-cell-spec : {M : Type 1} → statement M
-join-cell-spec =
+pub join_cell_spec : {M : Type 1} → statement M
+join_cell_spec =
     tie.close (tie.spec invariant-loop decreases-loop loop-holds slice-read-w add-w shared-slice-read-w slice-write-w add-i loop-less loop-again same_length returns)

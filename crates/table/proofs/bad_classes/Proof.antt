@@ -5,7 +5,6 @@ use mathlib.Core.Bool.{◌||◌, not}
 use Prim.Native.Nat.{ℕ}
 use lib.ListN.{length}
 use lib.Dec.{eqb, ltb}
-use Rattle.numbers.specs.Number.{before}
 use Rattle.table.specs.Table.{byte_values, most_class, largest, bad_classes}
 use Rattle.table.proofs.bad_classes.Statement.{statement}
 use Rattle.table.proofs.bad_classes.Tie as tie
@@ -13,12 +12,12 @@ use Rattle.table.proofs.bad_classes.Tie as tie
 largest-requires : tie.Need-largest-requires
 largest-requires c κs = search rules
 
-cast-result : tie.Need-overflow-cast-result
+cast-result : tie.Need-overflow_cast-result
 cast-result c = search rules
 
 returns : tie.Need-returns
 unfolding bad_classes
-returns c = ap (λ (x : ℕ). not (eqb (length c.before.before.args.classes.now) byte_values) || ltb most_class x) c.largest.ensures
+returns c = ap (λ (x : ℕ). not (eqb (length c.args.classes.now) byte_values) || ltb most_class x) c.largest.ensures
 
-pub bad-classes-spec : {M : Type 1} → statement M
-bad-classes-spec = tie.close (tie.spec largest-requires cast-result returns)
+pub bad_classes_spec : {M : Type 1} → statement M
+bad_classes_spec = tie.close (tie.spec largest-requires cast-result returns)

@@ -5,15 +5,15 @@ use Rattle.table.specs.Table.{bad_count}
 use Rattle.table.proofs.bad_count.Statement.{statement}
 use Rattle.table.proofs.bad_count.Tie as tie
 
-mul-result : tie.Need-overflow-mul-result
+mul-result : tie.Need-overflow_mul-result
 mul-result c = search rules
 
-rem-result : tie.Need-nonzero-rem-result
+rem-result : tie.Need-nonzero_rem-result
 rem-result c = search rules
 
 returns : tie.Need-returns
 unfolding bad_count
 returns c = refl
 
-pub bad-count-spec : {M : Type 1} → statement M
-bad-count-spec = tie.close (tie.spec mul-result rem-result returns)
+pub bad_count_spec : {M : Type 1} → statement M
+bad_count_spec = tie.close (tie.spec mul-result rem-result returns)

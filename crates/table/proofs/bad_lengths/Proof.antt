@@ -3,61 +3,60 @@ use borrow.Author.Rules.{rules}
 use mathlib.Core.Path.{◌≡◌, sym, ◌∙◌}
 use mathlib.Core.Bool.{true, false}
 use native.Mathlib.Omega.{arith}
-use Rattle.numbers.specs.Number.{before}
 use Rattle.sets.specs.Set.{set_size}
 use Rattle.table.specs.Table.{split_size, most_parts, most_splits, bad_classes, bad_count, bad_lengths}
 use Rattle.table.proofs.Verdict.{count_fits}
 use Rattle.table.proofs.bad_lengths.Statement.{statement}
 use Rattle.table.proofs.bad_lengths.Tie as tie
 
-bad-classes-requires : tie.Need-bad-classes-requires
+bad-classes-requires : tie.Need-bad_classes-requires
 bad-classes-requires c κs = search rules
 
-returns : tie.Need-returns
+returns : tie.Need-returns-then-bad_classes
 unfolding bad_lengths
 returns c =
-    let e1 : bad_classes c.before.before.before.before.before.before.args.classes.now ≡ true = sym c.before.bad-classes.ensures ∙ c.if1.true in
+    let e1 : bad_classes c.args.classes.now ≡ true = sym c.bad_classes.ensures ∙ c.if-bad_classes.true in
     rw e1
 
-bad-count-requires : tie.Need-bad-count-requires
+bad-count-requires : tie.Need-bad_count-requires
 bad-count-requires c κs = search rules
 
-returns-2 : tie.Need-returns-2
+returns-2 : tie.Need-returns-then-bad_count
 unfolding bad_lengths
 returns-2 c =
-    let a = c.before.before.before.before.before.before.before.before.args in
-    let e1 : bad_classes a.classes.now ≡ false = sym c.before.before.before.bad-classes.ensures ∙ c.before.before.if1.false in
-    let e2 : bad_count set_size most_parts a.parts.now ≡ true = sym c.before.bad-count.ensures ∙ c.if2.true in
+    let a = c.args in
+    let e1 : bad_classes a.classes.now ≡ false = sym c.bad_classes.ensures ∙ c.if-bad_classes.false in
+    let e2 : bad_count set_size most_parts a.parts.now ≡ true = sym c.bad_count.ensures ∙ c.if-bad_count.true in
     rw (e1, e2)
 
-bad-count-requires-2 : tie.Need-bad-count-requires-2
+bad-count-requires-2 : tie.Need-bad_count-requires-2
 bad-count-requires-2 c κs = search rules
 
-returns-3 : tie.Need-returns-3
+returns-3 : tie.Need-returns-then-bad_count-2
 unfolding bad_lengths
 returns-3 c =
-    let a = c.before.before.before.before.before.before.before.before.before.before.args in
-    let e1 : bad_classes a.classes.now ≡ false = sym c.before.before.before.before.before.bad-classes.ensures ∙ c.before.before.before.before.if1.false in
-    let e2 : bad_count set_size most_parts a.parts.now ≡ false = sym c.before.before.before.bad-count.ensures ∙ c.before.before.if2.false in
-    let e3 : bad_count split_size most_splits a.splits.now ≡ true = sym c.before.bad-count2.ensures ∙ c.if3.true in
+    let a = c.args in
+    let e1 : bad_classes a.classes.now ≡ false = sym c.bad_classes.ensures ∙ c.if-bad_classes.false in
+    let e2 : bad_count set_size most_parts a.parts.now ≡ false = sym c.bad_count.ensures ∙ c.if-bad_count.false in
+    let e3 : bad_count split_size most_splits a.splits.now ≡ true = sym c.bad_count-2.ensures ∙ c.if-bad_count-2.true in
     rw (e1, e2, e3)
 
-bad-rows-length-requires : tie.Need-bad-rows-length-requires
+bad-rows-length-requires : tie.Need-bad_rows_length-requires
 bad-rows-length-requires c κs =
-    let P = c.before.before.before.before.before.before.before.before.before.before.args.parts.now in
-    omega (arith, count_fits set_size most_parts P (sym c.before.before.before.bad-count.ensures ∙ c.before.before.if2.false))
+    let P = c.args.parts.now in
+    omega (arith, count_fits set_size most_parts P (sym c.bad_count.ensures ∙ c.if-bad_count.false))
 
-returns-4 : tie.Need-returns-4
+returns-4 : tie.Need-returns
 unfolding bad_lengths
 returns-4 c =
-    let a = c.before.before.before.before.before.before.before.before.before.before.before.args in
-    let e1 : bad_classes a.classes.now ≡ false = sym c.before.before.before.before.before.before.bad-classes.ensures ∙ c.before.before.before.before.before.if1.false in
-    let e2 : bad_count set_size most_parts a.parts.now ≡ false = sym c.before.before.before.before.bad-count.ensures ∙ c.before.before.before.if2.false in
-    let e3 : bad_count split_size most_splits a.splits.now ≡ false = sym c.before.before.bad-count2.ensures ∙ c.before.if3.false in
-    rw (e1, e2, e3) c.bad-rows-length.ensures
+    let a = c.args in
+    let e1 : bad_classes a.classes.now ≡ false = sym c.bad_classes.ensures ∙ c.if-bad_classes.false in
+    let e2 : bad_count set_size most_parts a.parts.now ≡ false = sym c.bad_count.ensures ∙ c.if-bad_count.false in
+    let e3 : bad_count split_size most_splits a.splits.now ≡ false = sym c.bad_count-2.ensures ∙ c.if-bad_count-2.false in
+    rw (e1, e2, e3) c.bad_rows_length.ensures
 
-pub bad-lengths-spec : {M : Type 1} → statement M
-bad-lengths-spec =
+pub bad_lengths_spec : {M : Type 1} → statement M
+bad_lengths_spec =
     tie.close
     (tie.spec
     bad-classes-requires

@@ -14,66 +14,66 @@ use Rattle.table.proofs.Turns.{every-none, every_more, every-stops}
 use Rattle.table.proofs.ordered.Statement.{statement}
 use Rattle.table.proofs.ordered.Tie as tie
 
-abbrev invariant-loop : tie.invariant-loop
+abbrev invariant-loop : tie.invariant-loop-i
 invariant-loop splits n i₀ i = (0 < i) × (every i (in_order splits) ≡ true)
 
-abbrev decreases-loop : tie.decreases-loop
+abbrev decreases-loop : tie.decreases-loop-i
 decreases-loop splits n i₀ i = n - i
 
 -- the way back from the loop's head to the entry
-abbrev entry : tie.At-loop invariant-loop decreases-loop → tie.Start invariant-loop decreases-loop
+abbrev entry : tie.At-loop-i invariant-loop decreases-loop → tie.Start invariant-loop decreases-loop
 entry c = c.before.before.before
 
 -- what the test says
-said : (c : tie.After-before-whole invariant-loop decreases-loop)
-    → c.before-whole.result ≡ in_order (entry c.before.before).args.splits.now c.before.before.loop.i
+said : (c : tie.After-before_whole invariant-loop decreases-loop)
+    → c.before_whole.result ≡ in_order (entry c.before.before).args.splits.now c.loop-i.i
 unfolding split_set
 said c =
     let h = c.before.before in
-    c.before-whole.ensures
-    ∙ in-order-at (entry h).args.splits.now h.loop.i (λ i. (h.before.before.shared-slice-known.given i).fits) (λ e. omega (arith, e, h.loop.invariant.0)) (omega arith)
+    c.before_whole.ensures
+    ∙ in-order-at (entry h).args.splits.now h.loop-i.i (λ i. (h.shared_slice_known-1.given i).fits) (λ e. omega (arith, e, h.loop-i.invariant.0)) (omega arith)
 
-split-count-requires : tie.Need-split-count-requires invariant-loop decreases-loop
+split-count-requires : tie.Need-split_count-n-requires invariant-loop decreases-loop
 split-count-requires c κs = search rules
 
-loop-holds : tie.Need-loop-init invariant-loop decreases-loop
-loop-holds c = (omega arith, every_more (in_order c.before.before.args.splits.now) 0 (every-none _) (in-order-first c.before.before.args.splits.now))
+loop-holds : tie.Need-loop-i-init invariant-loop decreases-loop
+loop-holds c = (omega arith, every_more (in_order c.args.splits.now) 0 (every-none _) (in-order-first c.args.splits.now))
 
-sub-last : tie.Need-overflow-sub-last invariant-loop decreases-loop
+sub-last : tie.Need-overflow_sub-last invariant-loop decreases-loop
 sub-last c = search rules
 
-mul-before-whole : tie.Need-overflow-mul-before-whole invariant-loop decreases-loop
+mul-before-whole : tie.Need-overflow_mul-last invariant-loop decreases-loop
 mul-before-whole c = search rules
 
-mul-before-whole-2 : tie.Need-overflow-mul-before-whole-2 invariant-loop decreases-loop
+mul-before-whole-2 : tie.Need-overflow_mul-i invariant-loop decreases-loop
 mul-before-whole-2 c = search rules
 
-before-whole-requires : tie.Need-before-whole-requires invariant-loop decreases-loop
+before-whole-requires : tie.Need-before_whole-requires invariant-loop decreases-loop
 before-whole-requires c κs = search rules
 
-returns : tie.Need-returns invariant-loop decreases-loop
+returns : tie.Need-returns-then-not-before_whole invariant-loop decreases-loop
 returns c =
     let h = c.before.before.before in
-    every-stops (split_count (entry h).args.splits.now) _ h.loop.i (omega arith) (sym (said c.before) ∙ not-true _ c.if1.true)
+    every-stops (split_count (entry h).args.splits.now) _ h.loop-i.i (omega arith) (sym (said c.before) ∙ not-true _ c.if-not-before_whole.true-raw)
 
-add-i : tie.Need-overflow-add-i invariant-loop decreases-loop
+add-i : tie.Need-overflow_step-i invariant-loop decreases-loop
 add-i c = search rules
 
-loop-less : tie.Need-loop-smaller invariant-loop decreases-loop
+loop-less : tie.Need-loop-i-smaller invariant-loop decreases-loop
 loop-less c = search rules
 
-loop-again : tie.Need-loop-preserved invariant-loop decreases-loop
+loop-again : tie.Need-loop-i-preserved invariant-loop decreases-loop
 loop-again c =
-    let h = c.before.before.before in
-    (omega arith, every_more _ h.loop.i h.loop.invariant.1 (sym (said c.before) ∙ not-false _ c.if1.false))
+    let h = c in
+    (omega arith, every_more _ h.loop-i.i h.loop-i.invariant.1 (sym (said c.before) ∙ not-false _ c.if-not-before_whole.false-raw))
 
-returns-2 : tie.Need-returns-2 invariant-loop decreases-loop
+returns-2 : tie.Need-returns invariant-loop decreases-loop
 returns-2 c =
     let S = (entry c.before).args.splits.now in
-    sym (every-all (split_count S) (in_order S) (λ j l. every-at c.before.loop.i (in_order S) c.before.loop.invariant.1 j (omega arith)))
+    sym (every-all (split_count S) (in_order S) (λ j l. every-at c.loop-i.i (in_order S) c.loop-i.invariant.1 j (omega arith)))
 
-pub ordered-spec : {M : Type 1} → statement M
-ordered-spec =
+pub ordered_spec : {M : Type 1} → statement M
+ordered_spec =
     tie.close
     (tie.spec
     invariant-loop

@@ -6,5 +6,5 @@ use Rattle.table.proofs.part_count.Tie as tie
 returns : tie.Need-returns
 returns c = refl
 
-pub part-count-spec : {M : Type 1} → statement M
-part-count-spec = tie.close (tie.spec returns)
+pub part_count_spec : {M : Type 1} → statement M
+part_count_spec = tie.close (tie.spec returns)

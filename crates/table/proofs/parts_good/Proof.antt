@@ -19,62 +19,62 @@ use Rattle.table.proofs.parts_good.Tie as tie
 abbrev right : List ℕ → List ℕ → List ℕ → ℕ → ℕ → Bool
 right list classes rows p F = every byte_values (λ d. eqb (row classes rows p d) (step list F d))
 
-abbrev invariant-loop : tie.invariant-loop
+abbrev invariant-loop : tie.invariant-loop-p
 invariant-loop list classes parts rows alikes k n p₀ p = (p ≤ n) × (every p (λ q. right list classes rows q (part parts q)) ≡ true)
 
-abbrev decreases-loop : tie.decreases-loop
+abbrev decreases-loop : tie.decreases-loop-p
 decreases-loop list classes parts rows alikes k n p₀ p = n - p
 
 -- the way back from the loop's head to the entry
-abbrev entry : tie.At-loop invariant-loop decreases-loop → tie.Start invariant-loop decreases-loop
+abbrev entry : tie.At-loop-p invariant-loop decreases-loop → tie.Start invariant-loop decreases-loop
 entry c = c.before.before.before.before.before.before.before
 
 -- what the test says
-said : (c : tie.After-rows-at invariant-loop decreases-loop)
+said : (c : tie.After-rows_at invariant-loop decreases-loop)
     → let h = c.before.before.before in
     let a = (entry h).args in
-    c.rows_at.result ≡ right a.list.now a.classes.now a.rows.now h.loop.p (part a.parts.now h.loop.p)
+    c.rows_at.result ≡ right a.list.now a.classes.now a.rows.now h.loop-p.p (part a.parts.now h.loop-p.p)
 said c =
     let h = c.before.before.before in
     let a = (entry h).args in
-    c.rows_at.ensures ∙ ap (right a.list.now a.classes.now a.rows.now h.loop.p) c.before.part-set.ensures
+    c.rows_at.ensures ∙ ap (right a.list.now a.classes.now a.rows.now h.loop-p.p) c.part_set.ensures
 
-part-count-requires : tie.Need-part-count-requires invariant-loop decreases-loop
+part-count-requires : tie.Need-part_count-n-requires invariant-loop decreases-loop
 part-count-requires c κs = search rules
 
-loop-holds : tie.Need-loop-init invariant-loop decreases-loop
+loop-holds : tie.Need-loop-p-init invariant-loop decreases-loop
 loop-holds c = (search rules, every-none _)
 
-part-set-requires : tie.Need-part-set-requires invariant-loop decreases-loop
+part-set-requires : tie.Need-part_set-requires invariant-loop decreases-loop
 part-set-requires c κs = search rules
 
-rows-at-requires : tie.Need-rows-at-requires invariant-loop decreases-loop
+rows-at-requires : tie.Need-rows_at-requires invariant-loop decreases-loop
 rows-at-requires c κs =
     let h = c.before.before in
     let s = entry h in
-    (s.pre.0, omega (arith, h.before.part-count.ensures, s.pre.1), s.pre.2)
+    (s.requires.0, omega (arith, h.part_count-n.ensures, s.requires.1), s.requires.2)
 
-returns : tie.Need-returns invariant-loop decreases-loop
+returns : tie.Need-returns-then-not-rows_at invariant-loop decreases-loop
 returns c =
     let h = c.before.before.before.before in
-    every-stops (part_count (entry h).args.parts.now) _ h.loop.p (omega arith) (sym (said c.before) ∙ not-true _ c.if1.true)
+    every-stops (part_count (entry h).args.parts.now) _ h.loop-p.p (omega arith) (sym (said c.before) ∙ not-true _ c.if-not-rows_at.true-raw)
 
-add-p : tie.Need-overflow-add-p invariant-loop decreases-loop
+add-p : tie.Need-overflow_step-p invariant-loop decreases-loop
 add-p c = search rules
 
-loop-less : tie.Need-loop-smaller invariant-loop decreases-loop
+loop-less : tie.Need-loop-p-smaller invariant-loop decreases-loop
 loop-less c = search rules
 
-loop-again : tie.Need-loop-preserved invariant-loop decreases-loop
+loop-again : tie.Need-loop-p-preserved invariant-loop decreases-loop
 loop-again c =
-    let l = c.before.before.before.before.loop in
-    (search rules, every_more _ l.p l.invariant.1 (sym (said c.before) ∙ not-false _ c.if1.false))
+    let l = c.loop-p in
+    (search rules, every_more _ l.p l.invariant.1 (sym (said c.before) ∙ not-false _ c.if-not-rows_at.false-raw))
 
-returns-2 : tie.Need-returns-2 invariant-loop decreases-loop
-returns-2 c = every-ends (part_count (entry c.before).args.parts.now) _ c.before.loop.p (omega arith) c.before.loop.invariant.1
+returns-2 : tie.Need-returns invariant-loop decreases-loop
+returns-2 c = every-ends (part_count (entry c.before).args.parts.now) _ c.loop-p.p (omega arith) c.loop-p.invariant.1
 
-pub parts-good-spec : {M : Type 1} → statement M
-parts-good-spec =
+pub parts_good_spec : {M : Type 1} → statement M
+parts_good_spec =
     tie.close
     (tie.spec
     invariant-loop

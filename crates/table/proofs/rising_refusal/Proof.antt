@@ -11,28 +11,28 @@ use Rattle.table.proofs.rising_refusal.Tie as tie
 abbrev table : tie.Start → Table
 table s = record { classes = s.args.classes.now; parts = s.args.parts.now; rows = s.args.rows.now; splits = s.args.splits.now }
 
-size-refusal-requires : tie.Need-size-refusal-requires
+size-refusal-requires : tie.Need-size_refusal-sized-requires
 size-refusal-requires c κs = search rules
 
-returns : tie.Need-returns
+returns : tie.Need-returns-then-sized-ne-PASSED
 returns c =
     let s = c.before.before.before.before.before.before in
-    size-refuses s.args.bound (table s) _ c.before.size-refusal.ensures c.if1.true
+    size-refuses s.args.bound (table s) _ c.size_refusal-sized.ensures c.if-sized-ne-PASSED.true
 
 ordered-requires : tie.Need-ordered-requires
 ordered-requires c κs = search rules
 
-returns-2 : tie.Need-returns-2
+returns-2 : tie.Need-returns-then-not-ordered
 returns-2 c =
     let e = c.before.before in
     let s = e.before.before.before.before.before.before in
-    unordered-refuses s.args.bound (table s) (sym e.before.size-refusal.ensures ∙ e.if1.false) (sym c.before.ordered.ensures ∙ not-true _ c.if2.true)
+    unordered-refuses s.args.bound (table s) (sym e.size_refusal-sized.ensures ∙ e.if-sized-ne-PASSED.false) (sym c.ordered.ensures ∙ not-true _ c.if-not-ordered.true-raw)
 
-returns-3 : tie.Need-returns-3
+returns-3 : tie.Need-returns
 returns-3 c =
     let e = c.before.before in
     let s = e.before.before.before.before.before.before in
-    ordered-passes s.args.bound (table s) (sym e.before.size-refusal.ensures ∙ e.if1.false) (sym c.before.ordered.ensures ∙ not-false _ c.if2.false)
+    ordered-passes s.args.bound (table s) (sym e.size_refusal-sized.ensures ∙ e.if-sized-ne-PASSED.false) (sym c.ordered.ensures ∙ not-false _ c.if-not-ordered.false-raw)
 
-pub rising-refusal-spec : {M : Type 1} → statement M
-rising-refusal-spec = tie.close (tie.spec size-refusal-requires returns ordered-requires returns-2 returns-3)
+pub rising_refusal_spec : {M : Type 1} → statement M
+rising_refusal_spec = tie.close (tie.spec size-refusal-requires returns ordered-requires returns-2 returns-3)

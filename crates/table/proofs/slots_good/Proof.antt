@@ -16,46 +16,46 @@ use Rattle.table.proofs.slots_good.Tie as tie
 abbrev good : List ℕ → ℕ → ℕ → ℕ → Bool
 good splits n bound i = good_slots n bound (slots splits i)
 
-abbrev invariant-loop : tie.invariant-loop
+abbrev invariant-loop : tie.invariant-loop-i
 invariant-loop splits n bound m i₀ i = (i ≤ m) × (every i (good splits n bound) ≡ true)
 
-abbrev decreases-loop : tie.decreases-loop
+abbrev decreases-loop : tie.decreases-loop-i
 decreases-loop splits n bound m i₀ i = m - i
 
 -- the way back from the loop's head to the entry
-abbrev entry : tie.At-loop invariant-loop decreases-loop → tie.Start invariant-loop decreases-loop
+abbrev entry : tie.At-loop-i invariant-loop decreases-loop → tie.Start invariant-loop decreases-loop
 entry c = c.before.before.before
 
-split-count-requires : tie.Need-split-count-requires invariant-loop decreases-loop
+split-count-requires : tie.Need-split_count-m-requires invariant-loop decreases-loop
 split-count-requires c κs = search rules
 
-loop-holds : tie.Need-loop-init invariant-loop decreases-loop
+loop-holds : tie.Need-loop-i-init invariant-loop decreases-loop
 loop-holds c = (search rules, every-none _)
 
-good-slots-requires : tie.Need-good-slots-requires invariant-loop decreases-loop
+good-slots-requires : tie.Need-good_slots-requires invariant-loop decreases-loop
 good-slots-requires c κs = search rules
 
-returns : tie.Need-returns invariant-loop decreases-loop
+returns : tie.Need-returns-then-not-good_slots invariant-loop decreases-loop
 returns c =
     let h = c.before.before.before in
-    every-stops (split_count (entry h).args.splits.now) _ h.loop.i (omega arith) (sym c.before.good-slots.ensures ∙ not-true _ c.if1.true)
+    every-stops (split_count (entry h).args.splits.now) _ h.loop-i.i (omega arith) (sym c.good_slots.ensures ∙ not-true _ c.if-not-good_slots.true-raw)
 
-add-i : tie.Need-overflow-add-i invariant-loop decreases-loop
+add-i : tie.Need-overflow_step-i invariant-loop decreases-loop
 add-i c = search rules
 
-loop-less : tie.Need-loop-smaller invariant-loop decreases-loop
+loop-less : tie.Need-loop-i-smaller invariant-loop decreases-loop
 loop-less c = search rules
 
-loop-again : tie.Need-loop-preserved invariant-loop decreases-loop
+loop-again : tie.Need-loop-i-preserved invariant-loop decreases-loop
 loop-again c =
-    let l = c.before.before.before.loop in
-    (search rules, every_more _ l.i l.invariant.1 (sym c.before.good-slots.ensures ∙ not-false _ c.if1.false))
+    let l = c.loop-i in
+    (search rules, every_more _ l.i l.invariant.1 (sym c.good_slots.ensures ∙ not-false _ c.if-not-good_slots.false-raw))
 
-returns-2 : tie.Need-returns-2 invariant-loop decreases-loop
-returns-2 c = every-ends (split_count (entry c.before).args.splits.now) _ c.before.loop.i (omega arith) c.before.loop.invariant.1
+returns-2 : tie.Need-returns invariant-loop decreases-loop
+returns-2 c = every-ends (split_count (entry c.before).args.splits.now) _ c.loop-i.i (omega arith) c.loop-i.invariant.1
 
-pub slots-good-spec : {M : Type 1} → statement M
-slots-good-spec =
+pub slots_good_spec : {M : Type 1} → statement M
+slots_good_spec =
     tie.close
     (tie.spec
     invariant-loop

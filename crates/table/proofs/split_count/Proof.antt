@@ -6,5 +6,5 @@ use Rattle.table.proofs.split_count.Tie as tie
 returns : tie.Need-returns
 returns c = refl
 
-pub split-count-spec : {M : Type 1} → statement M
-split-count-spec = tie.close (tie.spec returns)
+pub split_count_spec : {M : Type 1} → statement M
+split_count_spec = tie.close (tie.spec returns)

@@ -20,18 +20,18 @@ said S n bound t e =
 ordered-requires : tie.Need-ordered-requires
 ordered-requires c κs = search rules
 
-slots-good-requires : tie.Need-slots-good-requires
+slots-good-requires : tie.Need-slots_good-requires
 slots-good-requires c κs = search rules
 
-returns : tie.Need-returns
+returns : tie.Need-returns-then-ordered
 returns c =
-    let a = c.before.before.before.before.args in
-    c.slots-good.ensures ∙ said a.splits.now a.n a.bound _ (sym c.before.if1.true ∙ c.before.before.ordered.ensures)
+    let a = c.args in
+    c.slots_good.ensures ∙ said a.splits.now a.n a.bound _ (sym c.if-ordered.true ∙ c.ordered.ensures)
 
-returns-2 : tie.Need-returns-2
+returns-2 : tie.Need-returns-else-ordered
 returns-2 c =
-    let a = c.before.before.before.args in
-    said a.splits.now a.n a.bound _ (sym c.if1.false ∙ c.before.ordered.ensures)
+    let a = c.args in
+    said a.splits.now a.n a.bound _ (sym c.if-ordered.false ∙ c.ordered.ensures)
 
-pub splits-good-spec : {M : Type 1} → statement M
-splits-good-spec = tie.close (tie.spec ordered-requires slots-good-requires returns returns-2)
+pub splits_good_spec : {M : Type 1} → statement M
+splits_good_spec = tie.close (tie.spec ordered-requires slots-good-requires returns returns-2)

@@ -2,7 +2,6 @@
 use borrow.Author.Rules.{rules}
 use Prim.Native.Nat.{◌-◌, ◌≤◌}
 use native.Mathlib.Omega.{arith}
-use Rattle.numbers.specs.Number.{before}
 use Rattle.sets.specs.Set.{set_words, set_of}
 use Rattle.sets.proofs.Sets.{empty-words}
 use Rattle.table.specs.Table.{part, slots}
@@ -11,41 +10,41 @@ use Rattle.table.proofs.Slots.{Joining, joining-start, joining-more, joining-end
 use Rattle.table.proofs.union_of.Statement.{statement}
 use Rattle.table.proofs.union_of.Tie as tie
 
-abbrev invariant-loop : tie.invariant-loop
+abbrev invariant-loop : tie.invariant-loop-j
 invariant-loop parts splits i all₀ j₀ all j = (j ≤ 4) × Joining (part parts) (slots splits i) (set_of all) j
 
-abbrev decreases-loop : tie.decreases-loop
+abbrev decreases-loop : tie.decreases-loop-j
 decreases-loop parts splits i all₀ j₀ all j = 4 - j
 
-loop-holds : tie.Need-loop-init invariant-loop decreases-loop
+loop-holds : tie.Need-loop-j-init invariant-loop decreases-loop
 loop-holds c = (search rules, joining-start _ _ _ (empty-words set_words))
 
 slot-requires : tie.Need-slot-requires invariant-loop decreases-loop
 slot-requires c κs = search rules
 
-add-part-requires : tie.Need-add-part-requires invariant-loop decreases-loop
+add-part-requires : tie.Need-add_part-all-requires invariant-loop decreases-loop
 add-part-requires c κs = search rules
 
-add-j : tie.Need-overflow-add-j invariant-loop decreases-loop
+add-j : tie.Need-overflow_step-j invariant-loop decreases-loop
 add-j c = search rules
 
-loop-less : tie.Need-loop-smaller invariant-loop decreases-loop
+loop-less : tie.Need-loop-j-smaller invariant-loop decreases-loop
 loop-less c = search rules
 
-loop-again : tie.Need-loop-preserved invariant-loop decreases-loop
+loop-again : tie.Need-loop-j-preserved invariant-loop decreases-loop
 loop-again c =
-    let a = c.before.before.before.before.before.before.args in
-    let l = c.before.before.before.loop in
-    (search rules, joining-more _ _ _ l.j c.before.slot.result _ l.invariant.1 (slots-cons a.splits.now a.i l.j c.before.slot.result (omega arith) c.before.slot.ensures) c.add-part.ensures)
+    let a = c.args in
+    let l = c.loop-j in
+    (search rules, joining-more _ _ _ l.j c.slot.result _ l.invariant.1 (slots-cons a.splits.now a.i l.j c.slot.result (omega arith) c.slot.ensures) c.add_part-all.ensures)
 
 returns : tie.Need-returns invariant-loop decreases-loop
 returns c =
-    let a = c.before.before.before.before.args in
-    let l = c.before.loop in
+    let a = c.args in
+    let l = c.loop-j in
     joining-end _ _ _ l.j l.invariant.1 (slots_end a.splits.now a.i l.j (omega arith))
 
-pub union-of-spec : {M : Type 1} → statement M
-union-of-spec =
+pub union_of_spec : {M : Type 1} → statement M
+union_of_spec =
     tie.close
     (tie.spec
     invariant-loop

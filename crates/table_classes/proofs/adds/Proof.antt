@@ -8,8 +8,8 @@ use Rattle.table_classes.proofs.adds.Statement.{statement}
 use Rattle.table_classes.proofs.adds.Tie as tie
 
 -- what the first test says
-held : (c : tie.After-has) → let a = c.before.before.before.args in c.has.result ≡ holds (set_of a.f) (from a.list.now a.i)
-held c = c.has.ensures ∙ ap (holds (set_of c.before.before.before.args.f)) c.before.from.ensures
+held : (c : tie.After-has) → let a = c.args in c.has.result ≡ holds (set_of a.f) (from a.list.now a.i)
+held c = c.has.ensures ∙ ap (holds (set_of c.args.f)) c.from.ensures
 
 from-requires : tie.Need-from-requires
 from-requires c κs = search rules
@@ -20,16 +20,16 @@ has-requires c κs = search rules
 target-requires : tie.Need-target-requires
 target-requires c κs = search rules
 
-has-requires-2 : tie.Need-has-requires-2
+has-requires-2 : tie.Need-has-requires-then-has
 has-requires-2 c κs = search rules
 
-returns : tie.Need-returns
+returns : tie.Need-returns-then-has
 returns c =
     let h = c.before.before.before in
-    rw (sym (held h) ∙ c.before.before.if1.true) (ap not (c.has2.ensures ∙ ap (holds (set_of h.before.before.before.args.base)) c.before.target.ensures))
+    rw (sym (held h) ∙ c.if-has.true) (ap not (c.has-then-has.ensures ∙ ap (holds (set_of h.args.base)) c.target.ensures))
 
-returns-2 : tie.Need-returns-2
-returns-2 c = rw (sym (held c.before) ∙ c.if1.false) refl
+returns-2 : tie.Need-returns-else-has
+returns-2 c = rw (sym (held c.before) ∙ c.if-has.false) refl
 
-pub adds-spec : {M : Type 1} → statement M
-adds-spec = tie.close (tie.spec from-requires has-requires target-requires has-requires-2 returns returns-2)
+pub adds_spec : {M : Type 1} → statement M
+adds_spec = tie.close (tie.spec from-requires has-requires target-requires has-requires-2 returns returns-2)

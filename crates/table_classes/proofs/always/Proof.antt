@@ -14,46 +14,46 @@ use Rattle.table_classes.proofs.Records.{always-more}
 use Rattle.table_classes.proofs.always.Statement.{statement}
 use Rattle.table_classes.proofs.always.Tie as tie
 
-abbrev invariant-loop : tie.invariant-loop
+abbrev invariant-loop : tie.invariant-loop-i
 invariant-loop l f base₀ i₀ i-end base i = (i ≤ i-end) × (set_of base < 2 ^ states) × ((c : ℕ) → c < byte_values → join (set_of base) (step l (set_of f) c) ≡ step l (set_of f) c)
 
-abbrev decreases-loop : tie.decreases-loop
+abbrev decreases-loop : tie.decreases-loop-i
 decreases-loop l f base₀ i₀ i-end base i = i-end - i
 
-loop-holds : tie.Need-loop-init invariant-loop decreases-loop
+loop-holds : tie.Need-loop-i-init invariant-loop decreases-loop
 loop-holds c = (omega arith, rw (empty-words set_words) (pow_pos states), λ d h. rw (empty-words set_words) (join-empty _))
 
-takes-all-requires : tie.Need-takes-all-requires invariant-loop decreases-loop
+takes-all-requires : tie.Need-takes_all-requires invariant-loop decreases-loop
 takes-all-requires c κs = omega arith
 
 target-requires : tie.Need-target-requires invariant-loop decreases-loop
 target-requires c κs = omega arith
 
-with-requires : tie.Need-with-requires invariant-loop decreases-loop
+with-requires : tie.Need-with-base-requires invariant-loop decreases-loop
 with-requires c κs = search rules
 
-add-i : tie.Need-overflow-add-i invariant-loop decreases-loop
+add-i : tie.Need-overflow_step-i invariant-loop decreases-loop
 add-i c = omega arith
 
-loop-less : tie.Need-loop-smaller invariant-loop decreases-loop
+loop-less : tie.Need-loop-i-smaller invariant-loop decreases-loop
 loop-less c = omega arith
 
-loop-again : tie.Need-loop-preserved invariant-loop decreases-loop
+loop-again : tie.Need-loop-i-preserved invariant-loop decreases-loop
 loop-again c =
-    let h = c.before.before.before in
-    let a = h.before.before.args in
-    let l = h.loop in
+    let h = c in
+    let a = h.args in
+    let l = h.loop-i in
     let k : l.i < records a.list.now = omega arith in
-    choose c.if1.branch
+    choose c.if-takes_all.branch-raw
     (λ w. (
       omega arith,
-      rw (w.3, w.2.ensures) (insert-lt states _ _ l.invariant.1),
-      λ d m. rw (w.3, w.2.ensures, w.1.ensures) (always-more a.list.now (set_of a.f) (set_of l.base) l.i k (sym c.before.takes_all.ensures ∙ w.0.taken) d m (l.invariant.2 d m)),
+      rw (w.base-is, w.with-base.ensures) (insert-lt states _ _ l.invariant.1),
+      λ d m. rw (w.base-is, w.with-base.ensures, w.target.ensures) (always-more a.list.now (set_of a.f) (set_of l.base) l.i k (sym c.takes_all.ensures ∙ w.if-takes_all.true) d m (l.invariant.2 d m)),
     ))
-    (λ w. (omega arith, rw w.1 l.invariant.1, λ d m. rw w.1 (l.invariant.2 d m)))
+    (λ w. (omega arith, rw w.base-is l.invariant.1, λ d m. rw w.base-is (l.invariant.2 d m)))
 
 returns : tie.Need-returns invariant-loop decreases-loop
-returns c = (c.before.loop.invariant.1, c.before.loop.invariant.2)
+returns c = (c.loop-i.invariant.1, c.loop-i.invariant.2)
 
-pub always-spec : {M : Type 1} → statement M
-always-spec = tie.close (tie.spec invariant-loop decreases-loop loop-holds takes-all-requires target-requires with-requires add-i loop-less loop-again returns)
+pub always_spec : {M : Type 1} → statement M
+always_spec = tie.close (tie.spec invariant-loop decreases-loop loop-holds takes-all-requires target-requires with-requires add-i loop-less loop-again returns)

@@ -8,29 +8,29 @@ use Rattle.table_classes.proofs.end_byte.Statement.{statement}
 use Rattle.table_classes.proofs.end_byte.Tie as tie
 
 -- case counts
-cased : (c : tie.Else1) → byte_of c.before.before.before.args.list.now 0 3 ≡ 1 → ⊥
-cased c e = c.if1.false (c.before.byte-of.ensures ∙ e)
+cased : (c : tie.Else-byte_of-eq1) → byte_of c.args.list.now 0 3 ≡ 1 → ⊥
+cased c e = c.if-byte_of-eq1.false (c.byte_of.ensures ∙ e)
 
-byte-of-requires : tie.Need-byte-of-requires
-byte-of-requires c κs = (omega (arith, c.before.requires), omega arith)
+byte-of-requires : tie.Need-byte_of-requires
+byte-of-requires c κs = (omega (arith, c.requires), omega arith)
 
-returns : tie.Need-returns
+returns : tie.Need-returns-then-byte_of-eq1
 returns c = (omega arith, λ d h l. absurd (omega arith))
 
-byte-of-requires-2 : tie.Need-byte-of-requires-2
-byte-of-requires-2 c κs = (omega (arith, c.before.before.before.requires), omega arith)
+byte-of-requires-2 : tie.Need-byte_of-requires-2
+byte-of-requires-2 c κs = (omega (arith, c.requires), omega arith)
 
-cast-result : tie.Need-overflow-cast-result
-cast-result c = omega (arith, c.byte-of2.ensures, c.before.before.before.shared-slice-known.given 2)
+cast-result : tie.Need-overflow_cast-result
+cast-result c = omega (arith, c.byte_of-2.ensures, c.shared_slice_known-1.given 2)
 
-add-result : tie.Need-overflow-add-result
-add-result c = omega (arith, c.byte-of2.ensures, c.before.before.before.shared-slice-known.given 2)
+add-result : tie.Need-overflow_add-result
+add-result c = omega (arith, c.byte_of-2.ensures, c.shared_slice_known-1.given 2)
 
-returns-2 : tie.Need-returns-2
+returns-2 : tie.Need-returns
 returns-2 c =
-    let b = c.byte-of2.ensures in
-    let g = c.before.before.before.shared-slice-known.given 2 in
-    (omega (arith, b, g), λ d h l. not_taken c.before.before.before.before.args.list.now d (cased c.before) (inr (omega (arith, h, b))))
+    let b = c.byte_of-2.ensures in
+    let g = c.shared_slice_known-1.given 2 in
+    (omega (arith, b, g), λ d h l. not_taken c.args.list.now d (cased c.before) (inr (omega (arith, h, b))))
 
-pub end-byte-spec : {M : Type 1} → statement M
-end-byte-spec = tie.close (tie.spec byte-of-requires returns byte-of-requires-2 cast-result add-result returns-2)
+pub end_byte_spec : {M : Type 1} → statement M
+end_byte_spec = tie.close (tie.spec byte-of-requires returns byte-of-requires-2 cast-result add-result returns-2)

@@ -6,19 +6,19 @@ use Rattle.table.specs.Table.{part}
 use Rattle.table_classes.proofs.is_like.Statement.{statement}
 use Rattle.table_classes.proofs.is_like.Tie as tie
 
-shared-slice-read-if1 : tie.Need-shared-slice-read-if1
+shared-slice-read-if1 : tie.Need-bounds-classes-d
 shared-slice-read-if1 c = search rules
 
-is-set-requires : tie.Need-is-set-requires
+is-set-requires : tie.Need-is_set-requires
 is-set-requires c κs = search rules
 
-returns : tie.Need-returns
+returns : tie.Need-returns-then-classes-d
 unfolding part
-returns c = rw (eq-eqb _ _ c.before.if1.true) c.is_set.ensures
+returns c = rw (eq-eqb _ _ c.if-classes-d.true) c.is_set.ensures
 
-returns-2 : tie.Need-returns-2
-returns-2 c = rw (ne_eqb _ _ c.if1.false) refl
+returns-2 : tie.Need-returns-else-classes-d
+returns-2 c = rw (ne_eqb _ _ c.if-classes-d.false) refl
 
-pub is-like-spec : {M : Type 1} → statement M
-is-like-spec =
+pub is_like_spec : {M : Type 1} → statement M
+is_like_spec =
     tie.close (tie.spec shared-slice-read-if1 is-set-requires returns returns-2)

@@ -8,10 +8,10 @@ use Rattle.table.specs.Table.{part}
 use Rattle.table_classes.proofs.is_set.Statement.{statement}
 use Rattle.table_classes.proofs.is_set.Tie as tie
 
-mul-from-bytes : tie.Need-overflow-mul-from-bytes
+mul-from-bytes : tie.Need-overflow_mul-i
 mul-from-bytes c = search rules
 
-from-bytes-requires : tie.Need-from-bytes-requires
+from-bytes-requires : tie.Need-from_bytes-requires
 from-bytes-requires c κs = search rules
 
 same-requires : tie.Need-same-requires
@@ -19,7 +19,7 @@ same-requires c κs = search rules
 
 returns : tie.Need-returns
 unfolding part
-returns c = c.same.ensures ∙ ap (λ (x : ℕ). eqb x (set_of c.before.before.before.args.f)) c.before.from_bytes.ensures
+returns c = c.same.ensures ∙ ap (λ (x : ℕ). eqb x (set_of c.args.f)) c.from_bytes.ensures
 
-pub is-set-spec : {M : Type 1} → statement M
-is-set-spec = tie.close (tie.spec mul-from-bytes from-bytes-requires same-requires returns)
+pub is_set_spec : {M : Type 1} → statement M
+is_set_spec = tie.close (tie.spec mul-from-bytes from-bytes-requires same-requires returns)

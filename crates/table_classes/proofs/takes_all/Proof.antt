@@ -7,8 +7,8 @@ use Rattle.table_classes.proofs.takes_all.Statement.{statement}
 use Rattle.table_classes.proofs.takes_all.Tie as tie
 
 -- what the first test says
-held : (c : tie.After-has) → let a = c.before.before.before.args in c.has.result ≡ holds (set_of a.f) (from a.list.now a.i)
-held c = c.has.ensures ∙ ap (holds (set_of c.before.before.before.args.f)) c.before.from.ensures
+held : (c : tie.After-has) → let a = c.args in c.has.result ≡ holds (set_of a.f) (from a.list.now a.i)
+held c = c.has.ensures ∙ ap (holds (set_of c.args.f)) c.from.ensures
 
 from-requires : tie.Need-from-requires
 from-requires c κs = search rules
@@ -16,22 +16,22 @@ from-requires c κs = search rules
 has-requires : tie.Need-has-requires
 has-requires c κs = search rules
 
-is-edge-requires : tie.Need-is-edge-requires
+is-edge-requires : tie.Need-is_edge-requires
 is-edge-requires c κs = search rules
 
-byte-of-requires : tie.Need-byte-of-requires
+byte-of-requires : tie.Need-byte_of-requires
 byte-of-requires c κs = search rules
 
-byte-of-requires-2 : tie.Need-byte-of-requires-2
+byte-of-requires-2 : tie.Need-byte_of-requires-then-has
 byte-of-requires-2 c κs = search rules
 
-returns : tie.Need-returns
+returns : tie.Need-returns-then-has
 returns c =
     let h = c.before.before.before.before in
-    rw (c.before.before.is-edge.ensures, c.before.byte-of.ensures, c.byte-of2.ensures, sym (held h) ∙ c.before.before.before.if1.true) refl
+    rw (c.is_edge.ensures, c.byte_of.ensures, c.byte_of-then-has.ensures, sym (held h) ∙ c.if-has.true) refl
 
-returns-2 : tie.Need-returns-2
-returns-2 c = rw (sym (held c.before) ∙ c.if1.false) refl
+returns-2 : tie.Need-returns-else-has
+returns-2 c = rw (sym (held c.before) ∙ c.if-has.false) refl
 
-pub takes-all-spec : {M : Type 1} → statement M
-takes-all-spec = tie.close (tie.spec from-requires has-requires is-edge-requires byte-of-requires byte-of-requires-2 returns returns-2)
+pub takes_all_spec : {M : Type 1} → statement M
+takes_all_spec = tie.close (tie.spec from-requires has-requires is-edge-requires byte-of-requires byte-of-requires-2 returns returns-2)

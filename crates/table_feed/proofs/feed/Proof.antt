@@ -18,64 +18,64 @@ use Rattle.table_feed.proofs.feed.Statement.{statement}
 use Rattle.table_feed.proofs.feed.Tie as tie
 
 -- the way back from the check to the entry, and from the loop to where no rule refuses
-abbrev entry : tie.After-feed-refusal → tie.Start
-entry c = c.before.before.before.before.before.before.before.before.before.before
+abbrev entry : tie.After-feed_refusal-refusal → tie.Start
+entry c = c.before.before.before.before.before.before.before.before.before
 
-abbrev passed : tie.After-feed-bytes → tie.Else1
-passed c = c.before.before.before.before
+abbrev passed : tie.After-feed_bytes-ran → tie.Else-refusal-ne-PASSED
+passed c = c.before.before.before
 
 -- the table and the rules that are given
-abbrev given : tie.After-feed-refusal → Table
+abbrev given : tie.After-feed_refusal-refusal → Table
 given c =
     let a = (entry c).args in
     table a.classes.now a.parts.now a.rows.now a.splits.now
 
-abbrev rules : tie.After-feed-refusal → List Rule
-rules c =
+abbrev tests : tie.After-feed_refusal-refusal → List Rule
+tests c =
     let a = (entry c).args in
     split_rules a.list.now a.bound (given c) a.flow.now a.start a.piece.now
 
-verdict-0 : (c : tie.Else1) → verdict (rules c.before) ≡ 0
-verdict-0 c = sym c.before.feed-refusal.ensures ∙ c.if1.false
+verdict-0 : (c : tie.Else-refusal-ne-PASSED) → verdict (tests c.before) ≡ 0
+verdict-0 c = sym c.feed_refusal-refusal.ensures ∙ c.if-refusal-ne-PASSED.false
 
 -- the rows of the loop are at most four for each byte
-few : (c : tie.After-feed-bytes) → c.feed-bytes.result.rows ≤ states * c.feed-bytes.result.bytes
+few : (c : tie.After-feed_bytes-ran) → c.feed_bytes-ran.result.rows ≤ states * c.feed_bytes-ran.result.bytes
 few c =
     let s = (passed c).before.before.before in
-    omega (arith, rows-most c.feed-bytes.ensures.going 4 (split-cheap (given (passed c).before)) (λ i. (s.before.shared-slice-known6.given i).fits))
+    omega (arith, rows-most c.feed_bytes-ran.ensures.going 4 (split-cheap (given (passed c).before)) (λ i. (s.shared_slice_known-6-1.given i).fits))
 
-feed-refusal-requires : tie.Need-feed-refusal-requires
+feed-refusal-requires : tie.Need-feed_refusal-refusal-requires
 feed-refusal-requires c κs = search rules
 
 refused-requires : tie.Need-refused-requires
 refused-requires c κs = search rules
 
-same_length : tie.Need-same-length
+same_length : tie.Need-shape_of-flow-then-refusal-ne-PASSED
 same_length c = search rules
 
-returns : tie.Need-returns
+returns : tie.Need-returns-then-refusal-ne-PASSED
 returns c =
     let check = c.before.before in
     let a = (entry check).args in
-    answers-refused (split a.list.now a.bound (given check)) flow_layout a.flow.now a.piece.now a.pairs.now (rules check) _
-    (λ z. c.before.if1.true (check.feed-refusal.ensures ∙ z)) (rw check.feed-refusal.ensures at c.refused.ensures)
+    answers-refused (split a.list.now a.bound (given check)) flow_layout a.flow.now a.piece.now a.pairs.now (tests check) _
+    (λ z. c.if-refusal-ne-PASSED.true (check.feed_refusal-refusal.ensures ∙ z)) (rw check.feed_refusal-refusal.ensures at c.refused.ensures)
 
-same-length-2 : tie.Need-same-length-2
+same-length-2 : tie.Need-shape_of-flow
 same-length-2 c = search rules
 
-same-length-3 : tie.Need-same-length-3
+same-length-3 : tie.Need-shape_of-pairs
 same-length-3 c = search rules
 
-from-bytes-requires : tie.Need-from-bytes-requires
+from-bytes-requires : tie.Need-from_bytes-first-requires
 from-bytes-requires c κs =
-    let here = c.before in
+    let here = c in
     let a = (entry here.before).args in
     let p = split-passes a.list.now a.bound (given here.before) a.flow.now a.start a.piece.now (verdict-0 here) in
     omega (arith, (good-flow a.flow.now p.0).0)
 
-feed-bytes-requires : tie.Need-feed-bytes-requires
+feed-bytes-requires : tie.Need-feed_bytes-ran-requires
 feed-bytes-requires c κs =
-    let here = c.before.before.before in
+    let here = c.before.before in
     let a = (entry here.before).args in
     let p = split-passes a.list.now a.bound (given here.before) a.flow.now a.start a.piece.now (verdict-0 here) in
     (omega (arith, p.1, p.2), p.3, p.4)
@@ -85,19 +85,19 @@ finish-requires c κs =
     let ran = c.before.before.before in
     let a = (entry (passed ran).before).args in
     let p = split-passes a.list.now a.bound (given (passed ran).before) a.flow.now a.start a.piece.now (verdict-0 (passed ran)) in
-    fits a.flow.now a.piece.now p.0 ran.feed-bytes.result p.2 ran.feed-bytes.ensures.going.short (few ran)
+    fits a.flow.now a.piece.now p.0 ran.feed_bytes-ran.result p.2 ran.feed_bytes-ran.ensures.going.short (few ran)
 
-returns-2 : tie.Need-returns-2
+returns-2 : tie.Need-returns
 returns-2 c =
     let end = c.before.before in
     let ran = end.before.before.before.before in
     let a = (entry (passed ran).before).args in
     let p = split-passes a.list.now a.bound (given (passed ran).before) a.flow.now a.start a.piece.now (verdict-0 (passed ran)) in
-    finishes a.flow.now a.piece.now p.0 ran.feed-bytes.result (split a.list.now a.bound (given (passed ran).before)) a.pairs.now
-    (rules (passed ran).before) _ _ _ (verdict-0 (passed ran)) (rw (ran.before.before.from_bytes.ensures, p.1) at ran.feed-bytes.ensures) end.finish.ensures
+    finishes a.flow.now a.piece.now p.0 ran.feed_bytes-ran.result (split a.list.now a.bound (given (passed ran).before)) a.pairs.now
+    (tests (passed ran).before) _ _ _ (verdict-0 (passed ran)) (rw (ran.from_bytes-first.ensures, p.1) at ran.feed_bytes-ran.ensures) end.finish.ensures
 
-pub feed-spec : {M : Type 1} → statement M
-feed-spec =
+pub feed_spec : {M : Type 1} → statement M
+feed_spec =
     tie.close
     (tie.spec
     feed-refusal-requires

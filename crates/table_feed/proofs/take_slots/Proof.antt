@@ -14,72 +14,72 @@ use Rattle.table_feed.proofs.Taking.{Taking, taking-start, taking-end, taking-st
 use Rattle.table_feed.proofs.take_slots.Statement.{statement}
 use Rattle.table_feed.proofs.take_slots.Tie as tie
 
-abbrev invariant-loop : tie.invariant-loop
+abbrev invariant-loop : tie.invariant-loop-j
 invariant-loop rows splits k n i q all₀ j₀ all j = (j ≤ 4) × Taking (λ p. row_at rows k p q) n (slots splits i) (set_of all) j
 
-abbrev decreases-loop : tie.decreases-loop
+abbrev decreases-loop : tie.decreases-loop-j
 decreases-loop rows splits k n i q all₀ j₀ all j = 4 - j
 
 -- the way back from the loop's head to the entry
-abbrev entry : tie.At-loop invariant-loop decreases-loop → tie.Start invariant-loop decreases-loop
+abbrev entry : tie.At-loop-j invariant-loop decreases-loop → tie.Start invariant-loop decreases-loop
 entry c = c.before.before.before
 
 -- the slot that is read is the next of the rest
-here : (c : tie.After-slot invariant-loop decreases-loop)
-    → let l = c.before.before.loop in
+here : (c : tie.After-slot-x invariant-loop decreases-loop)
+    → let l = c.loop-j in
     let ss = slots (entry c.before.before).args.splits.now (entry c.before.before).args.i in
-    drop l.j ss ≡ c.slot.result ∷ drop (l.j + 1) ss
+    drop l.j ss ≡ c.slot-x.result ∷ drop (l.j + 1) ss
 here c =
     let a = (entry c.before.before).args in
-    slots-cons a.splits.now a.i c.before.before.loop.j c.slot.result (omega arith) c.slot.ensures
+    slots-cons a.splits.now a.i c.loop-j.j c.slot-x.result (omega arith) c.slot-x.ensures
 
-loop-holds : tie.Need-loop-init invariant-loop decreases-loop
+loop-holds : tie.Need-loop-j-init invariant-loop decreases-loop
 loop-holds c = (search rules, taking-start _ _ _ _ (empty-words set_words))
 
-slot-requires : tie.Need-slot-requires invariant-loop decreases-loop
+slot-requires : tie.Need-slot-x-requires invariant-loop decreases-loop
 slot-requires c κs = search rules
 
-returns : tie.Need-returns invariant-loop decreases-loop
+returns : tie.Need-returns-then-x-eq-UNUSED invariant-loop decreases-loop
 returns c =
-    let l = c.before.before.before.loop in
-    taking-stop _ _ _ _ l.j l.invariant.1 c.before.slot.result (here c.before) refl refl (eq-eqb _ _ c.if1.true)
+    let l = c.loop-j in
+    taking-stop _ _ _ _ l.j l.invariant.1 c.slot-x.result (here c.before) refl refl (eq-eqb _ _ c.if-x-eq-UNUSED.true)
 
-returns-2 : tie.Need-returns-2 invariant-loop decreases-loop
+returns-2 : tie.Need-returns-then-n-x invariant-loop decreases-loop
 returns-2 c =
-    let l = c.before.before.before.before.loop in
-    taking-bad _ _ _ _ l.j l.invariant.1 c.before.before.slot.result (here c.before.before) refl (ne_eqb _ _ c.before.if1.false) c.if2.true
+    let l = c.loop-j in
+    taking-bad _ _ _ _ l.j l.invariant.1 c.slot-x.result (here c.before.before) refl (ne_eqb _ _ c.if-x-eq-UNUSED.false) c.if-n-x.true
 
-whole-row-requires : tie.Need-whole-row-requires invariant-loop decreases-loop
+whole-row-requires : tie.Need-whole_row-requires invariant-loop decreases-loop
 whole-row-requires c κs =
     let s = entry c.before.before.before.before in
-    omega (arith, row_inside s.args.n s.args.k c.before.before.slot.result s.args.q (omega arith) s.pre.1, s.pre.0)
+    omega (arith, row_inside s.args.n s.args.k c.slot-x.result s.args.q (omega arith) s.requires.1, s.requires.0)
 
-union-requires : tie.Need-union-requires invariant-loop decreases-loop
+union-requires : tie.Need-union-all-requires invariant-loop decreases-loop
 union-requires c κs = search rules
 
-add-j : tie.Need-overflow-add-j invariant-loop decreases-loop
+add-j : tie.Need-overflow_step-j invariant-loop decreases-loop
 add-j c = search rules
 
-loop-less : tie.Need-loop-smaller invariant-loop decreases-loop
+loop-less : tie.Need-loop-j-smaller invariant-loop decreases-loop
 loop-less c = search rules
 
-loop-again : tie.Need-loop-preserved invariant-loop decreases-loop
+loop-again : tie.Need-loop-j-preserved invariant-loop decreases-loop
 loop-again c =
-    let l = c.before.before.before.before.before.before.loop in
-    let x = c.before.before.before.before.slot.result in (
+    let l = c.loop-j in
+    let x = c.slot-x.result in (
       search rules,
-      taking-more _ _ _ (set_of l.all) l.j x l.invariant.1 (here c.before.before.before.before) (ne_eqb _ _ c.before.before.before.if1.false) (omega arith) _
-          (c.union.ensures ∙ ap (join (set_of l.all)) c.before.whole_row.ensures),
+      taking-more _ _ _ (set_of l.all) l.j x l.invariant.1 (here c.before.before.before.before) (ne_eqb _ _ c.if-x-eq-UNUSED.false) (omega arith) _
+          (c.union-all.ensures ∙ ap (join (set_of l.all)) c.whole_row.ensures),
     )
 
-returns-3 : tie.Need-returns-3 invariant-loop decreases-loop
+returns-3 : tie.Need-returns invariant-loop decreases-loop
 returns-3 c =
     let a = (entry c.before).args in
-    let l = c.before.loop in
+    let l = c.loop-j in
     taking-end _ _ _ _ l.j l.invariant.1 refl (omega arith) (slots_end a.splits.now a.i l.j (omega arith))
 
-pub take-slots-spec : {M : Type 1} → statement M
-take-slots-spec =
+pub take_slots_spec : {M : Type 1} → statement M
+take_slots_spec =
     tie.close
     (tie.spec
     invariant-loop
