@@ -1,4 +1,6 @@
 // The automaton with bits and counters: its check, opening a flow, and the feed that runs it over a piece, byte by byte.
+#![tactic(auto)]
+
 ghost use Rattle.std.specs.Prelude.{◌≡◌, true, false, ◌+◌, ◌*◌, ◌/◌, ◌≤◌, ◌<◌, length, take, drop, eqb};
 ghost use Rattle.numbers.specs.Number.{num, placed};
 ghost use Rattle.sets.specs.Set.{sig_words, sigs_of};
@@ -76,7 +78,7 @@ const WHICH_LIMITS: [u8; KINDS] = [1, 64, 64, 16, 16, 16, 1, 64, 16];
 const NUMBER_LIMITS: [u32; KINDS] = [1, 1, 1, 65536, 1, 1, 256, 256, 256];
 
 // A configuration: one state, the set of the bits that are set, and the counters.
-#[derive(Drop)]
+#[derive(Clone, Copy)]
 pub struct Config {
     pub state: usize,
     pub bits: u64,
@@ -84,20 +86,20 @@ pub struct Config {
 }
 
 // The counters by themselves.
-#[derive(Drop)]
+#[derive(Clone, Copy)]
 struct Counters {
     values: [u32; X_COUNTERS],
 }
 
 // What a program leaves: the configuration, and the signatures that it alerts.
-#[derive(Drop)]
+#[derive(Clone, Copy)]
 pub struct Step {
     pub config: Config,
     pub alerts: SigSet,
 }
 
 // What the loop of a feed leaves: the configuration, the bytes consumed and the words written.
-#[derive(Drop)]
+#[derive(Clone, Copy)]
 struct Ran {
     config: Config,
     bytes: usize,

@@ -1,4 +1,6 @@
 // Resends: segments by 32-bit sequence number. Which bytes are due next, and the one place where a segment that comes too early is held.
+#![tactic(auto)]
+
 ghost use Rattle.std.specs.Prelude.{◌≡◌, ◌≤◌, ◌++◌, length, drop};
 ghost use Rattle.segment.specs.Resend.{distance, ahead, has_next, all_before, bad_sizes, early, full, up_to, taking, part_due, due};
 ghost use Rattle.segment.specs.Post.{Takes, Finds};
@@ -18,7 +20,7 @@ pub const NOT_TAKEN: u32 = rules::SEGMENT;
 const FREE: u32 = 0;
 
 // What taking a segment answers: a refusal's number or 0, and the held place at exit: its first number, and how many bytes are held.
-#[derive(Drop)]
+#[derive(Clone, Copy)]
 pub struct Held {
     pub refusal: u32,
     pub start: u32,
@@ -26,7 +28,7 @@ pub struct Held {
 }
 
 // The part that is due: of the held buffer (1) or of the segment (2), from a place on; or nothing (0).
-#[derive(Drop)]
+#[derive(Clone, Copy)]
 pub struct Part {
     pub source: u32,
     pub at: usize,

@@ -41,7 +41,7 @@ taking-bytes next held p n q seg h k = go (refuses next held p n q seg) refl (ea
 pub looks-append : (s : ℕ) (W : Line) (ls ms : List stream.Look) → looks s W (ls ++ ms) ≡ looks s (looks s W ls) ms
 unfolding looks
 looks-append s W [] ms = refl
-looks-append s W (l ∷ ls) ms = looks-append s _ ls ms
+looks-append s W (l ∷ ls) ms = looks-append s (looking s W l) ls ms
 
 pub numbered-append : (ls ms : List stream.Look) → Numbered ls → Numbered ms → Numbered (ls ++ ms)
 numbered-append [] ms h k = k

@@ -1,5 +1,7 @@
 // Feeding a flow by segments: each look takes the segment and feeds what is due, until nothing is due or there is no room. What a segment does around the
 // feed knows no engine; each engine has one look, with its own feed in it, and the function that makes the looks.
+#![tactic(auto)]
+
 ghost use Rattle.std.specs.Prelude.{◌≡◌, ◌+◌, ◌%◌, ◌≤◌, length, if◌then◌else◌};
 ghost use Rattle.list_flow.specs.Flow.{offset_of};
 ghost use Rattle.table.specs.Table.{table};
@@ -18,7 +20,7 @@ const CIRCLE: u64 = 4294967296;
 
 // What feeding a segment answers: a refusal's number or 0, the bytes passed down, the pairs told, whether nothing is due any more, and the held place
 // at exit. Where neither is there a refusal nor is nothing due, the pairs had no room: take them, and hand in the same segment again.
-#[derive(Drop)]
+#[derive(Clone, Copy)]
 pub struct Heard {
     pub refusal: u32,
     pub bytes: usize,
@@ -29,7 +31,7 @@ pub struct Heard {
 }
 
 // What is heard so far: the same, and whether a look follows.
-#[derive(Drop)]
+#[derive(Clone, Copy)]
 pub struct Looked {
     pub on: bool,
     pub refusal: u32,

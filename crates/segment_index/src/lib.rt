@@ -1,5 +1,7 @@
 // Feeding a flow by segments by its index: what a segment does around the feed is that of every engine; here is the look with the feed by an index in it,
 // which says beside the rest at which split the flow then stands.
+#![tactic(auto)]
+
 ghost use Rattle.std.specs.Prelude.{◌≡◌, length};
 ghost use Rattle.segment_feed.specs.Post.{Hears, Roomy, sent, kept};
 ghost use Rattle.segment_index.specs.Standing.{stand_segment, stood_by};
@@ -8,14 +10,14 @@ ghost use Rattle.segment_index.specs.Post.{MoreAt};
 use segment_feed::{Heard, Looked};
 
 // What feeding a segment by an index answers: as every segment, and the split where the flow then stands.
-#[derive(Drop)]
+#[derive(Clone, Copy)]
 pub struct HeardAt {
     pub heard: Heard,
     pub split: usize,
 }
 
 // What is heard so far, and the split where the flow then stands.
-#[derive(Drop)]
+#[derive(Clone, Copy)]
 struct LookedAt {
     so: Looked,
     split: usize,

@@ -1,5 +1,7 @@
 // Feeding a flow of an automaton with bits and counters by segments: what a segment does around the feed is that of every engine; here is the look with its
 // feed in it.
+#![tactic(auto)]
+
 ghost use Rattle.std.specs.Prelude.{length};
 ghost use Rattle.segment_feed.specs.Post.{Hears, More, Roomy, sent, kept};
 ghost use Rattle.segment_machine.specs.Ways.{machine_way, machine_segment};

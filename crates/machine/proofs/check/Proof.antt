@@ -5,14 +5,14 @@ use Rattle.rules.proofs.Rules.{stop, last}
 use Rattle.machine.proofs.check.Statement.{statement}
 use Rattle.machine.proofs.check.Tie as tie
 
-bad-machine-requires : tie.Need-bad-machine-requires
+bad-machine-requires : tie.Need-bad_machine-requires
 bad-machine-requires c κs = search rules
 
-returns : tie.Need-returns
-returns c = sym (stop 24 _ (sym c.before.bad-machine.ensures ∙ c.if1.true))
+returns : tie.Need-returns-then-bad_machine
+returns c = sym (stop 24 _ (sym c.bad_machine.ensures ∙ c.if-bad_machine.true))
 
-returns-2 : tie.Need-returns-2
-returns-2 c = sym (last 24 (sym c.before.bad-machine.ensures ∙ c.if1.false))
+returns-2 : tie.Need-returns
+returns-2 c = sym (last 24 (sym c.bad_machine.ensures ∙ c.if-bad_machine.false))
 
-pub check-spec : {M : Type 1} → statement M
-check-spec = tie.close (tie.spec bad-machine-requires returns returns-2)
+pub check_spec : {M : Type 1} → statement M
+check_spec = tie.close (tie.spec bad-machine-requires returns returns-2)

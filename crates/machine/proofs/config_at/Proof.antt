@@ -13,36 +13,36 @@ use Rattle.machine.proofs.Programs.{config-one}
 use Rattle.machine.proofs.config_at.Statement.{statement}
 use Rattle.machine.proofs.config_at.Tie as tie
 
-add-counters-at : tie.Need-overflow-add-counters-at
+add-counters-at : tie.Need-overflow_add-at
 add-counters-at c = search rules
 
-add-counters-at-2 : tie.Need-overflow-add-counters-at-2
+add-counters-at-2 : tie.Need-overflow_add-at-2
 add-counters-at-2 c = search rules
 
-counters-at-requires : tie.Need-counters-at-requires
+counters-at-requires : tie.Need-counters_at-counters-requires
 counters-at-requires c κs = search rules
 
-whole-number-requires : tie.Need-whole-number-requires
+whole-number-requires : tie.Need-whole_number-requires
 whole-number-requires c κs = search rules
 
-add-eight-bytes : tie.Need-overflow-add-eight-bytes
+add-eight-bytes : tie.Need-overflow_add-at-3
 add-eight-bytes c = search rules
 
-eight-bytes-requires : tie.Need-eight-bytes-requires
+eight-bytes-requires : tie.Need-eight_bytes-requires
 eight-bytes-requires c κs = search rules
 
 returns : tie.Need-returns
 unfolding config_at
 returns c =
-    let a = c.before.before.before.before.before.args in
+    let a = c.args in
     let b = a.b.now in
     let e : a.at + a.bits + 8 ≡ a.at + (a.bits + 8) = omega arith in
-    config-one _ (config_at a.bits (drop a.at b)) c.before.whole-number.ensures
-    (c.eight-bytes.ensures ∙ sym (ap (λ (d : List ℕ). num 8 (take 8 d)) (drop-drop a.bits a.at b)))
-    (c.before.before.before.counters-at.ensures ∙ ap (λ (k : ℕ). fours counter_count (drop k b)) e ∙ sym (ap (λ (d : List ℕ). fours counter_count d) (drop-drop (a.bits + 8) a.at b)))
+    config-one _ (config_at a.bits (drop a.at b)) c.whole_number.ensures
+    (c.eight_bytes.ensures ∙ sym (ap (λ (d : List ℕ). num 8 (take 8 d)) (drop-drop a.bits a.at b)))
+    (c.counters_at-counters.ensures ∙ ap (λ (k : ℕ). fours counter_count (drop k b)) e ∙ sym (ap (λ (d : List ℕ). fours counter_count d) (drop-drop (a.bits + 8) a.at b)))
 
-pub config-at-spec : {M : Type 1} → statement M
-config-at-spec =
+pub config_at_spec : {M : Type 1} → statement M
+config_at_spec =
     tie.close
     (tie.spec
     add-counters-at

@@ -11,68 +11,68 @@ use Rattle.machine.proofs.counters_by.Statement.{statement}
 use Rattle.machine.proofs.counters_by.Tie as tie
 
 -- the three kinds name a counter
-there : (c : tie.Then1) → c.before.before.args.w < 16
-there c = let s = c.before.before in which-below s.args.k s.args.w s.args.n s.requires.0 16 (ap (λ (j : ℕ). get_or which_limits j 0) c.if1.true)
+there : (c : tie.Then-k-eq-SET_COUNTER) → c.args.w < 16
+there c = let s = c.before.before in which-below s.args.k s.args.w s.args.n s.requires.0 16 (ap (λ (j : ℕ). get_or which_limits j 0) c.if-k-eq-SET_COUNTER.true)
 
-there-2 : (c : tie.Then2) → c.before.before.before.args.w < 16
-there-2 c = let s = c.before.before.before in which-below s.args.k s.args.w s.args.n s.requires.0 16 (ap (λ (j : ℕ). get_or which_limits j 0) c.if2.true)
+there-2 : (c : tie.Then-k-eq-TURN_OFF) → c.args.w < 16
+there-2 c = let s = c.before.before.before in which-below s.args.k s.args.w s.args.n s.requires.0 16 (ap (λ (j : ℕ). get_or which_limits j 0) c.if-k-eq-TURN_OFF.true)
 
-there-3 : (c : tie.Then3) → c.before.before.before.before.args.w < 16
-there-3 c = let s = c.before.before.before.before in which-below s.args.k s.args.w s.args.n s.requires.0 16 (ap (λ (j : ℕ). get_or which_limits j 0) c.if3.true)
+there-3 : (c : tie.Then-k-eq-LOWER) → c.args.w < 16
+there-3 c = let s = c.before.before.before.before in which-below s.args.k s.args.w s.args.n s.requires.0 16 (ap (λ (j : ℕ). get_or which_limits j 0) c.if-k-eq-LOWER.true)
 
-mul-counters : tie.Need-overflow-mul-counters
+mul-counters : tie.Need-offset_bounds-counters-w
 mul-counters c = let l = there c in search rules
 
-slice-write-counters : tie.Need-slice-write-counters
+slice-write-counters : tie.Need-bounds-counters-w
 slice-write-counters c = let l = there c in search rules
 
-same_length : tie.Need-same-length
+same_length : tie.Need-shape_of-counters-then-k-eq-SET_COUNTER
 same_length c = search rules
 
-returns : tie.Need-returns
+returns : tie.Need-returns-then-k-eq-SET_COUNTER
 unfolding counters_by
-returns c = rw (eq-eqb _ _ c.if1.true)
+returns c = rw (eq-eqb _ _ c.if-k-eq-SET_COUNTER.true)
 
-mul-counters-2 : tie.Need-overflow-mul-counters-2
+mul-counters-2 : tie.Need-offset_bounds-counters-w-then-k-eq-TURN_OFF
 mul-counters-2 c = let l = there-2 c in search rules
 
-slice-write-counters-2 : tie.Need-slice-write-counters-2
+slice-write-counters-2 : tie.Need-bounds-counters-w-then-k-eq-TURN_OFF
 slice-write-counters-2 c = let l = there-2 c in search rules
 
-same-length-2 : tie.Need-same-length-2
+same-length-2 : tie.Need-shape_of-counters-then-k-eq-TURN_OFF
 same-length-2 c = search rules
 
-returns-2 : tie.Need-returns-2
+returns-2 : tie.Need-returns-then-k-eq-TURN_OFF
 unfolding counters_by
-returns-2 c = rw (ne_eqb _ _ c.before.if1.false, eq-eqb _ _ c.if2.true)
+returns-2 c = rw (ne_eqb _ _ c.if-k-eq-SET_COUNTER.false, eq-eqb _ _ c.if-k-eq-TURN_OFF.true)
 
-mul-lowered : tie.Need-overflow-mul-lowered
+mul-lowered : tie.Need-offset_bounds-counters-w-then-k-eq-LOWER
 mul-lowered c = let l = there-3 c in search rules
 
-slice-read-lowered : tie.Need-slice-read-lowered
+slice-read-lowered : tie.Need-bounds-counters-w-then-k-eq-LOWER
 slice-read-lowered c = let l = there-3 c.before in search rules
 
 lowered-requires : tie.Need-lowered-requires
 lowered-requires c κs = search rules
 
-mul-counters-3 : tie.Need-overflow-mul-counters-3
+mul-counters-3 : tie.Need-offset_bounds-counters-w-then-k-eq-LOWER-2
 mul-counters-3 c = let l = there-3 c.before.before in search rules
 
-slice-write-counters-3 : tie.Need-slice-write-counters-3
+slice-write-counters-3 : tie.Need-bounds-counters-w-then-k-eq-LOWER-2
 slice-write-counters-3 c = let l = there-3 c.before.before in search rules
 
-same-length-3 : tie.Need-same-length-3
+same-length-3 : tie.Need-shape_of-counters
 same-length-3 c = search rules
 
-returns-3 : tie.Need-returns-3
+returns-3 : tie.Need-returns-then-k-eq-LOWER
 unfolding counters_by
-returns-3 c = let t = c.before.before in rw (ne_eqb _ _ t.before.before.if1.false, ne_eqb _ _ t.before.if2.false, eq-eqb _ _ t.if3.true, c.lowered.ensures)
+returns-3 c = let t = c.before.before in rw (ne_eqb _ _ t.if-k-eq-SET_COUNTER.false, ne_eqb _ _ t.if-k-eq-TURN_OFF.false, eq-eqb _ _ t.if-k-eq-LOWER.true, c.lowered.ensures)
 
-returns-4 : tie.Need-returns-4
-returns-4 c = let a = c.before.before.before.before.args in counters-stay a.k a.w a.n a.counters.now c.before.before.if1.false c.before.if2.false c.if3.false
+returns-4 : tie.Need-returns-else-k-eq-LOWER
+returns-4 c = let a = c.args in counters-stay a.k a.w a.n a.counters.now c.if-k-eq-SET_COUNTER.false c.if-k-eq-TURN_OFF.false c.if-k-eq-LOWER.false
 
-pub counters-by-spec : {M : Type 1} → statement M
-counters-by-spec =
+pub counters_by_spec : {M : Type 1} → statement M
+counters_by_spec =
     tie.close
     (tie.spec
     mul-counters

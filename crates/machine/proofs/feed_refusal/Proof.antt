@@ -5,18 +5,18 @@ use Rattle.rules.proofs.Rules.{skip, stop}
 use Rattle.machine.proofs.feed_refusal.Statement.{statement}
 use Rattle.machine.proofs.feed_refusal.Tie as tie
 
-bad-machine-requires : tie.Need-bad-machine-requires
+bad-machine-requires : tie.Need-bad_machine-requires
 bad-machine-requires c κs = search rules
 
-returns : tie.Need-returns
-returns c = sym (stop 24 _ (sym c.before.bad-machine.ensures ∙ c.if1.true))
+returns : tie.Need-returns-then-bad_machine
+returns c = sym (stop 24 _ (sym c.bad_machine.ensures ∙ c.if-bad_machine.true))
 
-flow-refusal-requires : tie.Need-flow-refusal-requires
+flow-refusal-requires : tie.Need-flow_refusal-requires
 flow-refusal-requires c κs = search rules
 
-returns-2 : tie.Need-returns-2
-returns-2 c = c.flow-refusal.ensures ∙ sym (skip 24 _ (sym c.before.before.bad-machine.ensures ∙ c.before.if1.false))
+returns-2 : tie.Need-returns
+returns-2 c = c.flow_refusal.ensures ∙ sym (skip 24 _ (sym c.bad_machine.ensures ∙ c.if-bad_machine.false))
 
-pub feed-refusal-spec : {M : Type 1} → statement M
-feed-refusal-spec =
+pub feed_refusal_spec : {M : Type 1} → statement M
+feed_refusal_spec =
     tie.close (tie.spec bad-machine-requires returns flow-refusal-requires returns-2)

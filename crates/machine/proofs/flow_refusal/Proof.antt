@@ -7,23 +7,23 @@ use Rattle.machine.proofs.Records.{offset-lt}
 use Rattle.machine.proofs.flow_refusal.Statement.{statement}
 use Rattle.machine.proofs.flow_refusal.Tie as tie
 
-bad-flow-requires : tie.Need-bad-flow-requires
+bad-flow-requires : tie.Need-bad_flow-requires
 bad-flow-requires c κs = search rules
 
-returns : tie.Need-returns
-returns c = sym (stop 4 _ (sym c.before.bad-flow.ensures ∙ c.if1.true))
+returns : tie.Need-returns-then-bad_flow
+returns c = sym (stop 4 _ (sym c.bad_flow.ensures ∙ c.if-bad_flow.true))
 
-offset-of-requires : tie.Need-offset-of-requires
+offset-of-requires : tie.Need-offset_of-requires
 offset-of-requires c κs = search rules
 
 -- the offset is at most the largest
-piece-refusal-requires : tie.Need-piece-refusal-requires
+piece-refusal-requires : tie.Need-piece_refusal-requires
 piece-refusal-requires c κs =
     let known = c.before.before.before.before in
-    omega (arith, c.offset-of.ensures, offset-lt known.before.args.flow.now (λ i. (known.shared-slice-known.given i).fits))
+    omega (arith, c.offset_of.ensures, offset-lt known.args.flow.now (λ i. (known.shared_slice_known-1.given i).fits))
 
-returns-2 : tie.Need-returns-2
-returns-2 c = rw c.before.offset-of.ensures at c.piece-refusal.ensures ∙ sym (skip 4 _ (sym c.before.before.before.bad-flow.ensures ∙ c.before.before.if1.false))
+returns-2 : tie.Need-returns
+returns-2 c = rw c.offset_of.ensures at c.piece_refusal.ensures ∙ sym (skip 4 _ (sym c.bad_flow.ensures ∙ c.if-bad_flow.false))
 
-pub flow-refusal-spec : {M : Type 1} → statement M
-flow-refusal-spec = tie.close (tie.spec bad-flow-requires returns offset-of-requires piece-refusal-requires returns-2)
+pub flow_refusal_spec : {M : Type 1} → statement M
+flow_refusal_spec = tie.close (tie.spec bad-flow-requires returns offset-of-requires piece-refusal-requires returns-2)

@@ -11,36 +11,36 @@ use Rattle.machine.specs.Program.{counter_count, off}
 use Rattle.machine.proofs.good_counters.Statement.{statement}
 use Rattle.machine.proofs.good_counters.Tie as tie
 
-abbrev invariant-loop : tie.invariant-loop
+abbrev invariant-loop : tie.invariant-loop-i
 invariant-loop c all₀ i₀ all i = (i ≤ counter_count) × (all ≡ every i (λ j. leb (get_or c j 0) off))
 
-abbrev decreases-loop : tie.decreases-loop
+abbrev decreases-loop : tie.decreases-loop-i
 decreases-loop c all₀ i₀ all i = counter_count - i
 
-loop-holds : tie.Need-loop-init invariant-loop decreases-loop
+loop-holds : tie.Need-loop-i-init invariant-loop decreases-loop
 unfolding every
 loop-holds c = (search rules, refl)
 
-mul-all : tie.Need-overflow-mul-all invariant-loop decreases-loop
+mul-all : tie.Need-offset_bounds-c-i invariant-loop decreases-loop
 mul-all c = search rules
 
-array-read-all : tie.Need-array-read-all invariant-loop decreases-loop
+array-read-all : tie.Need-bounds-c-i invariant-loop decreases-loop
 array-read-all c = search rules
 
-add-i : tie.Need-overflow-add-i invariant-loop decreases-loop
+add-i : tie.Need-overflow_step-i invariant-loop decreases-loop
 add-i c = search rules
 
-loop-less : tie.Need-loop-smaller invariant-loop decreases-loop
+loop-less : tie.Need-loop-i-smaller invariant-loop decreases-loop
 loop-less c = search rules
 
-loop-again : tie.Need-loop-preserved invariant-loop decreases-loop
+loop-again : tie.Need-loop-i-preserved invariant-loop decreases-loop
 unfolding every
 loop-again c = (search rules, rw add-one (cc))
 
 returns : tie.Need-returns invariant-loop decreases-loop
-returns c = let e : c.before.loop.i ≡ counter_count = omega arith in cc
+returns c = let e : c.loop-i.i ≡ counter_count = omega arith in cc
 
-pub good-counters-spec : {M : Type 1} → statement M
-good-counters-spec =
+pub good_counters_spec : {M : Type 1} → statement M
+good_counters_spec =
     tie.close
     (tie.spec invariant-loop decreases-loop loop-holds mul-all array-read-all add-i loop-less loop-again returns)

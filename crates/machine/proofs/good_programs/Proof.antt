@@ -13,43 +13,43 @@ use Rattle.machine.specs.Machine.{good_record}
 use Rattle.machine.proofs.good_programs.Statement.{statement}
 use Rattle.machine.proofs.good_programs.Tie as tie
 
-abbrev invariant-loop : tie.invariant-loop
+abbrev invariant-loop : tie.invariant-loop-i
 invariant-loop programs n i₀ i = (i ≤ n) × (every i (good_record programs) ≡ true)
 
-abbrev decreases-loop : tie.decreases-loop
+abbrev decreases-loop : tie.decreases-loop-i
 decreases-loop programs n i₀ i = n - i
 
-loop-holds : tie.Need-loop-init invariant-loop decreases-loop
+loop-holds : tie.Need-loop-i-init invariant-loop decreases-loop
 unfolding every
 loop-holds c = (search rules, refl)
 
-good-record-requires : tie.Need-good-record-requires invariant-loop decreases-loop
+good-record-requires : tie.Need-good_record-requires invariant-loop decreases-loop
 good-record-requires c κs = search rules
 
-returns : tie.Need-returns invariant-loop decreases-loop
+returns : tie.Need-returns-then-not-good_record invariant-loop decreases-loop
 returns c =
     let h = c.before.before.before in
-    let P = h.before.before.args.programs.now in
-    sym (every-fails (length P / 4) (good_record P) h.loop.i (omega arith) (sym c.before.good-record.ensures ∙ not-true _ c.if1.true))
+    let P = h.args.programs.now in
+    sym (every-fails (length P / 4) (good_record P) h.loop-i.i (omega arith) (sym c.good_record.ensures ∙ not-true _ c.if-not-good_record.true-raw))
 
-add-i : tie.Need-overflow-add-i invariant-loop decreases-loop
+add-i : tie.Need-overflow_step-i invariant-loop decreases-loop
 add-i c = search rules
 
-loop-less : tie.Need-loop-smaller invariant-loop decreases-loop
+loop-less : tie.Need-loop-i-smaller invariant-loop decreases-loop
 loop-less c = search rules
 
-loop-again : tie.Need-loop-preserved invariant-loop decreases-loop
+loop-again : tie.Need-loop-i-preserved invariant-loop decreases-loop
 unfolding every
-loop-again c = (search rules, rw (add-one, c.before.before.before.loop.invariant.1, sym c.before.good-record.ensures ∙ not-false _ c.if1.false))
+loop-again c = (search rules, rw (add-one, c.loop-i.invariant.1, sym c.good_record.ensures ∙ not-false _ c.if-not-good_record.false-raw))
 
-returns-2 : tie.Need-returns-2 invariant-loop decreases-loop
+returns-2 : tie.Need-returns invariant-loop decreases-loop
 returns-2 c =
-    let l = c.before.loop in
-    let e : l.i ≡ length c.before.before.before.args.programs.now / 4 = omega arith in
+    let l = c.loop-i in
+    let e : l.i ≡ length c.args.programs.now / 4 = omega arith in
     sym (rw e at l.invariant.1)
 
-pub good-programs-spec : {M : Type 1} → statement M
-good-programs-spec =
+pub good_programs_spec : {M : Type 1} → statement M
+good_programs_spec =
     tie.close
     (tie.spec
     invariant-loop

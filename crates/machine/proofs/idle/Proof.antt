@@ -11,45 +11,45 @@ use Rattle.machine.proofs.Programs.{laid-every}
 use Rattle.machine.proofs.idle.Statement.{statement}
 use Rattle.machine.proofs.idle.Tie as tie
 
-abbrev invariant-loop : tie.invariant-loop
+abbrev invariant-loop : tie.invariant-loop-k
 invariant-loop programs q all₀ k₀ all k = (k ≤ 4) × Laid (λ j. num 8 (take 8 (drop (program_size * q + 8 * j) programs))) k all
 
-abbrev decreases-loop : tie.decreases-loop
+abbrev decreases-loop : tie.decreases-loop-k
 decreases-loop programs q all₀ k₀ all k = 4 - k
 
-loop-holds : tie.Need-loop-init invariant-loop decreases-loop
+loop-holds : tie.Need-loop-k-init invariant-loop decreases-loop
 loop-holds c =
-    let a = c.before.args in
+    let a = c.args in
     (search rules, laid_none (λ j. num 8 (take 8 (drop (program_size * a.q + 8 * j) a.programs.now))))
 
-mul-eight-bytes : tie.Need-overflow-mul-eight-bytes invariant-loop decreases-loop
+mul-eight-bytes : tie.Need-overflow_mul-q invariant-loop decreases-loop
 mul-eight-bytes c = search rules
 
-mul-eight-bytes-2 : tie.Need-overflow-mul-eight-bytes-2 invariant-loop decreases-loop
+mul-eight-bytes-2 : tie.Need-overflow_mul-k invariant-loop decreases-loop
 mul-eight-bytes-2 c = search rules
 
-add-eight-bytes : tie.Need-overflow-add-eight-bytes invariant-loop decreases-loop
+add-eight-bytes : tie.Need-overflow_add-q invariant-loop decreases-loop
 add-eight-bytes c = search rules
 
-eight-bytes-requires : tie.Need-eight-bytes-requires invariant-loop decreases-loop
+eight-bytes-requires : tie.Need-eight_bytes-all-requires invariant-loop decreases-loop
 eight-bytes-requires c κs = search rules
 
-add-k : tie.Need-overflow-add-k invariant-loop decreases-loop
+add-k : tie.Need-overflow_step-k invariant-loop decreases-loop
 add-k c = search rules
 
-loop-less : tie.Need-loop-smaller invariant-loop decreases-loop
+loop-less : tie.Need-loop-k-smaller invariant-loop decreases-loop
 loop-less c = search rules
 
-loop-again : tie.Need-loop-preserved invariant-loop decreases-loop
+loop-again : tie.Need-loop-k-preserved invariant-loop decreases-loop
 loop-again c =
-    let a = c.before.before.before.before.args in
-    let l = c.before.before.loop in
-    (omega arith, rw c.eight-bytes.ensures (laid_more (λ j. num 8 (take 8 (drop (program_size * a.q + 8 * j) a.programs.now))) l.k l.all l.invariant.1))
+    let a = c.args in
+    let l = c.loop-k in
+    (omega arith, rw c.eight_bytes-all.ensures (laid_more (λ j. num 8 (take 8 (drop (program_size * a.q + 8 * j) a.programs.now))) l.k l.all l.invariant.1))
 
 returns : tie.Need-returns invariant-loop decreases-loop
 returns c =
-    let a = c.before.before.before.args in
-    let l = c.before.loop in
+    let a = c.args in
+    let l = c.loop-k in
     let e : l.k ≡ 4 = omega arith in
     laid-every (λ j. num 8 (take 8 (drop (program_size * a.q + 8 * j) a.programs.now))) 4 l.all (rw e at l.invariant.1)
 

@@ -4,12 +4,12 @@ use Rattle.segment.specs.Resend.{ahead}
 use Rattle.segment.proofs.ahead.Statement.{statement}
 use Rattle.segment.proofs.ahead.Tie as tie
 
-distance-requires : tie.Need-distance-requires
+distance-requires : tie.Need-distance-d-requires
 distance-requires c κs = search rules
 
 returns : tie.Need-returns
 unfolding ahead
 returns c = cc
 
-pub ahead-spec : {M : Type 1} → statement M
-ahead-spec = tie.close (tie.spec distance-requires returns)
+pub ahead_spec : {M : Type 1} → statement M
+ahead_spec = tie.close (tie.spec distance-requires returns)

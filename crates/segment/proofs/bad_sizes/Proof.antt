@@ -7,5 +7,5 @@ returns : tie.Need-returns
 unfolding bad_sizes
 returns c = search
 
-pub bad-sizes-spec : {M : Type 1} → statement M
-bad-sizes-spec = tie.close (tie.spec returns)
+pub bad_sizes_spec : {M : Type 1} → statement M
+bad_sizes_spec = tie.close (tie.spec returns)

@@ -4,12 +4,12 @@ use Rattle.segment.specs.Resend.{distance}
 use Rattle.segment.proofs.distance.Statement.{statement}
 use Rattle.segment.proofs.distance.Tie as tie
 
-wrapping-sub-u32-requires : tie.Need-wrapping-sub-u32-requires
+wrapping-sub-u32-requires : tie.Need-wrapping_sub_u32-requires
 wrapping-sub-u32-requires c κs = search rules
 
 returns : tie.Need-returns
 unfolding distance
 returns c = search rules
 
-pub distance-spec : {M : Type 1} → statement M
-distance-spec = tie.close (tie.spec wrapping-sub-u32-requires returns)
+pub distance_spec : {M : Type 1} → statement M
+distance_spec = tie.close (tie.spec wrapping-sub-u32-requires returns)

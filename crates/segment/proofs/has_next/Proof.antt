@@ -14,5 +14,5 @@ returns : tie.Need-returns
 unfolding has_next
 returns c = cc
 
-pub has-next-spec : {M : Type 1} → statement M
-has-next-spec = tie.close (tie.spec distance-requires wide-requires returns)
+pub has_next_spec : {M : Type 1} → statement M
+has_next_spec = tie.close (tie.spec distance-requires wide-requires returns)

@@ -6,50 +6,50 @@ use Rattle.segment.proofs.Parts.{refuses, take-refused, take-kept, take-other, k
 use Rattle.segment.proofs.take.Statement.{statement}
 use Rattle.segment.proofs.take.Tie as tie
 
-goes : (c : tie.Else1)
-    → refuses c.before.before.before.before.before.before.before.args.next c.before.before.before.before.before.before.before.args.held.now
-    c.before.before.before.before.before.before.before.args.held_start c.before.before.before.before.before.before.before.args.held-length
-    c.before.before.before.before.before.before.before.args.start c.before.before.before.before.before.before.before.args.segment.now
+goes : (c : tie.Else-bad_sizes-begins)
+    → refuses c.args.next c.args.held.now
+    c.args.held_start c.args.held_length
+    c.args.start c.args.segment.now
     ≡ false
 goes c =
-    rw (c.before.full.ensures, c.before.before.bad-sizes.ensures, c.before.before.before.early.ensures, c.before.before.before.before.wide.ensures) at c.if1.false
+    rw (c.full.ensures, c.bad_sizes.ensures, c.early-begins.ensures, c.wide-n.ensures) at c.if-bad_sizes-begins.false
 
-begins : (c : tie.Then2)
-    → early c.before.before.before.before.before.before.before.before.args.next c.before.before.before.before.before.before.before.before.args.start
-    (length c.before.before.before.before.before.before.before.before.args.segment.now)
+begins : (c : tie.Then-begins)
+    → early c.args.next c.args.start
+    (length c.args.segment.now)
     ≡ true
-begins c = sym c.before.before.before.before.early.ensures ∙ c.if2.true
+begins c = sym c.early-begins.ensures ∙ c.if-begins.true
 
-stays : (c : tie.Else2)
-    → early c.before.before.before.before.before.before.before.before.args.next c.before.before.before.before.before.before.before.before.args.start
-    (length c.before.before.before.before.before.before.before.before.args.segment.now)
+stays : (c : tie.Else-begins)
+    → early c.args.next c.args.start
+    (length c.args.segment.now)
     ≡ false
-stays c = sym c.before.before.before.before.early.ensures ∙ c.if2.false
+stays c = sym c.early-begins.ensures ∙ c.if-begins.false
 
-fits : (c : tie.Then2)
-    → length c.before.before.before.before.before.before.before.before.args.segment.now ≤ length c.before.before.before.before.before.before.before.before.args.held.now
+fits : (c : tie.Then-begins)
+    → length c.args.segment.now ≤ length c.args.held.now
 fits c =
-    let a = c.before.before.before.before.before.before.before.before.args in
-    let k = kept-fits a.next a.held.now a.held_start a.held-length a.start a.segment.now (goes c.before) (begins c) in
+    let a = c.args in
+    let k = kept-fits a.next a.held.now a.held_start a.held_length a.start a.segment.now (goes c.before) (begins c) in
     omega (arith, k.0, k.1)
 
-wide-requires : tie.Need-wide-requires
+wide-requires : tie.Need-wide-n-requires
 wide-requires c κs = search rules
 
-early-requires : tie.Need-early-requires
+early-requires : tie.Need-early-begins-requires
 early-requires c κs = search rules
 
-bad-sizes-requires : tie.Need-bad-sizes-requires
+bad-sizes-requires : tie.Need-bad_sizes-requires
 bad-sizes-requires c κs = search rules
 
 full-requires : tie.Need-full-requires
 full-requires c κs = search rules
 
-returns : tie.Need-returns
+returns : tie.Need-returns-then-bad_sizes-begins
 returns c =
-    let a = c.before.before.before.before.before.before.before.args in
-    let e = take-refused a.next a.held.now a.held_start a.held-length a.start a.segment.now
-    (rw (c.before.full.ensures, c.before.before.bad-sizes.ensures, c.before.before.before.early.ensures, c.before.before.before.before.wide.ensures) at c.if1.true) in
+    let a = c.args in
+    let e = take-refused a.next a.held.now a.held_start a.held_length a.start a.segment.now
+    (rw (c.full.ensures, c.bad_sizes.ensures, c.early-begins.ensures, c.wide-n.ensures) at c.if-bad_sizes-begins.true) in
     record {
       refusal = ap (λ (h : resend.Held). h.refusal) (sym e);
       start = ap (λ (h : resend.Held). h.start) (sym e);
@@ -60,36 +60,36 @@ returns c =
 copy-requires : tie.Need-copy-requires
 copy-requires c κs = fits c.before
 
-cast-t20 : tie.Need-overflow-cast-t20
+cast-t20 : tie.Need-overflow_cast-result
 cast-t20 c =
     let t = c.before.before.before.before in
-    let a = t.before.before.before.before.before.before.before.before.args in
-    omega (arith, (kept-fits a.next a.held.now a.held_start a.held-length a.start a.segment.now (goes t.before) (begins t)).0)
+    let a = t.args in
+    omega (arith, (kept-fits a.next a.held.now a.held_start a.held_length a.start a.segment.now (goes t.before) (begins t)).0)
 
-same_length : tie.Need-same-length
+same_length : tie.Need-shape_of-held-then-begins
 same_length c = search rules
 
-returns-2 : tie.Need-returns-2
+returns-2 : tie.Need-returns-then-begins
 returns-2 c =
     let t = c.before.before.before.before in
-    let a = t.before.before.before.before.before.before.before.before.args in
-    let e = take-kept a.next a.held.now a.held_start a.held-length a.start a.segment.now (goes t.before) (begins t) in
+    let a = t.args in
+    let e = take-kept a.next a.held.now a.held_start a.held_length a.start a.segment.now (goes t.before) (begins t) in
     record {
       refusal = ap (λ (h : resend.Held). h.refusal) (sym e);
       start = ap (λ (h : resend.Held). h.start) (sym e);
       length = ap (λ (h : resend.Held). h.length) (sym e);
-      bytes = c.before.before.copy.ensures ∙ ap (λ (h : resend.Held). h.bytes) (sym e);
+      bytes = c.copy.ensures ∙ ap (λ (h : resend.Held). h.bytes) (sym e);
     }
 
-all-before-requires : tie.Need-all-before-requires
+all-before-requires : tie.Need-all_before-requires
 all-before-requires c κs = search rules
 
-returns-3 : tie.Need-returns-3
+returns-3 : tie.Need-returns-then-all_before
 returns-3 c =
     let t = c.before.before in
-    let a = t.before.before.before.before.before.before.before.before.args in
-    let f = rw t.before.before.before.before.before.wide.ensures at (sym c.before.all-before.ensures ∙ c.if3.true) in
-    let e = rw f at (take-other a.next a.held.now a.held_start a.held-length a.start a.segment.now (goes t.before) (stays t)) in
+    let a = t.args in
+    let f = rw t.wide-n.ensures at (sym c.all_before.ensures ∙ c.if-all_before.true) in
+    let e = rw f at (take-other a.next a.held.now a.held_start a.held_length a.start a.segment.now (goes t.before) (stays t)) in
     record {
       refusal = ap (λ (h : resend.Held). h.refusal) (sym e);
       start = ap (λ (h : resend.Held). h.start) (sym e);
@@ -97,12 +97,12 @@ returns-3 c =
       bytes = ap (λ (h : resend.Held). h.bytes) (sym e);
     }
 
-returns-4 : tie.Need-returns-4
+returns-4 : tie.Need-returns
 returns-4 c =
     let t = c.before.before in
-    let a = t.before.before.before.before.before.before.before.before.args in
-    let f = rw t.before.before.before.before.before.wide.ensures at (sym c.before.all-before.ensures ∙ c.if3.false) in
-    let e = rw f at (take-other a.next a.held.now a.held_start a.held-length a.start a.segment.now (goes t.before) (stays t)) in
+    let a = t.args in
+    let f = rw t.wide-n.ensures at (sym c.all_before.ensures ∙ c.if-all_before.false) in
+    let e = rw f at (take-other a.next a.held.now a.held_start a.held_length a.start a.segment.now (goes t.before) (stays t)) in
     record {
       refusal = ap (λ (h : resend.Held). h.refusal) (sym e);
       start = ap (λ (h : resend.Held). h.start) (sym e);

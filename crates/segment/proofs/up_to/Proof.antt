@@ -4,22 +4,22 @@ use Rattle.segment.specs.Resend.{up_to}
 use Rattle.segment.proofs.up_to.Statement.{statement}
 use Rattle.segment.proofs.up_to.Tie as tie
 
-ahead-requires : tie.Need-ahead-requires
+ahead-requires : tie.Need-ahead-begins-requires
 ahead-requires c κs = search rules
 
 distance-requires : tie.Need-distance-requires
 distance-requires c κs = search rules
 
-wide-requires : tie.Need-wide-requires
+wide-requires : tie.Need-wide-d-requires
 wide-requires c κs = search rules
 
-returns : tie.Need-returns
+returns : tie.Need-returns-then-n-begins
 unfolding up_to
-returns c = rw (← c.before.before.before.ahead.ensures, ← c.before.before.distance.ensures, ← c.before.wide.ensures, c.if1.true)
+returns c = rw (← c.ahead-begins.ensures, ← c.distance.ensures, ← c.wide-d.ensures, c.if-n-begins.true)
 
-returns-2 : tie.Need-returns-2
+returns-2 : tie.Need-returns
 unfolding up_to
-returns-2 c = rw (← c.before.before.before.ahead.ensures, ← c.before.before.distance.ensures, ← c.before.wide.ensures, c.if1.false)
+returns-2 c = rw (← c.ahead-begins.ensures, ← c.distance.ensures, ← c.wide-d.ensures, c.if-n-begins.false)
 
-pub up-to-spec : {M : Type 1} → statement M
-up-to-spec = tie.close (tie.spec ahead-requires distance-requires wide-requires returns returns-2)
+pub up_to_spec : {M : Type 1} → statement M
+up_to_spec = tie.close (tie.spec ahead-requires distance-requires wide-requires returns returns-2)

@@ -6,95 +6,74 @@ use Rattle.segment_feed.proofs.Hearing.{looks-off, looks-idle, looks-busy, fed-f
 use Rattle.segment_feed.proofs.look.Statement.{statement}
 use Rattle.segment_feed.proofs.look.Tie as tie
 
--- the ways back: from what is due to the taking, to the number and the offset, and to the entry
-abbrev took : tie.After-due → tie.After-take
-took c = c.before.before.before.before
+returns : tie.Need-returns-then-not-on
+returns c = looks-off _ _ _ _ _ _ (not-true _ c.if-not-on.true-raw)
 
-abbrev numbered : tie.After-due → tie.After-next-of
-numbered c = (took c).before.before
-
-abbrev placed : tie.After-due → tie.After-offset-of
-placed c = (numbered c).before
-
-abbrev follows : tie.After-due → tie.Else1
-follows c = (placed c).before.before
-
-abbrev entry : tie.After-due → tie.Start
-entry c = (follows c).before.before.before.before.before.before
-
-returns : tie.Need-returns
-returns c = looks-off _ _ _ _ _ _ (not-true _ c.if1.true)
-
-offset-of-requires : tie.Need-offset-of-requires
+offset-of-requires : tie.Need-offset_of-at-requires
 offset-of-requires c κs = search rules
 
-next-of-requires : tie.Need-next-of-requires
+next-of-requires : tie.Need-next_of-next-requires
 next-of-requires c κs = search rules
 
-take-requires : tie.Need-take-requires
+take-requires : tie.Need-take-taken-requires
 take-requires c κs = search rules
 
-due-requires : tie.Need-due-requires
+due-requires : tie.Need-due-due-requires
 due-requires c κs = search rules
 
 idle-requires : tie.Need-idle-requires
 idle-requires c κs = search rules
 
-same_length : tie.Need-same-length
+same_length : tie.Need-shape_of-flow-then-due-eq0
 same_length c = search rules
 
-same-length-2 : tie.Need-same-length-2
+same-length-2 : tie.Need-shape_of-held-then-due-eq0
 same-length-2 c = search rules
 
-returns-2 : tie.Need-returns-2
+returns-2 : tie.Need-returns-then-due-eq0
 returns-2 c = λ l k.
-    let d = c.before.before in
     rw c.idle.ensures
-    (looks-idle _ _ _ _ _ _ (not-false _ (follows d).if1.false) _ _ _ _ _ (placed d).offset-of.ensures (numbered d).next_of.ensures (took d).take.ensures d.due.ensures l k c.before.if2.true)
+    (looks-idle _ _ _ _ _ _ (not-false _ c.if-not-on.false-raw) _ _ _ _ _ c.offset_of-at.ensures c.next_of-next.ensures c.take-taken.ensures c.due-due.ensures l k c.if-due-eq0.true)
 
-mul-w : tie.Need-overflow-mul-w
-mul-w c = let e = entry c.before.before in omega (arith, e.pre.0, e.good.1.1.1.1.1.1.1.0.0)
+mul-w : tie.Need-overflow_mul-w
+mul-w c = let e = c in omega (arith, e.requires.0, e.well_formed.1.1.1.1.1.1.1.0.0)
 
-mul-feed : tie.Need-overflow-mul-feed
+mul-feed : tie.Need-offset_bounds-pairs-w
 mul-feed c =
-    let e = entry c.before.before.before in
-    let words = e.good.1.1.1.1.1.1.1.0 in omega (arith, e.pre.0)
+    let e = c in
+    let words = e.well_formed.1.1.1.1.1.1.1.0 in omega (arith, e.requires.0)
 
-sub-feed : tie.Need-overflow-sub-feed
-sub-feed c = omega (arith, (entry c.before.before.before).requires.0)
+sub-feed : tie.Need-slice_bounds-feed-count
+sub-feed c = omega (arith, c.requires.0)
 
-part-feed-start : tie.Need-slice-bounds-feed-start
-part-feed-start c = omega (arith, (entry c.before.before.before).requires.0)
+part-feed-start : tie.Need-slice_bounds-feed-start
+part-feed-start c = omega (arith, c.requires.0)
 
-part-feed-end : tie.Need-slice-bounds-feed-end
+part-feed-end : tie.Need-slice_bounds-feed-end
 part-feed-end c = search rules
 
-feed-requires : tie.Need-feed-requires
+feed-requires : tie.Need-feed-fed-requires
 feed-requires c κs = search rules
 
 busy-requires : tie.Need-busy-requires
 busy-requires c κs =
-    let fed = c.before.before.before.before in
-    let d = fed.before.before.before.before.before in
-    let a = (entry d).args in
-    let f = fed-few (plain_way a.list.now) a.so a.pairs.now a.flow.now _ _ _ _ _ _ _ _ (entry d).requires d.due.ensures _ _ _ fed.feed.ensures in (omega (arith, f.0), omega (arith, f.1, (entry d).well-formed.1.1.1.1.1.1.1.0.0))
+    let a = c.args in
+    let f = fed-few (plain_way a.list.now) a.so a.pairs.now a.flow.now _ _ _ _ _ _ _ _ c.requires c.due-due.ensures _ _ _ c.feed-fed.ensures in (omega (arith, f.0), omega (arith, f.1, c.well_formed.1.1.1.1.1.1.1.0.0))
 
-same-length-3 : tie.Need-same-length-3
+same-length-3 : tie.Need-shape_of-flow
 same-length-3 c = search rules
 
-same-length-4 : tie.Need-same-length-4
+same-length-4 : tie.Need-shape_of-held
 same-length-4 c = search rules
 
-same-length-5 : tie.Need-same-length-5
+same-length-5 : tie.Need-shape_of-pairs
 same-length-5 c = search rules
 
-returns-3 : tie.Need-returns-3
+returns-3 : tie.Need-returns
 returns-3 c = λ l k.
-    let fed = c.before.before.before.before.before in
-    let d = fed.before.before.before.before.before in
     rw c.busy.ensures
-    (looks-busy _ _ _ _ _ _ (not-false _ (follows d).if1.false) _ _ _ _ _ (placed d).offset-of.ensures (numbered d).next_of.ensures (took d).take.ensures d.due.ensures l k
-    (entry d).requires.0 _ _ _ fed.feed.ensures fed.before.before.before.before.if2.false)
+    (looks-busy _ _ _ _ _ _ (not-false _ c.if-not-on.false-raw) _ _ _ _ _ c.offset_of-at.ensures c.next_of-next.ensures c.take-taken.ensures c.due-due.ensures l k
+    c.requires.0 _ _ _ c.feed-fed.ensures c.if-due-eq0.false)
 
 pub look_spec : {M : Type 1} → statement M
 look_spec =
