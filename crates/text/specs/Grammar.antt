@@ -2,7 +2,7 @@
 use Rattle.std.specs.Prelude.{ℕ, zero, suc, ◌+◌, ◌-◌, ◌*◌, ◌<◌, ◌≡◌, Bool, true, false, ◌&&◌, ◌||◌, not, cond, List, [], ◌∷◌, ◌++◌, ◌⊎◌, length, get_or, leb, eqb}
 use Rattle.text.specs.Exp.{Exp, one, eps, cat, alt, plus, opt, times}
 
--- a byte that stands for itself; \x_hh with its two digits as written; \n
+-- a byte that stands for itself; \xHH with its two digits as written; \n
 pub data Single : Type 0 where
   plain : ℕ → Single
   hex : ℕ → ℕ → Single

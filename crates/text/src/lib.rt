@@ -1,5 +1,7 @@
 // Signature text: its grammar, the byte strings that it stands for, its position automaton and that automaton's list, as definitions and laws; and what
 // every reader of a text asks of a byte.
+#![tactic(auto)]
+
 ghost use Rattle.std.specs.Prelude.{◌≡◌, ◌-◌, ◌<◌};
 ghost use Rattle.text.specs.Grammar.{is_digit, hex_value};
 

@@ -1,4 +1,6 @@
 // The byte set of a leaf of a good text, and how many longest runs of bytes a set has.
+#![tactic(auto)]
+
 ghost use Rattle.std.specs.Prelude.{◌≡◌, true, false, ◌&&◌, ◌||◌, List, ◌∷◌, ◌++◌, ℕ, ◌≤◌, ◌<◌, ◌+◌, ◌-◌, eqb, length, drop, get_or};
 ghost use Rattle.text.specs.Records.{runs};
 ghost use Rattle.text.specs.inner.Heads.{head_of};
@@ -9,14 +11,14 @@ use sets::ByteSet;
 use sets_words::{next_byte, others, span};
 
 // A single byte's value, and the place after it.
-#[derive(Drop)]
+#[derive(Clone, Copy)]
 struct One {
     value: usize,
     next: usize,
 }
 
 // A set with a member's bytes added, and the place after the member.
-#[derive(Drop)]
+#[derive(Clone, Copy)]
 struct Added {
     set: ByteSet,
     next: usize,

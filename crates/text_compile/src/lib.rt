@@ -1,4 +1,6 @@
 // From signature text to a list.
+#![tactic(auto)]
+
 ghost use Rattle.std.specs.Prelude.{◌≡◌, true, cond, ℕ, suc, ◌≤◌, ◌<◌, ◌+◌, ◌*◌, length, List};
 ghost use Rattle.sets.specs.Set.{states, set_of, byte_set_of, holds, insert};
 ghost use Rattle.text.specs.Exp.{size};
@@ -17,7 +19,7 @@ use text_records::{put_arrows, put_ends, put_in, sort, start_record, weigh};
 use text_walk::Shape;
 
 // What compiling answers: a refusal's number or 0, the place of 19, and the length of the list.
-#[derive(Drop)]
+#[derive(Clone, Copy)]
 pub struct Compiled {
     pub refusal: u32,
     pub place: usize,
@@ -25,7 +27,7 @@ pub struct Compiled {
 }
 
 // The states that the edges to a state leave, and the bytes that they are taken on.
-#[derive(Drop)]
+#[derive(Clone, Copy)]
 struct Incoming {
     from: StateSet,
     letter: ByteSet,

@@ -1,19 +1,21 @@
 // Leaves and marks of a good text: where a leaf ends, which mark stands behind an item, and its numbers; and groups that are repeated no times,
 // which are passed over.
+#![tactic(auto)]
+
 ghost use Rattle.std.specs.Prelude.{◌≡◌, true, false, List, ◌∷◌, ◌++◌, ℕ, ◌≤◌, ◌<◌, ◌+◌, ◌*◌, ◌-◌, length, drop};
 ghost use Rattle.text.specs.Grammar.{Leaf, Mark, Body, ok_leaf, ok_mark, ok_body, spell_leaf, spell_mark, reads, is_digit, all_digits, number_from};
 ghost use Rattle.text.specs.inner.Heads.{Calm, Stop};
 ghost use Rattle.text_marks.specs.inner.Marks.{Atom, ok_atom, atom_then, mark_kind, most_of, Marks, without};
 
 // A number and the place after it.
-#[derive(Drop)]
+#[derive(Clone, Copy)]
 struct Figure {
     value: usize,
     next: usize,
 }
 
 // A mark: 0 for none, 1 for `*`, 2 for `+`, 3 for `?`, 4 for a repeat with its numbers; and the place after it.
-#[derive(Drop)]
+#[derive(Clone, Copy)]
 pub struct Times {
     pub kind: u64,
     pub least: usize,

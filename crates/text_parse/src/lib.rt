@@ -1,12 +1,14 @@
 // The parser of signature text. What stands inside an item is read byte by byte, by a mode; alternatives, sequences and items
 // call one another, with remaining length falling.
+#![tactic(auto)]
+
 ghost use Rattle.std.specs.Prelude.{◌≡◌, true, false, cond, ℕ, ◌≤◌, ◌<◌, ◌+◌, ◌*◌, ◌-◌, length, drop, get_or, eqb};
 ghost use Rattle.text.specs.Grammar.{amid, special, class_special, is_hex};
 ghost use Rattle.text.specs.Acceptor.{begin, fresh, after, esc, lone1, cesc, chex2, to, tesc, thex1, thex2, num, live, can, members, mode, verdict};
 ghost use Rattle.text_parse.specs.inner.Went.{state_of, mode_of, kind_of, pick, counted, Within, went, Ahead, Pauses, Halts, answer};
 
 // What may come next inside a class or an escape: nothing; the item is over; or what stands between.
-#[derive(Drop)]
+#[derive(Clone, Copy)]
 pub enum Inner {
     Dead,
     After,
@@ -27,14 +29,14 @@ pub enum Inner {
 }
 
 // A number of a repeat with the place after its end; or where it is bad.
-#[derive(Drop)]
+#[derive(Clone, Copy)]
 pub enum Count {
     Is(usize, usize),
     Not(usize),
 }
 
 // How far a part of the text goes: up to a place, or it is bad at a place, or a seventeenth bracket opens.
-#[derive(Drop)]
+#[derive(Clone, Copy)]
 pub enum Went {
     On(usize),
     Bad(usize),
@@ -42,7 +44,7 @@ pub enum Went {
 }
 
 // A text fits; or it is bad at a place; or a seventeenth bracket opens.
-#[derive(Drop)]
+#[derive(Clone, Copy)]
 pub enum Parsed {
     Good,
     Bad(usize),

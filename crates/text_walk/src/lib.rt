@@ -1,6 +1,8 @@
 // The second pass over a good text, in one walk: how many positions a part has, whether it can be empty, which states may begin it and which may
 // end it; and, in a lent work place, for each state the states that it may come after and the bytes that lead to it. A repeat is not read again:
 // its rows are written again, further on.
+#![tactic(auto)]
+
 ghost use Rattle.std.specs.Prelude.{◌≡◌, true, false, cond, ℕ, ◌≤◌, ◌<◌, ◌+◌, ◌*◌, ◌-◌, length, drop, List, ◌++◌};
 ghost use Rattle.sets.specs.Set.{states, set_of, byte_set_of};
 ghost use Rattle.text.specs.Exp.{Exp, eps, cat, opt, times, size};
@@ -21,7 +23,7 @@ pub const ROW: usize = sets::BYTES + sets::BYTE_SET_BYTES;
 // Bytes of the work place.
 pub const ROWS: usize = ROW * sets::STATES;
 
-#[derive(Drop)]
+#[derive(Clone, Copy)]
 pub struct Shape {
     pub size: usize,
     pub null: bool,
@@ -30,7 +32,7 @@ pub struct Shape {
 }
 
 // A part of the text: where it ends, and its shape.
-#[derive(Drop)]
+#[derive(Clone, Copy)]
 pub struct Part {
     pub next: usize,
     pub shape: Shape,

@@ -9,22 +9,22 @@ use Rattle.sets.specs.Set.{states, set_words, byte_words, insert, holds}
 use Rattle.text_compile.proofs.any_arrows.Statement.{statement}
 use Rattle.text_compile.proofs.any_arrows.Tie as tie
 
-span-requires : tie.Need-span-requires
+span-requires : tie.Need-span-letter-requires
 span-requires c κs = search rules
 
-returns : tie.Need-returns
+returns : tie.Need-returns-then-bound
 returns c =
-    (rw c.if1.true (empty-words set_words), λ b h. c.before.span.ensures b h ∙ all-bytes (holds (num 64 (replicate byte_words 0)) b) b h)
+    (rw c.if-bound.true (empty-words set_words), λ b h. c.span-letter.ensures b h ∙ all-bytes (holds (num 64 (replicate byte_words 0)) b) b h)
 
 with-requires : tie.Need-with-requires
 with-requires c κs = search rules
 
-returns-2 : tie.Need-returns-2
+returns-2 : tie.Need-returns
 returns-2 c =
-    (rw c.before.if1.false (c.with.ensures ∙ ap (λ z. insert states z 0) (empty-words set_words)), λ b h. c.before.before.span.ensures b h ∙ all-bytes (holds (num 64 (replicate byte_words 0)) b) b h)
+    (rw c.if-bound.false (c.with.ensures ∙ ap (λ z. insert states z 0) (empty-words set_words)), λ b h. c.span-letter.ensures b h ∙ all-bytes (holds (num 64 (replicate byte_words 0)) b) b h)
 
-pub any-arrows-spec : {M : Type 1} → statement M
-any-arrows-spec =
+pub any_arrows_spec : {M : Type 1} → statement M
+any_arrows_spec =
     tie.close
     (tie.spec
     span-requires

@@ -10,18 +10,18 @@ use Rattle.text_compile.proofs.ends_of.Tie as tie
 with-requires : tie.Need-with-requires
 with-requires c κs = search rules
 
-returns : tie.Need-returns
+returns : tie.Need-returns-then-shape
 returns c =
-    let r = c.before.before.before.args.shape in
-    λ R x s few. (ends-null R (exp_of x) r (set_of c.with.result) s few c.before.if1.true c.with.ensures, below-with (set_of r.last) (set_of c.with.result) (size (exp_of x)) c.with.ensures (ends-below R (exp_of x) r s few))
+    let r = c.args.shape in
+    λ R x s few. (ends-null R (exp_of x) r (set_of c.with.result) s few c.if-shape.true c.with.ensures, below-with (set_of r.last) (set_of c.with.result) (size (exp_of x)) c.with.ensures (ends-below R (exp_of x) r s few))
 
-returns-2 : tie.Need-returns-2
+returns-2 : tie.Need-returns
 returns-2 c =
-    let r = c.before.before.args.shape in
-    λ R x s few. (ends_some R (exp_of x) r s few c.if1.false, ends-below R (exp_of x) r s few)
+    let r = c.args.shape in
+    λ R x s few. (ends_some R (exp_of x) r s few c.if-shape.false, ends-below R (exp_of x) r s few)
 
-pub ends-of-spec : {M : Type 1} → statement M
-ends-of-spec =
+pub ends_of_spec : {M : Type 1} → statement M
+ends_of_spec =
     tie.close
     (tie.spec
     with-requires

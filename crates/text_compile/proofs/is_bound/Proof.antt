@@ -5,19 +5,19 @@ use Rattle.text_compile.proofs.Listing.{bound-front, bound-empty}
 use Rattle.text_compile.proofs.is_bound.Statement.{statement}
 use Rattle.text_compile.proofs.is_bound.Tie as tie
 
-shared-slice-read-result : tie.Need-shared-slice-read-result
+shared-slice-read-result : tie.Need-bounds-text-0
 shared-slice-read-result c = search rules
 
-returns : tie.Need-returns
+returns : tie.Need-returns-then-text-gt0
 returns c =
-    λ x ok e. bound-front x c.before.before.args.text.now ok e (omega (arith, c.before.if1.true))
+    λ x ok e. bound-front x c.args.text.now ok e (omega (arith, c.if-text-gt0.true))
 
-returns-2 : tie.Need-returns-2
+returns-2 : tie.Need-returns
 returns-2 c =
-    λ x ok e. bound-empty x c.before.args.text.now e (omega (arith, c.if1.false))
+    λ x ok e. bound-empty x c.args.text.now e (omega (arith, c.if-text-gt0.false))
 
-pub is-bound-spec : {M : Type 1} → statement M
-is-bound-spec =
+pub is_bound_spec : {M : Type 1} → statement M
+is_bound_spec =
     tie.close
     (tie.spec
     shared-slice-read-result

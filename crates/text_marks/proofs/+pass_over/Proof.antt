@@ -32,13 +32,13 @@ abbrev pass-over-below : ℕ → In 1 pass-over-kinds.ps
 pass-over-below t =
     and 1 pass-over-kinds.ps (falls 1 pass-over-kinds.ps ◌<◌ μ-pass-over t) pass-over.Pre
 
-abbrev pass-over-Inv-loop : pass-over-lts.invariant-loop
+abbrev pass-over-Inv-loop : pass-over-lts.invariant-loop-next
 pass-over-Inv-loop text at next₀ next = (at ≤ next) × (next ≤ length text) × ((b : Body) (x : List ℕ) → ok_body b ≡ true → Stop x → drop at text ≡ reads b ++ x → Ahead text x next)
 
-abbrev pass-over-μ-loop : pass-over-lts.decreases-loop
+abbrev pass-over-μ-loop : pass-over-lts.decreases-loop-next
 pass-over-μ-loop text at next₀ next = length text - next
 
-pass-over-loop-holds : (t : ℕ) → pass-over-lts.Need-loop-init (
+pass-over-loop-holds : (t : ℕ) → pass-over-lts.Need-loop-next-init (
   pass-over-below t,
   pass-over.Post,
   past-reads.Asked,
@@ -48,9 +48,9 @@ pass-over-loop-holds : (t : ℕ) → pass-over-lts.Need-loop-init (
   leaf-end-reads.Asked,
   leaf-end-reads.Learnt,
 ) (pass-over-at t) pass-over.Post pass-over-Inv-loop pass-over-μ-loop
-pass-over-loop-holds t c = (omega arith, omega (arith, c.before.requires.1), λ b x ok st e. (b, ok, e))
+pass-over-loop-holds t c = (omega arith, omega (arith, c.requires.1), λ b x ok st e. (b, ok, e))
 
-pass-over-shared-slice-read-c : (t : ℕ) → pass-over-lts.Need-shared-slice-read-c (
+pass-over-shared-slice-read-c : (t : ℕ) → pass-over-lts.Need-bounds-text-next (
   pass-over-below t,
   pass-over.Post,
   past-reads.Asked,
@@ -62,7 +62,7 @@ pass-over-shared-slice-read-c : (t : ℕ) → pass-over-lts.Need-shared-slice-re
 ) (pass-over-at t) pass-over.Post pass-over-Inv-loop pass-over-μ-loop
 pass-over-shared-slice-read-c t c = search rules
 
-pass-over-returns : (t : ℕ) → pass-over-lts.Need-returns (
+pass-over-returns : (t : ℕ) → pass-over-lts.Need-returns-then-c-eq41 (
   pass-over-below t,
   pass-over.Post,
   past-reads.Asked,
@@ -73,11 +73,11 @@ pass-over-returns : (t : ℕ) → pass-over-lts.Need-returns (
   leaf-end-reads.Learnt,
 ) (pass-over-at t) pass-over.Post pass-over-Inv-loop pass-over-μ-loop
 pass-over-returns t c =
-    let T = c.before.before.before.before.before.args.text.now in
-    let l = c.before.before.before.loop in
-    (l.invariant.0, l.invariant.1, λ b x ok st e. pass-stop T l.next x st c.before.before.loop-test.true c.if1.true (l.invariant.2 b x ok st e))
+    let T = c.args.text.now in
+    let l = c.loop-next in
+    (l.invariant.0, l.invariant.1, λ b x ok st e. pass-stop T l.next x st c.loop-next-test.true c.if-c-eq41.true (l.invariant.2 b x ok st e))
 
-pass-over-add-next : (t : ℕ) → pass-over-lts.Need-overflow-add-next (
+pass-over-add-next : (t : ℕ) → pass-over-lts.Need-overflow_add-next (
   pass-over-below t,
   pass-over.Post,
   past-reads.Asked,
@@ -89,7 +89,7 @@ pass-over-add-next : (t : ℕ) → pass-over-lts.Need-overflow-add-next (
 ) (pass-over-at t) pass-over.Post pass-over-Inv-loop pass-over-μ-loop
 pass-over-add-next t c = search rules
 
-pass-over-loop-less : (t : ℕ) → pass-over-lts.Need-loop-smaller (
+pass-over-loop-less : (t : ℕ) → pass-over-lts.Need-loop-next-smaller-then-c-eq124 (
   pass-over-below t,
   pass-over.Post,
   past-reads.Asked,
@@ -101,7 +101,7 @@ pass-over-loop-less : (t : ℕ) → pass-over-lts.Need-loop-smaller (
 ) (pass-over-at t) pass-over.Post pass-over-Inv-loop pass-over-μ-loop
 pass-over-loop-less t c = search rules
 
-pass-over-loop-again : (t : ℕ) → pass-over-lts.Need-loop-preserved (
+pass-over-loop-again : (t : ℕ) → pass-over-lts.Need-loop-next-preserved-then-c-eq124 (
   pass-over-below t,
   pass-over.Post,
   past-reads.Asked,
@@ -112,11 +112,11 @@ pass-over-loop-again : (t : ℕ) → pass-over-lts.Need-loop-preserved (
   leaf-end-reads.Learnt,
 ) (pass-over-at t) pass-over.Post pass-over-Inv-loop pass-over-μ-loop
 pass-over-loop-again t c =
-    let T = c.before.before.before.before.before.before.args.text.now in
-    let l = c.before.before.before.before.loop in
-    (omega (arith, l.invariant.0), omega (arith, c.before.before.before.loop-test.true), λ b x ok st e. pass-bar T l.next x st c.before.before.before.loop-test.true c.if2.true (l.invariant.2 b x ok st e))
+    let T = c.args.text.now in
+    let l = c.loop-next in
+    (omega (arith, l.invariant.0), omega (arith, c.loop-next-test.true), λ b x ok st e. pass-bar T l.next x st c.loop-next-test.true c.if-c-eq124.true (l.invariant.2 b x ok st e))
 
-pass-over-add-pass-over : (t : ℕ) → pass-over-lts.Need-overflow-add-pass-over (
+pass-over-add-pass-over : (t : ℕ) → pass-over-lts.Need-overflow_add-next-then-c-eq40 (
   pass-over-below t,
   pass-over.Post,
   past-reads.Asked,
@@ -128,7 +128,7 @@ pass-over-add-pass-over : (t : ℕ) → pass-over-lts.Need-overflow-add-pass-ove
 ) (pass-over-at t) pass-over.Post pass-over-Inv-loop pass-over-μ-loop
 pass-over-add-pass-over t c = search rules
 
-pass-over-pass-over-requires : (t : ℕ) → pass-over-lts.Need-pass-over-requires (
+pass-over-pass-over-requires : (t : ℕ) → pass-over-lts.Need-pass_over-inner-requires (
   pass-over-below t,
   pass-over.Post,
   past-reads.Asked,
@@ -138,7 +138,7 @@ pass-over-pass-over-requires : (t : ℕ) → pass-over-lts.Need-pass-over-requir
   leaf-end-reads.Asked,
   leaf-end-reads.Learnt,
 ) (pass-over-at t) pass-over.Post pass-over-Inv-loop pass-over-μ-loop
-pass-over-pass-over-requires t c κs = (omega (arith, c.before.before.before.before.before.before.before.requires.0, c.before.before.before.before.before.loop.invariant.0, c.before.before.before.before.loop-test.true), omega (arith, c.before.before.before.before.loop-test.true))
+pass-over-pass-over-requires t c κs = (omega (arith, c.requires.0, c.loop-next.invariant.0, c.loop-next-test.true), omega (arith, c.loop-next-test.true))
 
 pass-over-past-requires : (t : ℕ) → pass-over-lts.Need-past-requires (
   pass-over-below t,
@@ -152,7 +152,7 @@ pass-over-past-requires : (t : ℕ) → pass-over-lts.Need-past-requires (
 ) (pass-over-at t) pass-over.Post pass-over-Inv-loop pass-over-μ-loop
 pass-over-past-requires t c κs = search rules
 
-pass-over-mark-of-requires : (t : ℕ) → pass-over-lts.Need-mark-of-requires (
+pass-over-mark-of-requires : (t : ℕ) → pass-over-lts.Need-mark_of-mark-requires (
   pass-over-below t,
   pass-over.Post,
   past-reads.Asked,
@@ -162,9 +162,9 @@ pass-over-mark-of-requires : (t : ℕ) → pass-over-lts.Need-mark-of-requires (
   leaf-end-reads.Asked,
   leaf-end-reads.Learnt,
 ) (pass-over-at t) pass-over.Post pass-over-Inv-loop pass-over-μ-loop
-pass-over-mark-of-requires t c κs = omega (arith, c.past.ensures.1 c.before.pass-over.ensures.1)
+pass-over-mark-of-requires t c κs = omega (arith, c.past.ensures.1 c.pass_over-inner.ensures.1)
 
-pass-over-loop-less-2 : (t : ℕ) → pass-over-lts.Need-loop-smaller-2 (
+pass-over-loop-less-2 : (t : ℕ) → pass-over-lts.Need-loop-next-smaller-then-c-eq40 (
   pass-over-below t,
   pass-over.Post,
   past-reads.Asked,
@@ -174,9 +174,9 @@ pass-over-loop-less-2 : (t : ℕ) → pass-over-lts.Need-loop-smaller-2 (
   leaf-end-reads.Asked,
   leaf-end-reads.Learnt,
 ) (pass-over-at t) pass-over.Post pass-over-Inv-loop pass-over-μ-loop
-pass-over-loop-less-2 t c = omega (arith, c.mark_of.ensures.0, c.before.past.ensures.0, c.before.before.pass-over.ensures.0, c.before.before.before.before.before.before.before.loop-test.true)
+pass-over-loop-less-2 t c = omega (arith, c.mark_of-mark.ensures.0, c.past.ensures.0, c.pass_over-inner.ensures.0, c.loop-next-test.true)
 
-pass-over-loop-again-2 : (t : ℕ) → pass-over-lts.Need-loop-preserved-2 (
+pass-over-loop-again-2 : (t : ℕ) → pass-over-lts.Need-loop-next-preserved-then-c-eq40 (
   pass-over-below t,
   pass-over.Post,
   past-reads.Asked,
@@ -187,15 +187,15 @@ pass-over-loop-again-2 : (t : ℕ) → pass-over-lts.Need-loop-preserved-2 (
   leaf-end-reads.Learnt,
 ) (pass-over-at t) pass-over.Post pass-over-Inv-loop pass-over-μ-loop
 pass-over-loop-again-2 t c =
-    let T = c.before.before.before.before.before.before.before.before.before.before.args.text.now in
-    let l = c.before.before.before.before.before.before.before.before.loop in
-    let t = c.before.before.before.before.before.before.before.loop-test.true in
-    let i = c.before.before.pass-over in
-    let p = c.before.past in
-    let m = c.mark_of in
-    (omega (arith, l.invariant.0, i.ensures.0, p.ensures.0, m.ensures.0), m.ensures.1, λ b x ok st e. pass-group T l.next x st i.result p.result m.result t c.before.before.before.if3.true i.ensures.2 p.ensures.2 m.ensures.4 (l.invariant.2 b x ok st e))
+    let T = c.args.text.now in
+    let l = c.loop-next in
+    let t = c.loop-next-test.true in
+    let i = c.pass_over-inner in
+    let p = c.past in
+    let m = c.mark_of-mark in
+    (omega (arith, l.invariant.0, i.ensures.0, p.ensures.0, m.ensures.0), m.ensures.1, λ b x ok st e. pass-group T l.next x st i.result p.result m.result t c.if-c-eq40.true i.ensures.2 p.ensures.2 m.ensures.4 (l.invariant.2 b x ok st e))
 
-pass-over-leaf-end-requires : (t : ℕ) → pass-over-lts.Need-leaf-end-requires (
+pass-over-leaf-end-requires : (t : ℕ) → pass-over-lts.Need-leaf_end-requires (
   pass-over-below t,
   pass-over.Post,
   past-reads.Asked,
@@ -207,7 +207,7 @@ pass-over-leaf-end-requires : (t : ℕ) → pass-over-lts.Need-leaf-end-requires
 ) (pass-over-at t) pass-over.Post pass-over-Inv-loop pass-over-μ-loop
 pass-over-leaf-end-requires t c κs = search rules
 
-pass-over-mark-of-requires-2 : (t : ℕ) → pass-over-lts.Need-mark-of-requires-2 (
+pass-over-mark-of-requires-2 : (t : ℕ) → pass-over-lts.Need-mark_of-mark-requires-else-c-eq40 (
   pass-over-below t,
   pass-over.Post,
   past-reads.Asked,
@@ -217,9 +217,9 @@ pass-over-mark-of-requires-2 : (t : ℕ) → pass-over-lts.Need-mark-of-requires
   leaf-end-reads.Asked,
   leaf-end-reads.Learnt,
 ) (pass-over-at t) pass-over.Post pass-over-Inv-loop pass-over-μ-loop
-pass-over-mark-of-requires-2 t c κs = c.leaf-end.ensures.1
+pass-over-mark-of-requires-2 t c κs = c.leaf_end.ensures.1
 
-pass-over-loop-less-3 : (t : ℕ) → pass-over-lts.Need-loop-smaller-3 (
+pass-over-loop-less-3 : (t : ℕ) → pass-over-lts.Need-loop-next-smaller (
   pass-over-below t,
   pass-over.Post,
   past-reads.Asked,
@@ -229,9 +229,9 @@ pass-over-loop-less-3 : (t : ℕ) → pass-over-lts.Need-loop-smaller-3 (
   leaf-end-reads.Asked,
   leaf-end-reads.Learnt,
 ) (pass-over-at t) pass-over.Post pass-over-Inv-loop pass-over-μ-loop
-pass-over-loop-less-3 t c = omega (arith, c.mark-of2.ensures.0, c.before.leaf-end.ensures.0, c.before.before.before.before.before.before.loop-test.true)
+pass-over-loop-less-3 t c = omega (arith, c.mark_of-mark-else-c-eq40.ensures.0, c.leaf_end.ensures.0, c.loop-next-test.true)
 
-pass-over-loop-again-3 : (t : ℕ) → pass-over-lts.Need-loop-preserved-3 (
+pass-over-loop-again-3 : (t : ℕ) → pass-over-lts.Need-loop-next-preserved (
   pass-over-below t,
   pass-over.Post,
   past-reads.Asked,
@@ -242,14 +242,14 @@ pass-over-loop-again-3 : (t : ℕ) → pass-over-lts.Need-loop-preserved-3 (
   leaf-end-reads.Learnt,
 ) (pass-over-at t) pass-over.Post pass-over-Inv-loop pass-over-μ-loop
 pass-over-loop-again-3 t c =
-    let T = c.before.before.before.before.before.before.before.before.before.args.text.now in
-    let l = c.before.before.before.before.before.before.before.loop in
-    let t = c.before.before.before.before.before.before.loop-test.true in
-    let i = c.before.leaf-end in
-    let m = c.mark-of2 in
-    (omega (arith, l.invariant.0, i.ensures.0, m.ensures.0), m.ensures.1, λ b x ok st e. pass-leaf T l.next x st i.result m.result t (λ z. c.before.before.before.before.if1.false z) (λ z. c.before.before.before.if2.false z) (λ z. c.before.before.if3.false z) i.ensures.2 m.ensures.4 (l.invariant.2 b x ok st e))
+    let T = c.args.text.now in
+    let l = c.loop-next in
+    let t = c.loop-next-test.true in
+    let i = c.leaf_end in
+    let m = c.mark_of-mark-else-c-eq40 in
+    (omega (arith, l.invariant.0, i.ensures.0, m.ensures.0), m.ensures.1, λ b x ok st e. pass-leaf T l.next x st i.result m.result t (λ z. c.if-c-eq41.false z) (λ z. c.if-c-eq124.false z) (λ z. c.if-c-eq40.false z) i.ensures.2 m.ensures.4 (l.invariant.2 b x ok st e))
 
-pass-over-returns-2 : (t : ℕ) → pass-over-lts.Need-returns-2 (
+pass-over-returns-2 : (t : ℕ) → pass-over-lts.Need-returns (
   pass-over-below t,
   pass-over.Post,
   past-reads.Asked,
@@ -260,12 +260,12 @@ pass-over-returns-2 : (t : ℕ) → pass-over-lts.Need-returns-2 (
   leaf-end-reads.Learnt,
 ) (pass-over-at t) pass-over.Post pass-over-Inv-loop pass-over-μ-loop
 pass-over-returns-2 t c =
-    let T = c.before.before.before.args.text.now in
-    let l = c.before.loop in
-    (l.invariant.0, l.invariant.1, λ b x ok st e. pass-gone T l.next x st (omega (arith, c.loop-test.false)) (l.invariant.2 b x ok st e))
+    let T = c.args.text.now in
+    let l = c.loop-next in
+    (l.invariant.0, l.invariant.1, λ b x ok st e. pass-gone T l.next x st (omega (arith, c.loop-next-test.false)) (l.invariant.2 b x ok st e))
 
-pub +pass-over-spec : {M : Type 1} → statement M
-+pass-over-spec = close μ-pass-over λ t. pass-over-lts.spec (
+pub +pass_over_spec : {M : Type 1} → statement M
++pass_over_spec = close μ-pass-over λ t. pass-over-lts.spec (
   pass-over-below t,
   pass-over.Post,
   past-reads.Asked,

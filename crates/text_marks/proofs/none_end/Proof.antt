@@ -7,40 +7,40 @@ use Rattle.text_marks.proofs.Passing.{none-at}
 use Rattle.text_marks.proofs.none_end.Statement.{statement}
 use Rattle.text_marks.proofs.none_end.Tie as tie
 
-shared-slice-read-if1 : tie.Need-shared-slice-read-if1
+shared-slice-read-if1 : tie.Need-bounds-text-at
 shared-slice-read-if1 c = search rules
 
-add-pass-over : tie.Need-overflow-add-pass-over
+add-pass-over : tie.Need-overflow_add-at
 add-pass-over c = search rules
 
-pass-over-requires : tie.Need-pass-over-requires
+pass-over-requires : tie.Need-pass_over-inner-requires
 pass-over-requires c κs = search rules
 
 past-requires : tie.Need-past-requires
 past-requires c κs = search rules
 
-mark-of-requires : tie.Need-mark-of-requires
-mark-of-requires c κs = c.past.ensures.1 c.before.pass-over.ensures.1
+mark-of-requires : tie.Need-mark_of-mark-requires
+mark-of-requires c κs = c.past.ensures.1 c.pass_over-inner.ensures.1
 
-returns : tie.Need-returns
+returns : tie.Need-returns-then-mark-eq0
 returns c =
-    let T = c.before.before.before.before.before.before.before.before.before.before.args.text.now in
-    let i = c.before.before.before.before.before.before.pass-over in
-    let p = c.before.before.before.before.before.past in
-    let m = c.before.before.before.before.mark_of in
-    (omega (arith, i.ensures.0, p.ensures.0, m.ensures.0), m.ensures.1, λ z. none-at T c.before.before.before.before.before.before.before.before.before.before.args.at i.result p.result m.result c.before.before.before.before.before.before.before.before.before.before.requires c.before.before.before.before.before.before.before.if1.true i.ensures.2 p.ensures.2 m.ensures.4 c.before.before.if2.true c.if3.true)
+    let T = c.args.text.now in
+    let i = c.pass_over-inner in
+    let p = c.past in
+    let m = c.mark_of-mark in
+    (omega (arith, i.ensures.0, p.ensures.0, m.ensures.0), m.ensures.1, λ z. none-at T c.args.at i.result p.result m.result c.requires c.if-text-at-eq40.true i.ensures.2 p.ensures.2 m.ensures.4 c.if-mark-eq4.true c.if-mark-eq0.true)
 
-returns-2 : tie.Need-returns-2
-returns-2 c = (omega arith, omega (arith, c.before.before.before.before.before.before.before.before.before.before.requires), λ z. absurd (omega arith))
+returns-2 : tie.Need-returns-else-mark-eq0
+returns-2 c = (omega arith, omega (arith, c.requires), λ z. absurd (omega arith))
 
-returns-3 : tie.Need-returns-3
-returns-3 c = (omega arith, omega (arith, c.before.before.before.before.before.before.before.before.requires), λ z. absurd (omega arith))
+returns-3 : tie.Need-returns-else-mark-eq4
+returns-3 c = (omega arith, omega (arith, c.requires), λ z. absurd (omega arith))
 
-returns-4 : tie.Need-returns-4
-returns-4 c = (omega arith, omega (arith, c.before.before.before.requires), λ z. absurd (omega arith))
+returns-4 : tie.Need-returns-else-text-at-eq40
+returns-4 c = (omega arith, omega (arith, c.requires), λ z. absurd (omega arith))
 
-pub none-end-spec : {M : Type 1} → statement M
-none-end-spec =
+pub none_end_spec : {M : Type 1} → statement M
+none_end_spec =
     tie.close
     (tie.spec
     shared-slice-read-if1

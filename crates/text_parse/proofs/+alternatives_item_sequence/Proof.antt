@@ -62,31 +62,31 @@ abbrev sequence-below : ℕ → In 1 sequence-kinds.ps
 sequence-below t =
     and 1 sequence-kinds.ps (falls 1 sequence-kinds.ps ◌<◌ μ-sequence t) sequence.Pre
 
-abbrev alternatives-Inv-loop : alternatives-lts.invariant-loop
+abbrev alternatives-Inv-loop : alternatives-lts.invariant-loop-p
 alternatives-Inv-loop text at depth next₀ next = (at ≤ next) × (next ≤ length text) × (verdict (live depth fresh) at (drop at text) ≡ verdict (live depth fresh) next (drop next text))
 
-abbrev alternatives-μ-loop : alternatives-lts.decreases-loop
+abbrev alternatives-μ-loop : alternatives-lts.decreases-loop-p
 alternatives-μ-loop text at depth next₀ next = length text - next
 
-alternatives-loop-holds : (t : ℕ) → alternatives-lts.Need-loop-init (
+alternatives-loop-holds : (t : ℕ) → alternatives-lts.Need-loop-p-init (
   sequence-below t,
   sequence.Post,
 ) (alternatives-at t) alternatives.Post alternatives-Inv-loop alternatives-μ-loop
 alternatives-loop-holds t c = (omega arith, omega arith, refl)
 
-alternatives-sequence-requires : (t : ℕ) → alternatives-lts.Need-sequence-requires (
+alternatives-sequence-requires : (t : ℕ) → alternatives-lts.Need-sequence-part-requires (
   sequence-below t,
   sequence.Post,
 ) (alternatives-at t) alternatives.Post alternatives-Inv-loop alternatives-μ-loop
 alternatives-sequence-requires t c κs = (omega arith, omega arith)
 
-alternatives-enum-known-part : (t : ℕ) → alternatives-lts.Need-enum-known-part (
+alternatives-enum-known-part : (t : ℕ) → alternatives-lts.Need-enum_known-part (
   sequence-below t,
   sequence.Post,
 ) (alternatives-at t) alternatives.Post alternatives-Inv-loop alternatives-μ-loop
 alternatives-enum-known-part t c = search rules
 
-alternatives-shared-slice-read-if2 : (t : ℕ) → alternatives-lts.Need-shared-slice-read-if2 (
+alternatives-shared-slice-read-if2 : (t : ℕ) → alternatives-lts.Need-bounds-text-p (
   sequence-below t,
   sequence.Post,
 ) (alternatives-at t) alternatives.Post alternatives-Inv-loop alternatives-μ-loop
@@ -94,7 +94,7 @@ alternatives-shared-slice-read-if2 t c = omega arith
 
 alternatives-add-next :
     (t : ℕ) →
-    alternatives-lts.Need-overflow-add-next
+    alternatives-lts.Need-overflow_add-next
     (sequence-below t, sequence.Post)
     (alternatives-at t)
     alternatives.Post
@@ -102,121 +102,121 @@ alternatives-add-next :
     alternatives-μ-loop
 alternatives-add-next t c = search rules
 
-alternatives-loop-less : (t : ℕ) → alternatives-lts.Need-loop-smaller (
+alternatives-loop-less : (t : ℕ) → alternatives-lts.Need-loop-p-smaller (
   sequence-below t,
   sequence.Post,
 ) (alternatives-at t) alternatives.Post alternatives-Inv-loop alternatives-μ-loop
 alternatives-loop-less t c =
-    let a = c.before.before.before.before.before.before.before.before.before.args in
+    let a = c.args in
     let T = a.text.now in
     let d = a.depth in
-    let n = c.before.before.before.before.before.before.before.loop.next in
-    let i = c.before.before.before.before.before.before.before.loop.invariant in
-    let s = c.before.before.before.before.before.before.sequence.ensures in
-    let e = c.before.before.before.before.part.given.1 in
-    let p = c.before.before.before.before.part.given.0.0 in
+    let n = c.loop-p.next in
+    let i = c.loop-p.invariant in
+    let s = c.sequence-part.ensures in
+    let e = c.in-On.is in
+    let p = c.in-On.p in
     let w = s.0 ∙ ap (went T d) e in
     let h = subst (Ahead n (length T)) e s.1 in
     let q = subst (Pauses T) e s.2 in
     omega (arith, h.0)
 
-alternatives-loop-again : (t : ℕ) → alternatives-lts.Need-loop-preserved (
+alternatives-loop-again : (t : ℕ) → alternatives-lts.Need-loop-p-preserved (
   sequence-below t,
   sequence.Post,
 ) (alternatives-at t) alternatives.Post alternatives-Inv-loop alternatives-μ-loop
 alternatives-loop-again t c =
-    let a = c.before.before.before.before.before.before.before.before.before.args in
+    let a = c.args in
     let T = a.text.now in
     let d = a.depth in
-    let n = c.before.before.before.before.before.before.before.loop.next in
-    let i = c.before.before.before.before.before.before.before.loop.invariant in
-    let s = c.before.before.before.before.before.before.sequence.ensures in
-    let e = c.before.before.before.before.part.given.1 in
-    let p = c.before.before.before.before.part.given.0.0 in
+    let n = c.loop-p.next in
+    let i = c.loop-p.invariant in
+    let s = c.sequence-part.ensures in
+    let e = c.in-On.is in
+    let p = c.in-On.p in
     let w = s.0 ∙ ap (went T d) e in
     let h = subst (Ahead n (length T)) e s.1 in
     let q = subst (Pauses T) e s.2 in
     let l : p < length T = omega arith in
-    (omega (arith, h.0), omega arith, i.2 ∙ w ∙ item-bar T d p (omega arith) l c.if2.true)
+    (omega (arith, h.0), omega arith, i.2 ∙ w ∙ item-bar T d p (omega arith) l c.if-text-p-eq124.true)
 
 alternatives-returns :
     (t : ℕ) →
-    alternatives-lts.Need-returns
+    alternatives-lts.Need-returns-else-text-p-eq124
     (sequence-below t, sequence.Post)
     (alternatives-at t)
     alternatives.Post
     alternatives-Inv-loop
     alternatives-μ-loop
 alternatives-returns t c =
-    let a = c.before.before.before.before.before.before.before.before.before.args in
+    let a = c.args in
     let T = a.text.now in
     let d = a.depth in
-    let n = c.before.before.before.before.before.before.before.loop.next in
-    let i = c.before.before.before.before.before.before.before.loop.invariant in
-    let s = c.before.before.before.before.before.before.sequence.ensures in
-    let e = c.before.before.before.before.part.given.1 in
-    let p = c.before.before.before.before.part.given.0.0 in
+    let n = c.loop-p.next in
+    let i = c.loop-p.invariant in
+    let s = c.sequence-part.ensures in
+    let e = c.in-On.is in
+    let p = c.in-On.p in
     let w = s.0 ∙ ap (went T d) e in
     let h = subst (Ahead n (length T)) e s.1 in
     let q = subst (Pauses T) e s.2 in
     let l : p < length T = omega arith in
-    (i.2 ∙ w, (omega (arith, h.0), h.1), λ _. ⊎_elim (λ z. absurd (c.if2.false z)) (λ z. z) (q l))
+    (i.2 ∙ w, (omega (arith, h.0), h.1), λ _. ⊎_elim (λ z. absurd (c.if-text-p-eq124.false z)) (λ z. z) (q l))
 
-alternatives-returns-2 : (t : ℕ) → alternatives-lts.Need-returns-2 (
+alternatives-returns-2 : (t : ℕ) → alternatives-lts.Need-returns-else-p-text (
   sequence-below t,
   sequence.Post,
 ) (alternatives-at t) alternatives.Post alternatives-Inv-loop alternatives-μ-loop
 alternatives-returns-2 t c =
-    let a = c.before.before.before.before.before.before.before.args in
+    let a = c.args in
     let T = a.text.now in
     let d = a.depth in
-    let n = c.before.before.before.before.before.loop.next in
-    let i = c.before.before.before.before.before.loop.invariant in
-    let s = c.before.before.before.before.sequence.ensures in
-    let e = c.before.before.part.given.1 in
-    let p = c.before.before.part.given.0.0 in
+    let n = c.loop-p.next in
+    let i = c.loop-p.invariant in
+    let s = c.sequence-part.ensures in
+    let e = c.in-On.is in
+    let p = c.in-On.p in
     let w = s.0 ∙ ap (went T d) e in
     let h = subst (Ahead n (length T)) e s.1 in
     let q = subst (Pauses T) e s.2 in
     (i.2 ∙ w, (omega (arith, h.0), h.1), λ l. absurd (omega arith))
 
-alternatives-enum-known-part-2 : (t : ℕ) → alternatives-lts.Need-enum-known-part-2 (
+alternatives-enum-known-part-2 : (t : ℕ) → alternatives-lts.Need-enum_known-part-in-Bad-1 (
   sequence-below t,
   sequence.Post,
 ) (alternatives-at t) alternatives.Post alternatives-Inv-loop alternatives-μ-loop
 alternatives-enum-known-part-2 t c = search rules
 
-alternatives-returns-3 : (t : ℕ) → alternatives-lts.Need-returns-3 (
+alternatives-returns-3 : (t : ℕ) → alternatives-lts.Need-returns-in-Bad (
   sequence-below t,
   sequence.Post,
 ) (alternatives-at t) alternatives.Post alternatives-Inv-loop alternatives-μ-loop
 alternatives-returns-3 t c =
-    let a = c.before.before.before.before.before.before.args in
+    let a = c.args in
     let T = a.text.now in
     let d = a.depth in
-    let n = c.before.before.before.before.loop.next in
-    let i = c.before.before.before.before.loop.invariant in
-    (i.2 ∙ c.before.before.before.sequence.ensures.0 ∙ ap (went T d) c.before.part2.given.1, tt, tt)
+    let n = c.loop-p.next in
+    let i = c.loop-p.invariant in
+    (i.2 ∙ c.sequence-part.ensures.0 ∙ ap (went T d) c.in-Bad.is, tt, tt)
 
-alternatives-enum-told : (t : ℕ) → alternatives-lts.Need-enum-told (
+alternatives-enum-told : (t : ℕ) → alternatives-lts.Need-enum_told-1 (
   sequence-below t,
   sequence.Post,
 ) (alternatives-at t) alternatives.Post alternatives-Inv-loop alternatives-μ-loop
 alternatives-enum-told t c = search rules
 
-alternatives-returns-4 : (t : ℕ) → alternatives-lts.Need-returns-4 (
+alternatives-returns-4 : (t : ℕ) → alternatives-lts.Need-returns-in-Deep (
   sequence-below t,
   sequence.Post,
 ) (alternatives-at t) alternatives.Post alternatives-Inv-loop alternatives-μ-loop
 alternatives-returns-4 t c =
-    let a = c.before.before.before.before.before.args in
+    let a = c.args in
     let T = a.text.now in
     let d = a.depth in
-    let n = c.before.before.before.loop.next in
-    let i = c.before.before.before.loop.invariant in
-    (i.2 ∙ c.before.before.sequence.ensures.0 ∙ ap (went T d) c.enum_told.given.1, tt, tt)
+    let n = c.loop-p.next in
+    let i = c.loop-p.invariant in
+    (i.2 ∙ c.sequence-part.ensures.0 ∙ ap (went T d) c.in-Deep.is, tt, tt)
 
-item-shared-slice-read-c : (t : ℕ) → item-lts.Need-shared-slice-read-c (
+item-shared-slice-read-c : (t : ℕ) → item-lts.Need-bounds-text-at (
   alternatives-below t,
   alternatives.Post,
   mark-reads.Asked,
@@ -228,7 +228,7 @@ item-shared-slice-read-c : (t : ℕ) → item-lts.Need-shared-slice-read-c (
 ) (item-at t) item.Post
 item-shared-slice-read-c t c = search rules
 
-item-returns : (t : ℕ) → item-lts.Need-returns (
+item-returns : (t : ℕ) → item-lts.Need-returns-then-depth-eq16 (
   alternatives-below t,
   alternatives.Post,
   mark-reads.Asked,
@@ -239,15 +239,15 @@ item-returns : (t : ℕ) → item-lts.Need-returns (
   is-special-reads.Learnt,
 ) (item-at t) item.Post
 item-returns t c =
-    let a = c.before.before.before.before.args in
+    let a = c.args in
     let T = a.text.now in
     let d = a.depth in
     let n = a.at in
     let l : n < length T = omega arith in
     let g : d ≤ 16 = omega arith in
-    (item-deep T d n l c.before.if1.true (omega arith), tt)
+    (item-deep T d n l c.if-c-eq40.true (omega arith), tt)
 
-item-add-alternatives : (t : ℕ) → item-lts.Need-overflow-add-alternatives (
+item-add-alternatives : (t : ℕ) → item-lts.Need-overflow_add-at (
   alternatives-below t,
   alternatives.Post,
   mark-reads.Asked,
@@ -259,7 +259,7 @@ item-add-alternatives : (t : ℕ) → item-lts.Need-overflow-add-alternatives (
 ) (item-at t) item.Post
 item-add-alternatives t c = search rules
 
-item-add-alternatives-2 : (t : ℕ) → item-lts.Need-overflow-add-alternatives-2 (
+item-add-alternatives-2 : (t : ℕ) → item-lts.Need-overflow_add-depth (
   alternatives-below t,
   alternatives.Post,
   mark-reads.Asked,
@@ -271,7 +271,7 @@ item-add-alternatives-2 : (t : ℕ) → item-lts.Need-overflow-add-alternatives-
 ) (item-at t) item.Post
 item-add-alternatives-2 t c = search rules
 
-item-alternatives-requires : (t : ℕ) → item-lts.Need-alternatives-requires (
+item-alternatives-requires : (t : ℕ) → item-lts.Need-alternatives-inner-requires (
   alternatives-below t,
   alternatives.Post,
   mark-reads.Asked,
@@ -283,7 +283,7 @@ item-alternatives-requires : (t : ℕ) → item-lts.Need-alternatives-requires (
 ) (item-at t) item.Post
 item-alternatives-requires t c κs = (omega arith, omega arith)
 
-item-enum-known-inner : (t : ℕ) → item-lts.Need-enum-known-inner (
+item-enum-known-inner : (t : ℕ) → item-lts.Need-enum_known-inner (
   alternatives-below t,
   alternatives.Post,
   mark-reads.Asked,
@@ -295,7 +295,7 @@ item-enum-known-inner : (t : ℕ) → item-lts.Need-enum-known-inner (
 ) (item-at t) item.Post
 item-enum-known-inner t c = search rules
 
-item-add-mark : (t : ℕ) → item-lts.Need-overflow-add-mark (
+item-add-mark : (t : ℕ) → item-lts.Need-overflow_add-p (
   alternatives-below t,
   alternatives.Post,
   mark-reads.Asked,
@@ -319,7 +319,7 @@ item-mark-requires : (t : ℕ) → item-lts.Need-mark-requires (
 ) (item-at t) item.Post
 item-mark-requires t c κs = omega arith
 
-item-returns-2 : (t : ℕ) → item-lts.Need-returns-2 (
+item-returns-2 : (t : ℕ) → item-lts.Need-returns-then-p-text (
   alternatives-below t,
   alternatives.Post,
   mark-reads.Asked,
@@ -330,22 +330,22 @@ item-returns-2 : (t : ℕ) → item-lts.Need-returns-2 (
   is-special-reads.Learnt,
 ) (item-at t) item.Post
 item-returns-2 t c =
-    let a = c.before.before.before.before.before.before.before.before.before.before.args in
+    let a = c.args in
     let T = a.text.now in
     let d = a.depth in
     let n = a.at in
     let l : n < length T = omega arith in
     let g : d ≤ 16 = omega arith in
-    let e = c.before.before.before.inner.given.1 in
-    let p = c.before.before.before.inner.given.0.0 in
-    let s = c.before.before.before.before.before.alternatives.ensures in
+    let e = c.in-On.is in
+    let p = c.in-On.p in
+    let s = c.alternatives-inner.ensures in
     let h = subst (Ahead (n + 1) (length T)) e s.1 in
     let q = subst (Halts T) e s.2 in
     let k : p < length T = omega arith in
     let m : d + 1 ≤ 16 = omega arith in
-    (item-open T d n g l c.before.before.before.before.before.before.before.if1.true ∙ s.0 ∙ ap (went T (d + 1)) e ∙ group-close T d p m k (q k) ∙ c.mark.ensures.0 d g, later (n + 1) (p + 1) (length T) c.mark.result (omega (arith, h.0)) c.mark.ensures.1)
+    (item-open T d n g l c.if-c-eq40.true ∙ s.0 ∙ ap (went T (d + 1)) e ∙ group-close T d p m k (q k) ∙ c.mark.ensures.0 d g, later (n + 1) (p + 1) (length T) c.mark.result (omega (arith, h.0)) c.mark.ensures.1)
 
-item-returns-3 : (t : ℕ) → item-lts.Need-returns-3 (
+item-returns-3 : (t : ℕ) → item-lts.Need-returns-in-On (
   alternatives-below t,
   alternatives.Post,
   mark-reads.Asked,
@@ -356,19 +356,19 @@ item-returns-3 : (t : ℕ) → item-lts.Need-returns-3 (
   is-special-reads.Learnt,
 ) (item-at t) item.Post
 item-returns-3 t c =
-    let a = c.before.before.before.before.before.before.before.before.before.args in
+    let a = c.args in
     let T = a.text.now in
     let d = a.depth in
     let n = a.at in
     let l : n < length T = omega arith in
     let g : d ≤ 16 = omega arith in
-    let e = c.before.before.inner.given.1 in
-    let p = c.before.before.inner.given.0.0 in
-    let s = c.before.before.before.before.alternatives.ensures in
+    let e = c.in-On.is in
+    let p = c.in-On.p in
+    let s = c.alternatives-inner.ensures in
     let m : d + 1 ≤ 16 = omega arith in
-    (item-open T d n g l c.before.before.before.before.before.before.if1.true ∙ s.0 ∙ ap (went T (d + 1)) e ∙ group-cut T d p m (omega arith), tt)
+    (item-open T d n g l c.if-c-eq40.true ∙ s.0 ∙ ap (went T (d + 1)) e ∙ group-cut T d p m (omega arith), tt)
 
-item-enum-known-inner-2 : (t : ℕ) → item-lts.Need-enum-known-inner-2 (
+item-enum-known-inner-2 : (t : ℕ) → item-lts.Need-enum_known-inner-in-Bad-1 (
   alternatives-below t,
   alternatives.Post,
   mark-reads.Asked,
@@ -380,7 +380,7 @@ item-enum-known-inner-2 : (t : ℕ) → item-lts.Need-enum-known-inner-2 (
 ) (item-at t) item.Post
 item-enum-known-inner-2 t c = search rules
 
-item-returns-4 : (t : ℕ) → item-lts.Need-returns-4 (
+item-returns-4 : (t : ℕ) → item-lts.Need-returns-in-Bad (
   alternatives-below t,
   alternatives.Post,
   mark-reads.Asked,
@@ -391,15 +391,15 @@ item-returns-4 : (t : ℕ) → item-lts.Need-returns-4 (
   is-special-reads.Learnt,
 ) (item-at t) item.Post
 item-returns-4 t c =
-    let a = c.before.before.before.before.before.before.before.before.args in
+    let a = c.args in
     let T = a.text.now in
     let d = a.depth in
     let n = a.at in
     let l : n < length T = omega arith in
     let g : d ≤ 16 = omega arith in
-    (item-open T d n g l c.before.before.before.before.before.if1.true ∙ c.before.before.before.alternatives.ensures.0 ∙ ap (went T (d + 1)) c.before.inner2.given.1, tt)
+    (item-open T d n g l c.if-c-eq40.true ∙ c.alternatives-inner.ensures.0 ∙ ap (went T (d + 1)) c.in-Bad.is, tt)
 
-item-enum-told : (t : ℕ) → item-lts.Need-enum-told (
+item-enum-told : (t : ℕ) → item-lts.Need-enum_told-1 (
   alternatives-below t,
   alternatives.Post,
   mark-reads.Asked,
@@ -411,7 +411,7 @@ item-enum-told : (t : ℕ) → item-lts.Need-enum-told (
 ) (item-at t) item.Post
 item-enum-told t c = search rules
 
-item-returns-5 : (t : ℕ) → item-lts.Need-returns-5 (
+item-returns-5 : (t : ℕ) → item-lts.Need-returns-in-Deep (
   alternatives-below t,
   alternatives.Post,
   mark-reads.Asked,
@@ -422,15 +422,15 @@ item-returns-5 : (t : ℕ) → item-lts.Need-returns-5 (
   is-special-reads.Learnt,
 ) (item-at t) item.Post
 item-returns-5 t c =
-    let a = c.before.before.before.before.before.before.before.args in
+    let a = c.args in
     let T = a.text.now in
     let d = a.depth in
     let n = a.at in
     let l : n < length T = omega arith in
     let g : d ≤ 16 = omega arith in
-    (item-open T d n g l c.before.before.before.before.if1.true ∙ c.before.before.alternatives.ensures.0 ∙ ap (went T (d + 1)) c.enum_told.given.1, tt)
+    (item-open T d n g l c.if-c-eq40.true ∙ c.alternatives-inner.ensures.0 ∙ ap (went T (d + 1)) c.in-Deep.is, tt)
 
-item-add-inside : (t : ℕ) → item-lts.Need-overflow-add-inside (
+item-add-inside : (t : ℕ) → item-lts.Need-overflow_add-at-then-c-eq91 (
   alternatives-below t,
   alternatives.Post,
   mark-reads.Asked,
@@ -454,7 +454,7 @@ item-inside-requires : (t : ℕ) → item-lts.Need-inside-requires (
 ) (item-at t) item.Post
 item-inside-requires t c κs = (omega arith, refl)
 
-item-returns-6 : (t : ℕ) → item-lts.Need-returns-6 (
+item-returns-6 : (t : ℕ) → item-lts.Need-returns-then-c-eq91 (
   alternatives-below t,
   alternatives.Post,
   mark-reads.Asked,
@@ -465,15 +465,15 @@ item-returns-6 : (t : ℕ) → item-lts.Need-returns-6 (
   is-special-reads.Learnt,
 ) (item-at t) item.Post
 item-returns-6 t c =
-    let a = c.before.before.before.before.before.args in
+    let a = c.args in
     let T = a.text.now in
     let d = a.depth in
     let n = a.at in
     let l : n < length T = omega arith in
     let g : d ≤ 16 = omega arith in
-    (item-class T d n g l c.before.if4.true ∙ c.inside.ensures.0 d g, c.inside.ensures.1)
+    (item-class T d n g l c.if-c-eq91.true ∙ c.inside.ensures.0 d g, c.inside.ensures.1)
 
-item-add-inside-2 : (t : ℕ) → item-lts.Need-overflow-add-inside-2 (
+item-add-inside-2 : (t : ℕ) → item-lts.Need-overflow_add-at-then-c-eq92 (
   alternatives-below t,
   alternatives.Post,
   mark-reads.Asked,
@@ -485,7 +485,7 @@ item-add-inside-2 : (t : ℕ) → item-lts.Need-overflow-add-inside-2 (
 ) (item-at t) item.Post
 item-add-inside-2 t c = search rules
 
-item-inside-requires-2 : (t : ℕ) → item-lts.Need-inside-requires-2 (
+item-inside-requires-2 : (t : ℕ) → item-lts.Need-inside-requires-then-c-eq92 (
   alternatives-below t,
   alternatives.Post,
   mark-reads.Asked,
@@ -497,7 +497,7 @@ item-inside-requires-2 : (t : ℕ) → item-lts.Need-inside-requires-2 (
 ) (item-at t) item.Post
 item-inside-requires-2 t c κs = (omega arith, refl)
 
-item-returns-7 : (t : ℕ) → item-lts.Need-returns-7 (
+item-returns-7 : (t : ℕ) → item-lts.Need-returns-then-c-eq92 (
   alternatives-below t,
   alternatives.Post,
   mark-reads.Asked,
@@ -508,15 +508,15 @@ item-returns-7 : (t : ℕ) → item-lts.Need-returns-7 (
   is-special-reads.Learnt,
 ) (item-at t) item.Post
 item-returns-7 t c =
-    let a = c.before.before.before.before.before.before.args in
+    let a = c.args in
     let T = a.text.now in
     let d = a.depth in
     let n = a.at in
     let l : n < length T = omega arith in
     let g : d ≤ 16 = omega arith in
-    (item-esc T d n g l c.before.if5.true ∙ c.inside2.ensures.0 d g, c.inside2.ensures.1)
+    (item-esc T d n g l c.if-c-eq92.true ∙ c.inside-then-c-eq92.ensures.0 d g, c.inside-then-c-eq92.ensures.1)
 
-item-add-mark-2 : (t : ℕ) → item-lts.Need-overflow-add-mark-2 (
+item-add-mark-2 : (t : ℕ) → item-lts.Need-overflow_add-at-then-c-eq46 (
   alternatives-below t,
   alternatives.Post,
   mark-reads.Asked,
@@ -528,7 +528,7 @@ item-add-mark-2 : (t : ℕ) → item-lts.Need-overflow-add-mark-2 (
 ) (item-at t) item.Post
 item-add-mark-2 t c = search rules
 
-item-mark-requires-2 : (t : ℕ) → item-lts.Need-mark-requires-2 (
+item-mark-requires-2 : (t : ℕ) → item-lts.Need-mark-requires-then-c-eq46 (
   alternatives-below t,
   alternatives.Post,
   mark-reads.Asked,
@@ -540,7 +540,7 @@ item-mark-requires-2 : (t : ℕ) → item-lts.Need-mark-requires-2 (
 ) (item-at t) item.Post
 item-mark-requires-2 t c κs = search rules
 
-item-returns-8 : (t : ℕ) → item-lts.Need-returns-8 (
+item-returns-8 : (t : ℕ) → item-lts.Need-returns-then-c-eq46 (
   alternatives-below t,
   alternatives.Post,
   mark-reads.Asked,
@@ -551,15 +551,15 @@ item-returns-8 : (t : ℕ) → item-lts.Need-returns-8 (
   is-special-reads.Learnt,
 ) (item-at t) item.Post
 item-returns-8 t c =
-    let a = c.before.before.before.before.before.before.before.args in
+    let a = c.args in
     let T = a.text.now in
     let d = a.depth in
     let n = a.at in
     let l : n < length T = omega arith in
     let g : d ≤ 16 = omega arith in
-    (item-dot T d n g l c.before.if6.true ∙ c.mark2.ensures.0 d g, c.mark2.ensures.1)
+    (item-dot T d n g l c.if-c-eq46.true ∙ c.mark-then-c-eq46.ensures.0 d g, c.mark-then-c-eq46.ensures.1)
 
-item-is-special-requires : (t : ℕ) → item-lts.Need-is-special-requires (
+item-is-special-requires : (t : ℕ) → item-lts.Need-is_special-requires (
   alternatives-below t,
   alternatives.Post,
   mark-reads.Asked,
@@ -571,7 +571,7 @@ item-is-special-requires : (t : ℕ) → item-lts.Need-is-special-requires (
 ) (item-at t) item.Post
 item-is-special-requires t c κs = search rules
 
-item-returns-9 : (t : ℕ) → item-lts.Need-returns-9 (
+item-returns-9 : (t : ℕ) → item-lts.Need-returns-then-is_special (
   alternatives-below t,
   alternatives.Post,
   mark-reads.Asked,
@@ -582,16 +582,16 @@ item-returns-9 : (t : ℕ) → item-lts.Need-returns-9 (
   is-special-reads.Learnt,
 ) (item-at t) item.Post
 item-returns-9 t c =
-    let a = c.before.before.before.before.before.before.before.before.args in
+    let a = c.args in
     let T = a.text.now in
     let d = a.depth in
     let n = a.at in
     let l : n < length T = omega arith in
     let g : d ≤ 16 = omega arith in
-    let z : amid (get_or T n 0) special ≡ true = sym c.before.is_special.ensures ∙ c.if7.true in
-    (item-bad T d n g l c.before.before.before.before.before.before.before.before.requires.1.2 c.before.before.before.before.before.if1.false c.before.before.before.before.before.before.before.before.requires.1.3 c.before.before.if6.false c.before.before.before.before.if4.false c.before.before.before.if5.false z, tt)
+    let z : amid (get_or T n 0) special ≡ true = sym c.is_special.ensures ∙ c.if-is_special.true in
+    (item-bad T d n g l c.requires.1.2 c.if-c-eq40.false c.requires.1.3 c.if-c-eq46.false c.if-c-eq91.false c.if-c-eq92.false z, tt)
 
-item-add-mark-3 : (t : ℕ) → item-lts.Need-overflow-add-mark-3 (
+item-add-mark-3 : (t : ℕ) → item-lts.Need-overflow_add-at-2 (
   alternatives-below t,
   alternatives.Post,
   mark-reads.Asked,
@@ -603,7 +603,7 @@ item-add-mark-3 : (t : ℕ) → item-lts.Need-overflow-add-mark-3 (
 ) (item-at t) item.Post
 item-add-mark-3 t c = search rules
 
-item-mark-requires-3 : (t : ℕ) → item-lts.Need-mark-requires-3 (
+item-mark-requires-3 : (t : ℕ) → item-lts.Need-mark-requires-2 (
   alternatives-below t,
   alternatives.Post,
   mark-reads.Asked,
@@ -615,7 +615,7 @@ item-mark-requires-3 : (t : ℕ) → item-lts.Need-mark-requires-3 (
 ) (item-at t) item.Post
 item-mark-requires-3 t c κs = search rules
 
-item-returns-10 : (t : ℕ) → item-lts.Need-returns-10 (
+item-returns-10 : (t : ℕ) → item-lts.Need-returns (
   alternatives-below t,
   alternatives.Post,
   mark-reads.Asked,
@@ -626,24 +626,24 @@ item-returns-10 : (t : ℕ) → item-lts.Need-returns-10 (
   is-special-reads.Learnt,
 ) (item-at t) item.Post
 item-returns-10 t c =
-    let a = c.before.before.before.before.before.before.before.before.before.args in
+    let a = c.args in
     let T = a.text.now in
     let d = a.depth in
     let n = a.at in
     let l : n < length T = omega arith in
     let g : d ≤ 16 = omega arith in
-    let z : amid (get_or T n 0) special ≡ false = sym c.before.before.is_special.ensures ∙ c.before.if7.false in
-    (item-plain T d n g l c.before.before.before.before.before.before.before.before.before.requires.1.2 c.before.before.before.before.before.before.if1.false c.before.before.before.before.before.before.before.before.before.requires.1.3 c.before.before.before.if6.false c.before.before.before.before.before.if4.false c.before.before.before.before.if5.false z ∙ c.mark3.ensures.0 d g, c.mark3.ensures.1)
+    let z : amid (get_or T n 0) special ≡ false = sym c.is_special.ensures ∙ c.if-is_special.false in
+    (item-plain T d n g l c.requires.1.2 c.if-c-eq40.false c.requires.1.3 c.if-c-eq46.false c.if-c-eq91.false c.if-c-eq92.false z ∙ c.mark-2.ensures.0 d g, c.mark-2.ensures.1)
 
-abbrev sequence-Inv-loop : sequence-lts.invariant-loop
+abbrev sequence-Inv-loop : sequence-lts.invariant-loop-next
 sequence-Inv-loop text at depth next₀ next = (at ≤ next) × (next ≤ length text) × (verdict (live depth fresh) at (drop at text) ≡ verdict (live depth fresh) next (drop next text))
 
-abbrev sequence-μ-loop : sequence-lts.decreases-loop
+abbrev sequence-μ-loop : sequence-lts.decreases-loop-next
 sequence-μ-loop text at depth next₀ next = length text - next
 
 sequence-loop-holds :
     (t : ℕ) →
-    sequence-lts.Need-loop-init
+    sequence-lts.Need-loop-next-init
     (item-below t, item.Post)
     (sequence-at t)
     sequence.Post
@@ -651,7 +651,7 @@ sequence-loop-holds :
     sequence-μ-loop
 sequence-loop-holds t c = (omega arith, omega arith, refl)
 
-sequence-shared-slice-read-c : (t : ℕ) → sequence-lts.Need-shared-slice-read-c (
+sequence-shared-slice-read-c : (t : ℕ) → sequence-lts.Need-bounds-text-next (
   item-below t,
   item.Post,
 ) (sequence-at t) sequence.Post sequence-Inv-loop sequence-μ-loop
@@ -659,49 +659,49 @@ sequence-shared-slice-read-c t c = search rules
 
 sequence-returns :
     (t : ℕ) →
-    sequence-lts.Need-returns
+    sequence-lts.Need-returns-then-c-eq124
     (item-below t, item.Post)
     (sequence-at t)
     sequence.Post
     sequence-Inv-loop
     sequence-μ-loop
 sequence-returns t c =
-    let a = c.before.before.before.before.before.args in
+    let a = c.args in
     let T = a.text.now in
     let d = a.depth in
-    let n = c.before.before.before.loop.next in
-    let i = c.before.before.before.loop.invariant in
-    (i.2, (omega arith, omega arith), λ _. inl c.if1.true)
+    let n = c.loop-next.next in
+    let i = c.loop-next.invariant in
+    (i.2, (omega arith, omega arith), λ _. inl c.if-c-eq124.true)
 
 sequence-returns-2 :
     (t : ℕ) →
-    sequence-lts.Need-returns-2
+    sequence-lts.Need-returns-then-c-eq41
     (item-below t, item.Post)
     (sequence-at t)
     sequence.Post
     sequence-Inv-loop
     sequence-μ-loop
 sequence-returns-2 t c =
-    let a = c.before.before.before.before.before.before.args in
+    let a = c.args in
     let T = a.text.now in
     let d = a.depth in
-    let n = c.before.before.before.before.loop.next in
-    let i = c.before.before.before.before.loop.invariant in
-    (i.2, (omega arith, omega arith), λ _. inr c.if2.true)
+    let n = c.loop-next.next in
+    let i = c.loop-next.invariant in
+    (i.2, (omega arith, omega arith), λ _. inr c.if-c-eq41.true)
 
 sequence-item-requires :
     (t : ℕ) →
-    sequence-lts.Need-item-requires
+    sequence-lts.Need-item-one-requires
     (item-below t, item.Post)
     (sequence-at t)
     sequence.Post
     sequence-Inv-loop
     sequence-μ-loop
-sequence-item-requires t c κs = (omega arith, (omega arith, omega arith, c.before.if1.false, c.if2.false))
+sequence-item-requires t c κs = (omega arith, (omega arith, omega arith, c.if-c-eq124.false, c.if-c-eq41.false))
 
 sequence-enum-known-one :
     (t : ℕ) →
-    sequence-lts.Need-enum-known-one
+    sequence-lts.Need-enum_known-one
     (item-below t, item.Post)
     (sequence-at t)
     sequence.Post
@@ -711,41 +711,41 @@ sequence-enum-known-one t c = search rules
 
 sequence-loop-less :
     (t : ℕ) →
-    sequence-lts.Need-loop-smaller
+    sequence-lts.Need-loop-next-smaller
     (item-below t, item.Post)
     (sequence-at t)
     sequence.Post
     sequence-Inv-loop
     sequence-μ-loop
 sequence-loop-less t c =
-    let a = c.before.before.before.before.before.before.before.before.before.before.args in
+    let a = c.args in
     let T = a.text.now in
     let d = a.depth in
-    let n = c.before.before.before.before.before.before.before.before.loop.next in
-    let i = c.before.before.before.before.before.before.before.before.loop.invariant in
-    let h = subst (Ahead (n + 1) (length T)) c.before.one.given.1 c.before.before.before.item.ensures.1 in
+    let n = c.loop-next.next in
+    let i = c.loop-next.invariant in
+    let h = subst (Ahead (n + 1) (length T)) c.in-On.is c.item-one.ensures.1 in
     omega (arith, h.0)
 
 sequence-loop-again :
     (t : ℕ) →
-    sequence-lts.Need-loop-preserved
+    sequence-lts.Need-loop-next-preserved
     (item-below t, item.Post)
     (sequence-at t)
     sequence.Post
     sequence-Inv-loop
     sequence-μ-loop
 sequence-loop-again t c =
-    let a = c.before.before.before.before.before.before.before.before.before.before.args in
+    let a = c.args in
     let T = a.text.now in
     let d = a.depth in
-    let n = c.before.before.before.before.before.before.before.before.loop.next in
-    let i = c.before.before.before.before.before.before.before.before.loop.invariant in
-    let h = subst (Ahead (n + 1) (length T)) c.before.one.given.1 c.before.before.before.item.ensures.1 in
-    (omega (arith, h.0), h.1, i.2 ∙ c.before.before.before.item.ensures.0 ∙ ap (went T d) c.before.one.given.1)
+    let n = c.loop-next.next in
+    let i = c.loop-next.invariant in
+    let h = subst (Ahead (n + 1) (length T)) c.in-On.is c.item-one.ensures.1 in
+    (omega (arith, h.0), h.1, i.2 ∙ c.item-one.ensures.0 ∙ ap (went T d) c.in-On.is)
 
 sequence-enum-known-one-2 :
     (t : ℕ) →
-    sequence-lts.Need-enum-known-one-2
+    sequence-lts.Need-enum_known-one-in-Bad-1
     (item-below t, item.Post)
     (sequence-at t)
     sequence.Post
@@ -755,23 +755,23 @@ sequence-enum-known-one-2 t c = search rules
 
 sequence-returns-3 :
     (t : ℕ) →
-    sequence-lts.Need-returns-3
+    sequence-lts.Need-returns-in-Bad
     (item-below t, item.Post)
     (sequence-at t)
     sequence.Post
     sequence-Inv-loop
     sequence-μ-loop
 sequence-returns-3 t c =
-    let a = c.before.before.before.before.before.before.before.before.before.before.args in
+    let a = c.args in
     let T = a.text.now in
     let d = a.depth in
-    let n = c.before.before.before.before.before.before.before.before.loop.next in
-    let i = c.before.before.before.before.before.before.before.before.loop.invariant in
-    (i.2 ∙ c.before.before.before.item.ensures.0 ∙ ap (went T d) c.before.one2.given.1, tt, tt)
+    let n = c.loop-next.next in
+    let i = c.loop-next.invariant in
+    (i.2 ∙ c.item-one.ensures.0 ∙ ap (went T d) c.in-Bad.is, tt, tt)
 
 sequence-enum-told :
     (t : ℕ) →
-    sequence-lts.Need-enum-told
+    sequence-lts.Need-enum_told-1
     (item-below t, item.Post)
     (sequence-at t)
     sequence.Post
@@ -781,38 +781,38 @@ sequence-enum-told t c = search rules
 
 sequence-returns-4 :
     (t : ℕ) →
-    sequence-lts.Need-returns-4
+    sequence-lts.Need-returns-in-Deep
     (item-below t, item.Post)
     (sequence-at t)
     sequence.Post
     sequence-Inv-loop
     sequence-μ-loop
 sequence-returns-4 t c =
-    let a = c.before.before.before.before.before.before.before.before.before.args in
+    let a = c.args in
     let T = a.text.now in
     let d = a.depth in
-    let n = c.before.before.before.before.before.before.before.loop.next in
-    let i = c.before.before.before.before.before.before.before.loop.invariant in
-    (i.2 ∙ c.before.before.item.ensures.0 ∙ ap (went T d) c.enum_told.given.1, tt, tt)
+    let n = c.loop-next.next in
+    let i = c.loop-next.invariant in
+    (i.2 ∙ c.item-one.ensures.0 ∙ ap (went T d) c.in-Deep.is, tt, tt)
 
 sequence-returns-5 :
     (t : ℕ) →
-    sequence-lts.Need-returns-5
+    sequence-lts.Need-returns
     (item-below t, item.Post)
     (sequence-at t)
     sequence.Post
     sequence-Inv-loop
     sequence-μ-loop
 sequence-returns-5 t c =
-    let a = c.before.before.before.args in
+    let a = c.args in
     let T = a.text.now in
     let d = a.depth in
-    let n = c.before.loop.next in
-    let i = c.before.loop.invariant in
+    let n = c.loop-next.next in
+    let i = c.loop-next.invariant in
     (i.2, (omega arith, omega arith), λ l. absurd (omega arith))
 
-pub +alternatives-item-sequence-spec : {M : Type 1} → statement M
-+alternatives-item-sequence-spec =
+pub +alternatives_item_sequence_spec : {M : Type 1} → statement M
++alternatives_item_sequence_spec =
     close μ-alternatives μ-item μ-sequence (λ t. alternatives-lts.spec (
       sequence-below t,
       sequence.Post,

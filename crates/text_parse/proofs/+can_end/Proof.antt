@@ -24,15 +24,15 @@ can-end-at t = and 0 can-end-kinds.ps (is 0 can-end-kinds.ps μ-can-end t) can-e
 abbrev can-end-below : ℕ → In 0 can-end-kinds.ps
 can-end-below t = and 0 can-end-kinds.ps (falls 0 can-end-kinds.ps ◌<◌ μ-can-end t) can-end.Pre
 
-abbrev can-end-Inv-loop : can-end-lts.invariant-loop
+abbrev can-end-Inv-loop : can-end-lts.invariant-loop-d
 can-end-Inv-loop low r v now any₀ d₀ any d = (d ≤ 10) × (any ≡ some d (λ k. can low (r - 1) (10 * v + k)))
 
-abbrev can-end-μ-loop : can-end-lts.decreases-loop
+abbrev can-end-μ-loop : can-end-lts.decreases-loop-d
 can-end-μ-loop low r v now any₀ d₀ any d = 10 - d
 
 can-end-returns :
     (t : ℕ) →
-    can-end-lts.Need-returns
+    can-end-lts.Need-returns-then-v-gt300
     (can-end-below t, can-end.Post)
     (can-end-at t)
     can-end.Post
@@ -42,7 +42,7 @@ can-end-returns t c = can-over _ _ _ (omega arith)
 
 can-end-returns-2 :
     (t : ℕ) →
-    can-end-lts.Need-returns-2
+    can-end-lts.Need-returns-then-r-eq0
     (can-end-below t, can-end.Post)
     (can-end-at t)
     can-end.Post
@@ -52,7 +52,7 @@ can-end-returns-2 t c = can-zero _ _ _ (omega arith)
 
 can-end-loop-holds :
     (t : ℕ) →
-    can-end-lts.Need-loop-init
+    can-end-lts.Need-loop-d-init
     (can-end-below t, can-end.Post)
     (can-end-at t)
     can-end.Post
@@ -63,7 +63,7 @@ can-end-loop-holds t c = (omega arith, refl)
 
 can-end-sub-can-end :
     (t : ℕ) →
-    can-end-lts.Need-overflow-sub-can-end
+    can-end-lts.Need-overflow_sub-r
     (can-end-below t, can-end.Post)
     (can-end-at t)
     can-end.Post
@@ -73,7 +73,7 @@ can-end-sub-can-end t c = search rules
 
 can-end-mul-can-end :
     (t : ℕ) →
-    can-end-lts.Need-overflow-mul-can-end
+    can-end-lts.Need-overflow_mul-v
     (can-end-below t, can-end.Post)
     (can-end-at t)
     can-end.Post
@@ -83,7 +83,7 @@ can-end-mul-can-end t c = search rules
 
 can-end-add-can-end :
     (t : ℕ) →
-    can-end-lts.Need-overflow-add-can-end
+    can-end-lts.Need-overflow_add-v
     (can-end-below t, can-end.Post)
     (can-end-at t)
     can-end.Post
@@ -91,7 +91,7 @@ can-end-add-can-end :
     can-end-μ-loop
 can-end-add-can-end t c = search rules
 
-can-end-can-end-requires : (t : ℕ) → can-end-lts.Need-can-end-requires (
+can-end-can-end-requires : (t : ℕ) → can-end-lts.Need-can_end-one-requires (
   can-end-below t,
   can-end.Post,
 ) (can-end-at t) can-end.Post can-end-Inv-loop can-end-μ-loop
@@ -99,7 +99,7 @@ can-end-can-end-requires t c κs = omega arith
 
 can-end-add-d :
     (t : ℕ) →
-    can-end-lts.Need-overflow-add-d
+    can-end-lts.Need-overflow_add-d
     (can-end-below t, can-end.Post)
     (can-end-at t)
     can-end.Post
@@ -109,7 +109,7 @@ can-end-add-d t c = search rules
 
 can-end-loop-less :
     (t : ℕ) →
-    can-end-lts.Need-loop-smaller
+    can-end-lts.Need-loop-d-smaller
     (can-end-below t, can-end.Post)
     (can-end-at t)
     can-end.Post
@@ -119,7 +119,7 @@ can-end-loop-less t c = search rules
 
 can-end-loop-again :
     (t : ℕ) →
-    can-end-lts.Need-loop-preserved
+    can-end-lts.Need-loop-d-preserved
     (can-end-below t, can-end.Post)
     (can-end-at t)
     can-end.Post
@@ -130,20 +130,20 @@ can-end-loop-again t c = (omega arith, rw add-one (cc))
 
 can-end-returns-3 :
     (t : ℕ) →
-    can-end-lts.Need-returns-3
+    can-end-lts.Need-returns
     (can-end-below t, can-end.Post)
     (can-end-at t)
     can-end.Post
     can-end-Inv-loop
     can-end-μ-loop
 can-end-returns-3 t c =
-    let a = c.before.before.before.before.args in
-    let e : c.before.loop.d ≡ 10 = omega arith in
-    let h : c.before.loop.any ≡ some 10 (λ k. can a.low (a.r - 1) (10 * a.v + k)) = c.before.loop.invariant.1 ∙ ap (λ n. some n (λ k. can a.low (a.r - 1) (10 * a.v + k))) e in
+    let a = c.args in
+    let e : c.loop-d.d ≡ 10 = omega arith in
+    let h : c.loop-d.any ≡ some 10 (λ k. can a.low (a.r - 1) (10 * a.v + k)) = c.loop-d.invariant.1 ∙ ap (λ n. some n (λ k. can a.low (a.r - 1) (10 * a.v + k))) e in
     rw h (can-more a.low a.r a.v (λ z. omega arith))
 
-pub +can-end-spec : {M : Type 1} → statement M
-+can-end-spec =
+pub +can_end_spec : {M : Type 1} → statement M
++can_end_spec =
     close
     μ-can-end
     λ t. can-end-lts.spec

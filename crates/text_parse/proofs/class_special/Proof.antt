@@ -8,5 +8,5 @@ returns : tie.Need-returns
 unfolding amid
 returns c = search rules
 
-pub class-special-spec : {M : Type 1} → statement M
-class-special-spec = tie.close (tie.spec returns)
+pub class_special_spec : {M : Type 1} → statement M
+class_special_spec = tie.close (tie.spec returns)

@@ -8,38 +8,38 @@ use mathlib.Core.Path.{◌≡◌}
 use Rattle.text_parse.proofs.esc_step.Statement.{statement}
 use Rattle.text_parse.proofs.esc_step.Tie as tie
 
-returns : tie.Need-returns
+returns : tie.Need-returns-then-c-eq110
 unfolding mode
 returns c =
-    let x = c.before.args.c in
+    let x = c.args.c in
     let e110 : eqb x 110 ≡ true = eq-eqb x 110 (omega arith) in
     λ d. rw e110
 
-returns-2 : tie.Need-returns-2
+returns-2 : tie.Need-returns-then-c-eq115
 unfolding mode
 returns-2 c =
-    let x = c.before.before.args.c in
+    let x = c.args.c in
     let e110 : eqb x 110 ≡ false = ne_eqb x 110 (λ z. omega arith) in
     let e115 : eqb x 115 ≡ true = eq-eqb x 115 (omega arith) in
     λ d. rw (e110, e115)
 
-returns-3 : tie.Need-returns-3
+returns-3 : tie.Need-returns-then-c-eq120
 unfolding mode
 returns-3 c =
-    let x = c.before.before.before.args.c in
+    let x = c.args.c in
     let e110 : eqb x 110 ≡ false = ne_eqb x 110 (λ z. omega arith) in
     let e115 : eqb x 115 ≡ false = ne_eqb x 115 (λ z. omega arith) in
     let e120 : eqb x 120 ≡ true = eq-eqb x 120 (omega arith) in
     λ d. rw (e110, e115, e120)
 
-returns-4 : tie.Need-returns-4
+returns-4 : tie.Need-returns
 unfolding mode
 returns-4 c =
-    let x = c.before.before.before.args.c in
+    let x = c.args.c in
     let e110 : eqb x 110 ≡ false = ne_eqb x 110 (λ z. omega arith) in
     let e115 : eqb x 115 ≡ false = ne_eqb x 115 (λ z. omega arith) in
     let e120 : eqb x 120 ≡ false = ne_eqb x 120 (λ z. omega arith) in
     λ d. rw (e110, e115, e120)
 
-pub esc-step-spec : {M : Type 1} → statement M
-esc-step-spec = tie.close (tie.spec returns returns-2 returns-3 returns-4)
+pub esc_step_spec : {M : Type 1} → statement M
+esc_step_spec = tie.close (tie.spec returns returns-2 returns-3 returns-4)

@@ -8,5 +8,5 @@ returns : tie.Need-returns
 unfolding amid
 returns c = search rules
 
-pub is-special-spec : {M : Type 1} → statement M
-is-special-spec = tie.close (tie.spec returns)
+pub is_special_spec : {M : Type 1} → statement M
+is_special_spec = tie.close (tie.spec returns)

@@ -9,42 +9,42 @@ use Rattle.text_parse.proofs.Ahead.{later}
 use Rattle.text_parse.proofs.mark.Statement.{statement}
 use Rattle.text_parse.proofs.mark.Tie as tie
 
-shared-slice-read-c : tie.Need-shared-slice-read-c
+shared-slice-read-c : tie.Need-bounds-text-at
 shared-slice-read-c c = search rules
 
-add-repeat : tie.Need-overflow-add-repeat
+add-repeat : tie.Need-overflow_add-at
 add-repeat c = search rules
 
 repeat-requires : tie.Need-repeat-requires
 repeat-requires c κs = search rules
 
-returns : tie.Need-returns
+returns : tie.Need-returns-then-c-eq123
 returns c =
-    let a = c.before.before.before.before.before.args in
+    let a = c.args in
     let T = a.text.now in
     let p : a.at < length T = omega arith in
-    ((λ d l. mark-open T d a.at l p c.before.if2.true ∙ c.repeat.ensures.0 d l), later a.at (a.at + 1) (length T) c.repeat.result (omega arith) c.repeat.ensures.1)
+    ((λ d l. mark-open T d a.at l p c.if-c-eq123.true ∙ c.repeat.ensures.0 d l), later a.at (a.at + 1) (length T) c.repeat.result (omega arith) c.repeat.ensures.1)
 
-add-t14 : tie.Need-overflow-add-t14
+add-t14 : tie.Need-overflow_add-result
 add-t14 c = search rules
 
-returns-2 : tie.Need-returns-2
+returns-2 : tie.Need-returns-then-c
 returns-2 c =
-    let a = c.before.before.before.before.before.args in
+    let a = c.args in
     let T = a.text.now in
     let p : a.at < length T = omega arith in
-    ((λ d l. mark_on T d a.at l p c.if3.true), (omega arith, omega arith))
+    ((λ d l. mark_on T d a.at l p c.if-c.true), (omega arith, omega arith))
 
-returns-3 : tie.Need-returns-3
+returns-3 : tie.Need-returns-then-at-text
 returns-3 c =
-    let a = c.before.before.before.before.before.args in
+    let a = c.args in
     let T = a.text.now in
     let p : a.at < length T = omega arith in
-    ((λ d l. mark-none T d a.at l p c.before.if2.false c.if3.false), (omega arith, omega arith))
+    ((λ d l. mark-none T d a.at l p c.if-c-eq123.false c.if-c.false), (omega arith, omega arith))
 
-returns-4 : tie.Need-returns-4
+returns-4 : tie.Need-returns
 returns-4 c =
-    let a = c.before.before.args in
+    let a = c.args in
     let T = a.text.now in
     ((λ d l. mark-past T d a.at l (omega arith)), (omega arith, omega arith))
 

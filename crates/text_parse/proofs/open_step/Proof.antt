@@ -8,22 +8,22 @@ use mathlib.Core.Path.{◌≡◌}
 use Rattle.text_parse.proofs.open_step.Statement.{statement}
 use Rattle.text_parse.proofs.open_step.Tie as tie
 
-returns : tie.Need-returns
+returns : tie.Need-returns-then-c-n
 returns c =
-    let x = c.before.args.c in
-    let n = c.before.args.n in
+    let x = c.args.c in
+    let n = c.args.n in
     let e : eqb x n ≡ true = eq-eqb x n (omega arith) in
     λ d. rw e
 
-member-step-requires : tie.Need-member-step-requires
+member-step-requires : tie.Need-member_step-requires
 member-step-requires c κs = search rules
 
-returns-2 : tie.Need-returns-2
+returns-2 : tie.Need-returns
 returns-2 c =
-    let x = c.before.before.args.c in
-    let n = c.before.before.args.n in
+    let x = c.args.c in
+    let n = c.args.n in
     let e : eqb x n ≡ false = ne_eqb x n (λ z. omega arith) in
-    λ d. rw e (c.member-step.ensures d)
+    λ d. rw e (c.member_step.ensures d)
 
-pub open-step-spec : {M : Type 1} → statement M
-open-step-spec = tie.close (tie.spec returns member-step-requires returns-2)
+pub open_step_spec : {M : Type 1} → statement M
+open_step_spec = tie.close (tie.spec returns member-step-requires returns-2)

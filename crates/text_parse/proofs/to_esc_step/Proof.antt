@@ -8,40 +8,40 @@ use mathlib.Core.Path.{◌≡◌}
 use Rattle.text_parse.proofs.to_esc_step.Statement.{statement}
 use Rattle.text_parse.proofs.to_esc_step.Tie as tie
 
-returns : tie.Need-returns
+returns : tie.Need-returns-then-v-le10
 unfolding mode
 returns c =
-    let x = c.before.before.args.c in
-    let v = c.before.before.args.v in
+    let x = c.args.c in
+    let v = c.args.v in
     let e110 : eqb x 110 ≡ true = eq-eqb x 110 (omega arith) in
     let l : leb v 10 ≡ true = le-leb v 10 (omega arith) in
     λ d. rw (e110, l)
 
-returns-2 : tie.Need-returns-2
+returns-2 : tie.Need-returns-then-c-eq110
 unfolding mode
 returns-2 c =
-    let x = c.before.before.args.c in
-    let v = c.before.before.args.v in
+    let x = c.args.c in
+    let v = c.args.v in
     let e110 : eqb x 110 ≡ true = eq-eqb x 110 (omega arith) in
     let f : eqb x 120 ≡ false = ne_eqb x 120 (λ z. omega arith) in
     let l : leb v 10 ≡ false = lt-leb v 10 (omega arith) in
     λ d. rw (e110, l, f)
 
-returns-3 : tie.Need-returns-3
+returns-3 : tie.Need-returns-then-c-eq120
 unfolding mode
 returns-3 c =
-    let x = c.before.before.args.c in
+    let x = c.args.c in
     let e110 : eqb x 110 ≡ false = ne_eqb x 110 (λ z. omega arith) in
     let e120 : eqb x 120 ≡ true = eq-eqb x 120 (omega arith) in
     λ d. rw (e110, e120)
 
-returns-4 : tie.Need-returns-4
+returns-4 : tie.Need-returns
 unfolding mode
 returns-4 c =
-    let x = c.before.before.args.c in
+    let x = c.args.c in
     let e110 : eqb x 110 ≡ false = ne_eqb x 110 (λ z. omega arith) in
     let e120 : eqb x 120 ≡ false = ne_eqb x 120 (λ z. omega arith) in
     λ d. rw (e110, e120)
 
-pub to-esc-step-spec : {M : Type 1} → statement M
-to-esc-step-spec = tie.close (tie.spec returns returns-2 returns-3 returns-4)
+pub to_esc_step_spec : {M : Type 1} → statement M
+to_esc_step_spec = tie.close (tie.spec returns returns-2 returns-3 returns-4)

@@ -88,15 +88,15 @@ abbrev sequence-below : ℕ → In 2 sequence-kinds.ps
 sequence-below t =
     and 2 sequence-kinds.ps (falls 2 sequence-kinds.ps ◌<◌ μ-sequence t) sequence.Pre
 
-abbrev alternatives-Inv-loop : alternatives-lts.invariant-loop
+abbrev alternatives-Inv-loop : alternatives-lts.invariant-loop-next
 alternatives-Inv-loop text at base rows₀ next₀ shape₀ rows next shape =
     (at ≤ next) × (next ≤ length text) × (shape.size ≤ states) × Keeps base rows₀ rows × ((b : Body) (x : List ℕ) → ok_body b ≡ true → Stop x → drop at text ≡ reads b ++ x → Alts text rows base b x next shape)
 
-abbrev alternatives-μ-loop : alternatives-lts.decreases-loop
+abbrev alternatives-μ-loop : alternatives-lts.decreases-loop-next
 alternatives-μ-loop text at base rows₀ next₀ shape₀ rows next shape =
     length text - next
 
-alternatives-sequence-requires : (t : ℕ) → alternatives-lts.Need-sequence-requires (
+alternatives-sequence-requires : (t : ℕ) → alternatives-lts.Need-sequence-first-requires (
   sequence-below t,
   sequence.Post,
   capped-reads.Asked,
@@ -105,9 +105,9 @@ alternatives-sequence-requires : (t : ℕ) → alternatives-lts.Need-sequence-re
   or-reads.Learnt,
 ) (alternatives-at t) alternatives.Post alternatives-Inv-loop alternatives-μ-loop
 alternatives-sequence-requires t c κs =
-    (omega arith, c.before.before.before.requires.1)
+    (omega arith, c.requires.1)
 
-alternatives-loop-holds : (t : ℕ) → alternatives-lts.Need-loop-init (
+alternatives-loop-holds : (t : ℕ) → alternatives-lts.Need-loop-next-init (
   sequence-below t,
   sequence.Post,
   capped-reads.Asked,
@@ -116,14 +116,14 @@ alternatives-loop-holds : (t : ℕ) → alternatives-lts.Need-loop-init (
   or-reads.Learnt,
 ) (alternatives-at t) alternatives.Post alternatives-Inv-loop alternatives-μ-loop
 alternatives-loop-holds t c =
-    let s0 = c.before.before.before.before.before.before.before in
+    let s0 = c in
     let a = s0.args in
     let T = a.text.now in
     let A = a.rows.now in
-    let s = c.before.before.before.sequence in
-    (s.ensures.0, s.ensures.1, s.ensures.2, keeps-refl a.base s.new.1.1.1.0, λ b x ok st e. alts-first T a.base b x st s.new.1.1.1.0 a.at s.result.next s.result.shape ok e s.ensures.4)
+    let s = c.sequence-first in
+    (s.ensures.0, s.ensures.1, s.ensures.2, keeps-refl a.base s.new.rows, λ b x ok st e. alts-first T a.base b x st s.new.rows a.at s.result.next s.result.shape ok e s.ensures.4)
 
-alternatives-shared-slice-read-if1 : (t : ℕ) → alternatives-lts.Need-shared-slice-read-if1 (
+alternatives-shared-slice-read-if1 : (t : ℕ) → alternatives-lts.Need-bounds-text-next (
   sequence-below t,
   sequence.Post,
   capped-reads.Asked,
@@ -133,7 +133,7 @@ alternatives-shared-slice-read-if1 : (t : ℕ) → alternatives-lts.Need-shared-
 ) (alternatives-at t) alternatives.Post alternatives-Inv-loop alternatives-μ-loop
 alternatives-shared-slice-read-if1 t c = search rules
 
-alternatives-add-sequence : (t : ℕ) → alternatives-lts.Need-overflow-add-sequence (
+alternatives-add-sequence : (t : ℕ) → alternatives-lts.Need-overflow_add-next (
   sequence-below t,
   sequence.Post,
   capped-reads.Asked,
@@ -143,7 +143,7 @@ alternatives-add-sequence : (t : ℕ) → alternatives-lts.Need-overflow-add-seq
 ) (alternatives-at t) alternatives.Post alternatives-Inv-loop alternatives-μ-loop
 alternatives-add-sequence t c = search rules
 
-alternatives-add-capped : (t : ℕ) → alternatives-lts.Need-overflow-add-capped (
+alternatives-add-capped : (t : ℕ) → alternatives-lts.Need-overflow_add-base (
   sequence-below t,
   sequence.Post,
   capped-reads.Asked,
@@ -152,7 +152,7 @@ alternatives-add-capped : (t : ℕ) → alternatives-lts.Need-overflow-add-cappe
   or-reads.Learnt,
 ) (alternatives-at t) alternatives.Post alternatives-Inv-loop alternatives-μ-loop
 alternatives-add-capped t c =
-    omega (arith, c.before.before.before.before.loop.invariant.2)
+    omega (arith, c.loop-next.invariant.2)
 
 alternatives-capped-requires : (t : ℕ) → alternatives-lts.Need-capped-requires (
   sequence-below t,
@@ -164,7 +164,7 @@ alternatives-capped-requires : (t : ℕ) → alternatives-lts.Need-capped-requir
 ) (alternatives-at t) alternatives.Post alternatives-Inv-loop alternatives-μ-loop
 alternatives-capped-requires t c κs = search rules
 
-alternatives-sequence-requires-2 : (t : ℕ) → alternatives-lts.Need-sequence-requires-2 (
+alternatives-sequence-requires-2 : (t : ℕ) → alternatives-lts.Need-sequence-more-requires (
   sequence-below t,
   sequence.Post,
   capped-reads.Asked,
@@ -173,20 +173,20 @@ alternatives-sequence-requires-2 : (t : ℕ) → alternatives-lts.Need-sequence-
   or-reads.Learnt,
 ) (alternatives-at t) alternatives.Post alternatives-Inv-loop alternatives-μ-loop
 alternatives-sequence-requires-2 t c κs =
-    let s0 = c.before.before.before.before.before.before.before.before.before.before.before.before.before.before in
+    let s0 = c in
     let a = s0.args in
     let T = a.text.now in
     let A = a.rows.now in
-    let l0 = c.before.before.before.before.before.before.loop in
+    let l0 = c.loop-next in
     let n = l0.next in
     let r = l0.shape in
     let R = l0.rows in
     let i = l0.invariant in
     let m = cap-most (a.base + r.size) in
     let l = cap-low (a.base + r.size) (omega arith) in
-    (omega arith, (omega arith, omega arith, omega arith, i.3.long ∙ c.before.before.before.before.before.before.before.before.before.before.sequence.ensures.3.long ∙ s0.requires.1.3))
+    (omega arith, (omega arith, omega arith, omega arith, i.3.long ∙ c.sequence-first.ensures.3.long ∙ s0.requires.1.3))
 
-alternatives-or-requires : (t : ℕ) → alternatives-lts.Need-or-requires (
+alternatives-or-requires : (t : ℕ) → alternatives-lts.Need-or-shape-requires (
   sequence-below t,
   sequence.Post,
   capped-reads.Asked,
@@ -195,9 +195,9 @@ alternatives-or-requires : (t : ℕ) → alternatives-lts.Need-or-requires (
   or-reads.Learnt,
 ) (alternatives-at t) alternatives.Post alternatives-Inv-loop alternatives-μ-loop
 alternatives-or-requires t c κs =
-    (c.before.before.before.before.before.before.before.before.before.before.loop.invariant.2, c.before.before.before.sequence2.ensures.2)
+    (c.loop-next.invariant.2, c.sequence-more.ensures.2)
 
-alternatives-loop-less : (t : ℕ) → alternatives-lts.Need-loop-smaller (
+alternatives-loop-less : (t : ℕ) → alternatives-lts.Need-loop-next-smaller (
   sequence-below t,
   sequence.Post,
   capped-reads.Asked,
@@ -206,9 +206,9 @@ alternatives-loop-less : (t : ℕ) → alternatives-lts.Need-loop-smaller (
   or-reads.Learnt,
 ) (alternatives-at t) alternatives.Post alternatives-Inv-loop alternatives-μ-loop
 alternatives-loop-less t c =
-    omega (arith, c.before.before.before.before.sequence2.ensures.0)
+    omega (arith, c.sequence-more.ensures.0)
 
-alternatives-loop-again : (t : ℕ) → alternatives-lts.Need-loop-preserved (
+alternatives-loop-again : (t : ℕ) → alternatives-lts.Need-loop-next-preserved (
   sequence-below t,
   sequence.Post,
   capped-reads.Asked,
@@ -217,28 +217,28 @@ alternatives-loop-again : (t : ℕ) → alternatives-lts.Need-loop-preserved (
   or-reads.Learnt,
 ) (alternatives-at t) alternatives.Post alternatives-Inv-loop alternatives-μ-loop
 alternatives-loop-again t c =
-    let s0 = c.before.before.before.before.before.before.before.before.before.before.before.before.before.before.before.before.before.before.before in
+    let s0 = c in
     let a = s0.args in
     let T = a.text.now in
     let A = a.rows.now in
-    let l0 = c.before.before.before.before.before.before.before.before.before.before.before.loop in
+    let l0 = c.loop-next in
     let n = l0.next in
     let r = l0.shape in
     let R = l0.rows in
     let i = l0.invariant in
-    let s = c.before.before.before.before.sequence2 in
-    let q = c.before.before.before.before.before.before.capped in
-    let B = s.new.1.1.1.0 in
+    let s = c.sequence-more in
+    let q = c.capped in
+    let B = s.new.rows in
     let l : n < length T = omega arith in
     let m : a.base ≤ q.result = subst (λ z. a.base ≤ z) (sym q.ensures) (cap-least a.base r.size s0.requires.1.2) in (
       omega (arith, s.ensures.0),
       s.ensures.1,
-      subst (λ z. z ≤ states) (sym c.or.ensures.0) (cap-most (r.size + s.result.shape.size)),
-      keeps_then a.base c.before.before.before.before.before.before.before.before.before.before.before.before.before.before.before.sequence.new.1.1.1.0 R B i.3 (keeps-less a.base q.result R B m s.ensures.3),
-      λ b x ok st e. alts-more T a.base b x st R B n s.result.next q.result r s.result.shape c.or.result q.ensures l c.before.before.before.before.before.before.before.before.if1.true s.ensures.3 s.ensures.4 c.or.ensures (i.4 b x ok st e),
+      subst (λ z. z ≤ states) (sym c.or-shape.ensures.0) (cap-most (r.size + s.result.shape.size)),
+      keeps_then a.base c.sequence-first.new.rows R B i.3 (keeps-less a.base q.result R B m s.ensures.3),
+      λ b x ok st e. alts-more T a.base b x st R B n s.result.next q.result r s.result.shape c.or-shape.result q.ensures l c.if-text-next-eq124.true s.ensures.3 s.ensures.4 c.or-shape.ensures (i.4 b x ok st e),
     )
 
-alternatives-same-length : (t : ℕ) → alternatives-lts.Need-same-length (
+alternatives-same-length : (t : ℕ) → alternatives-lts.Need-shape_of-rows-else-text-next-eq124 (
   sequence-below t,
   sequence.Post,
   capped-reads.Asked,
@@ -247,9 +247,9 @@ alternatives-same-length : (t : ℕ) → alternatives-lts.Need-same-length (
   or-reads.Learnt,
 ) (alternatives-at t) alternatives.Post alternatives-Inv-loop alternatives-μ-loop
 alternatives-same-length t c =
-    c.before.before.before.loop.invariant.3.long ∙ c.before.before.before.before.before.before.before.sequence.auto.1.1.1.0
+    c.loop-next.invariant.3.long ∙ c.sequence-first.auto.rows
 
-alternatives-returns : (t : ℕ) → alternatives-lts.Need-returns (
+alternatives-returns : (t : ℕ) → alternatives-lts.Need-returns-else-text-next-eq124 (
   sequence-below t,
   sequence.Post,
   capped-reads.Asked,
@@ -258,20 +258,20 @@ alternatives-returns : (t : ℕ) → alternatives-lts.Need-returns (
   or-reads.Learnt,
 ) (alternatives-at t) alternatives.Post alternatives-Inv-loop alternatives-μ-loop
 alternatives-returns t c =
-    let s0 = c.before.before.before.before.before.before.before.before.before.before.before in
+    let s0 = c in
     let a = s0.args in
     let T = a.text.now in
     let A = a.rows.now in
-    let l0 = c.before.before.before.loop in
+    let l0 = c.loop-next in
     let n = l0.next in
     let r = l0.shape in
     let R = l0.rows in
     let i = l0.invariant in
     let l : n < length T = omega arith in
-    let s = c.before.before.before.before.before.before.before.sequence in
-    (i.0, i.1, i.2, keeps_then a.base A s.new.1.1.1.0 R s.ensures.3 i.3, λ b x ok st e. alts-over T a.base b x st R n r (inl (l, c.if1.false)) (i.4 b x ok st e))
+    let s = c.sequence-first in
+    (i.0, i.1, i.2, keeps_then a.base A s.new.rows R s.ensures.3 i.3, λ b x ok st e. alts-over T a.base b x st R n r (inl (l, c.if-text-next-eq124.false)) (i.4 b x ok st e))
 
-alternatives-same-length-2 : (t : ℕ) → alternatives-lts.Need-same-length-2 (
+alternatives-same-length-2 : (t : ℕ) → alternatives-lts.Need-shape_of-rows (
   sequence-below t,
   sequence.Post,
   capped-reads.Asked,
@@ -280,9 +280,9 @@ alternatives-same-length-2 : (t : ℕ) → alternatives-lts.Need-same-length-2 (
   or-reads.Learnt,
 ) (alternatives-at t) alternatives.Post alternatives-Inv-loop alternatives-μ-loop
 alternatives-same-length-2 t c =
-    c.before.loop.invariant.3.long ∙ c.before.before.before.before.before.sequence.auto.1.1.1.0
+    c.loop-next.invariant.3.long ∙ c.sequence-first.auto.rows
 
-alternatives-returns-2 : (t : ℕ) → alternatives-lts.Need-returns-2 (
+alternatives-returns-2 : (t : ℕ) → alternatives-lts.Need-returns (
   sequence-below t,
   sequence.Post,
   capped-reads.Asked,
@@ -291,19 +291,19 @@ alternatives-returns-2 : (t : ℕ) → alternatives-lts.Need-returns-2 (
   or-reads.Learnt,
 ) (alternatives-at t) alternatives.Post alternatives-Inv-loop alternatives-μ-loop
 alternatives-returns-2 t c =
-    let s0 = c.before.before.before.before.before.before.before.before.before in
+    let s0 = c in
     let a = s0.args in
     let T = a.text.now in
     let A = a.rows.now in
-    let l0 = c.before.loop in
+    let l0 = c.loop-next in
     let n = l0.next in
     let r = l0.shape in
     let R = l0.rows in
     let i = l0.invariant in
-    let s = c.before.before.before.before.before.sequence in
-    (i.0, i.1, i.2, keeps_then a.base A s.new.1.1.1.0 R s.ensures.3 i.3, λ b x ok st e. alts-over T a.base b x st R n r (inr (omega arith)) (i.4 b x ok st e))
+    let s = c.sequence-first in
+    (i.0, i.1, i.2, keeps_then a.base A s.new.rows R s.ensures.3 i.3, λ b x ok st e. alts-over T a.base b x st R n r (inr (omega arith)) (i.4 b x ok st e))
 
-atom-shared-slice-read-if1 : (t : ℕ) → atom-lts.Need-shared-slice-read-if1 (
+atom-shared-slice-read-if1 : (t : ℕ) → atom-lts.Need-bounds-text-at (
   alternatives-below t,
   alternatives.Post,
   past-reads.Asked,
@@ -319,7 +319,7 @@ atom-shared-slice-read-if1 : (t : ℕ) → atom-lts.Need-shared-slice-read-if1 (
 ) (atom-at t) atom.Post
 atom-shared-slice-read-if1 t c = search rules
 
-atom-add-alternatives : (t : ℕ) → atom-lts.Need-add-alternatives (
+atom-add-alternatives : (t : ℕ) → atom-lts.Need-overflow_add-at (
   alternatives-below t,
   alternatives.Post,
   past-reads.Asked,
@@ -335,7 +335,7 @@ atom-add-alternatives : (t : ℕ) → atom-lts.Need-add-alternatives (
 ) (atom-at t) atom.Post
 atom-add-alternatives t c = search rules
 
-atom-alternatives-requires : (t : ℕ) → atom-lts.Need-alternatives-requires (
+atom-alternatives-requires : (t : ℕ) → atom-lts.Need-alternatives-inner-requires (
   alternatives-below t,
   alternatives.Post,
   past-reads.Asked,
@@ -350,7 +350,7 @@ atom-alternatives-requires : (t : ℕ) → atom-lts.Need-alternatives-requires (
   single-Reads.Learnt,
 ) (atom-at t) atom.Post
 atom-alternatives-requires t c κs =
-    let p = c.before.before.before.before.before.requires.1 in
+    let p = c.requires.1 in
     (omega arith, (omega arith, p.1, p.2, p.3))
 
 atom-past-requires : (t : ℕ) → atom-lts.Need-past-requires (
@@ -369,7 +369,7 @@ atom-past-requires : (t : ℕ) → atom-lts.Need-past-requires (
 ) (atom-at t) atom.Post
 atom-past-requires t c κs = search rules
 
-atom-same-length : (t : ℕ) → atom-lts.Need-same-length (
+atom-same-length : (t : ℕ) → atom-lts.Need-shape_of-rows-then-text-at-eq40 (
   alternatives-below t,
   alternatives.Post,
   past-reads.Asked,
@@ -384,9 +384,9 @@ atom-same-length : (t : ℕ) → atom-lts.Need-same-length (
   single-Reads.Learnt,
 ) (atom-at t) atom.Post
 atom-same-length t c =
-    c.before.before.before.before.alternatives.auto.1.1.1.0
+    c.alternatives-inner.auto.rows
 
-atom-returns : (t : ℕ) → atom-lts.Need-returns (
+atom-returns : (t : ℕ) → atom-lts.Need-returns-then-text-at-eq40 (
   alternatives-below t,
   alternatives.Post,
   past-reads.Asked,
@@ -401,16 +401,16 @@ atom-returns : (t : ℕ) → atom-lts.Need-returns (
   single-Reads.Learnt,
 ) (atom-at t) atom.Post
 atom-returns t c =
-    let s0 = c.before.before.before.before.before.before.before.before.before.before in
+    let s0 = c in
     let a = s0.args in
     let T = a.text.now in
     let A = a.rows.now in
-    let u = c.before.before.before.before.alternatives in
+    let u = c.alternatives-inner in
     let q = c.past in
     let l : a.at < length T = omega arith in
-    (omega (arith, u.ensures.0, q.ensures.0), q.ensures.1 u.ensures.1, u.ensures.2, u.ensures.3, atom-group T u.new.1.1.1.0 a.base a.at u.result.next q.result u.result.shape l c.before.before.before.before.before.before.if1.true u.ensures.4 q.ensures.2)
+    (omega (arith, u.ensures.0, q.ensures.0), q.ensures.1 u.ensures.1, u.ensures.2, u.ensures.3, atom-group T u.new.rows a.base a.at u.result.next q.result u.result.shape l c.if-text-at-eq40.true u.ensures.4 q.ensures.2)
 
-atom-leaf-set-requires : (t : ℕ) → atom-lts.Need-leaf-set-requires (
+atom-leaf-set-requires : (t : ℕ) → atom-lts.Need-leaf_set-requires (
   alternatives-below t,
   alternatives.Post,
   past-reads.Asked,
@@ -426,7 +426,7 @@ atom-leaf-set-requires : (t : ℕ) → atom-lts.Need-leaf-set-requires (
 ) (atom-at t) atom.Post
 atom-leaf-set-requires t c κs = search rules
 
-atom-put-leaf-requires : (t : ℕ) → atom-lts.Need-put-leaf-requires (
+atom-put-leaf-requires : (t : ℕ) → atom-lts.Need-put_leaf-requires (
   alternatives-below t,
   alternatives.Post,
   past-reads.Asked,
@@ -441,9 +441,9 @@ atom-put-leaf-requires : (t : ℕ) → atom-lts.Need-put-leaf-requires (
   single-Reads.Learnt,
 ) (atom-at t) atom.Post
 atom-put-leaf-requires t c κs =
-    c.before.before.before.before.before.before.requires.1.3
+    c.requires.1.3
 
-atom-leaf-end-requires : (t : ℕ) → atom-lts.Need-leaf-end-requires (
+atom-leaf-end-requires : (t : ℕ) → atom-lts.Need-leaf_end-requires (
   alternatives-below t,
   alternatives.Post,
   past-reads.Asked,
@@ -475,7 +475,7 @@ atom-single-requires : (t : ℕ) → atom-lts.Need-single-requires (
 ) (atom-at t) atom.Post
 atom-single-requires t c κs = search rules
 
-atom-same-length-2 : (t : ℕ) → atom-lts.Need-same-length-2 (
+atom-same-length-2 : (t : ℕ) → atom-lts.Need-shape_of-rows (
   alternatives-below t,
   alternatives.Post,
   past-reads.Asked,
@@ -490,9 +490,9 @@ atom-same-length-2 : (t : ℕ) → atom-lts.Need-same-length-2 (
   single-Reads.Learnt,
 ) (atom-at t) atom.Post
 atom-same-length-2 t c =
-    c.before.before.before.before.put-leaf.auto.0
+    c.put_leaf.auto.rows
 
-atom-returns-2 : (t : ℕ) → atom-lts.Need-returns-2 (
+atom-returns-2 : (t : ℕ) → atom-lts.Need-returns (
   alternatives-below t,
   alternatives.Post,
   past-reads.Asked,
@@ -507,23 +507,23 @@ atom-returns-2 : (t : ℕ) → atom-lts.Need-returns-2 (
   single-Reads.Learnt,
 ) (atom-at t) atom.Post
 atom-returns-2 t c =
-    let s0 = c.before.before.before.before.before.before.before.before.before.before.before in
+    let s0 = c in
     let a = s0.args in
     let T = a.text.now in
     let A = a.rows.now in
-    let u = c.before.leaf-end in
-    let w = c.before.before.before.before.put-leaf in
-    let v = c.before.before.before.before.before.leaf-set in
+    let u = c.leaf_end in
+    let w = c.put_leaf in
+    let v = c.leaf_set in
     let g = c.single.ensures in (
       u.ensures.0,
       u.ensures.1,
       omega (arith, g.0),
       w.ensures.kept,
-      atom-leaf T w.new.0 a.base a.at u.result c.single.result c.before.before.before.before.before.before.before.if1.false u.ensures.2
-          (λ l y ok e. sum_one A w.new.0 a.base (leaf_has l) (byte_set_of v.result) c.single.result (v.ensures l y ok e) w.ensures g),
+      atom-leaf T w.new.rows a.base a.at u.result c.single.result c.if-text-at-eq40.false u.ensures.2
+          (λ l y ok e. sum_one A w.new.rows a.base (leaf_has l) (byte_set_of v.result) c.single.result (v.ensures l y ok e) w.ensures g),
     )
 
-item-none-end-requires : (t : ℕ) → item-lts.Need-none-end-requires (
+item-none-end-requires : (t : ℕ) → item-lts.Need-none_end-over-requires (
   none-end-reads.Asked,
   none-end-reads.Learnt,
   nothing-reads.Asked,
@@ -539,7 +539,7 @@ item-none-end-requires : (t : ℕ) → item-lts.Need-none-end-requires (
   copies-reads.Asked,
   copies-reads.Learnt,
 ) (item-at t) item.Post
-item-none-end-requires t c κs = c.before.before.requires.1.0
+item-none-end-requires t c κs = c.requires.1.0
 
 item-nothing-requires : (t : ℕ) → item-lts.Need-nothing-requires (
   none-end-reads.Asked,
@@ -559,7 +559,7 @@ item-nothing-requires : (t : ℕ) → item-lts.Need-nothing-requires (
 ) (item-at t) item.Post
 item-nothing-requires t c κs = search rules
 
-item-returns : (t : ℕ) → item-lts.Need-returns (
+item-returns : (t : ℕ) → item-lts.Need-returns-then-at-over (
   none-end-reads.Asked,
   none-end-reads.Learnt,
   nothing-reads.Asked,
@@ -576,11 +576,11 @@ item-returns : (t : ℕ) → item-lts.Need-returns (
   copies-reads.Learnt,
 ) (item-at t) item.Post
 item-returns t c =
-    let a = c.before.before.before.before.before.args in
-    let o = c.before.before.none-end.ensures in
-    (c.before.if1.true, o.1, omega (arith, c.nothing.ensures.0), keeps-refl a.base a.rows.now, λ b m y ok om calm e. let (u, v, w) = o.2 c.before.if1.true b m y ok om calm e in (item-never a.rows.now a.base b m c.nothing.result u v c.nothing.ensures, w))
+    let a = c.args in
+    let o = c.none_end-over.ensures in
+    (c.if-at-over.true, o.1, omega (arith, c.nothing.ensures.0), keeps-refl a.base a.rows.now, λ b m y ok om calm e. let (u, v, w) = o.2 c.if-at-over.true b m y ok om calm e in (item-never a.rows.now a.base b m c.nothing.result u v c.nothing.ensures, w))
 
-item-atom-requires : (t : ℕ) → item-lts.Need-atom-requires (
+item-atom-requires : (t : ℕ) → item-lts.Need-atom-a-requires (
   none-end-reads.Asked,
   none-end-reads.Learnt,
   nothing-reads.Asked,
@@ -597,9 +597,9 @@ item-atom-requires : (t : ℕ) → item-lts.Need-atom-requires (
   copies-reads.Learnt,
 ) (item-at t) item.Post
 item-atom-requires t c κs =
-    (omega arith, c.before.before.before.before.before.requires.1)
+    (omega arith, c.requires.1)
 
-item-mark-of-requires : (t : ℕ) → item-lts.Need-mark-of-requires (
+item-mark-of-requires : (t : ℕ) → item-lts.Need-mark_of-mark-requires (
   none-end-reads.Asked,
   none-end-reads.Learnt,
   nothing-reads.Asked,
@@ -616,9 +616,9 @@ item-mark-of-requires : (t : ℕ) → item-lts.Need-mark-of-requires (
   copies-reads.Learnt,
 ) (item-at t) item.Post
 item-mark-of-requires t c κs =
-    c.before.before.atom.ensures.1
+    c.atom-a.ensures.1
 
-item-same-length : (t : ℕ) → item-lts.Need-same-length (
+item-same-length : (t : ℕ) → item-lts.Need-shape_of-rows-then-mark-eq0 (
   none-end-reads.Asked,
   none-end-reads.Learnt,
   nothing-reads.Asked,
@@ -635,9 +635,9 @@ item-same-length : (t : ℕ) → item-lts.Need-same-length (
   copies-reads.Learnt,
 ) (item-at t) item.Post
 item-same-length t c =
-    c.before.before.before.before.before.before.atom.auto.1.1.1.0
+    c.atom-a.auto.rows
 
-item-returns-2 : (t : ℕ) → item-lts.Need-returns-2 (
+item-returns-2 : (t : ℕ) → item-lts.Need-returns-then-mark-eq0 (
   none-end-reads.Asked,
   none-end-reads.Learnt,
   nothing-reads.Asked,
@@ -654,15 +654,15 @@ item-returns-2 : (t : ℕ) → item-lts.Need-returns-2 (
   copies-reads.Learnt,
 ) (item-at t) item.Post
 item-returns-2 t c =
-    let s0 = c.before.before.before.before.before.before.before.before.before.before.before.before in
+    let s0 = c in
     let a = s0.args in
     let T = a.text.now in
     let A = a.rows.now in
-    let u = c.before.before.before.before.before.before.atom in
-    let m = c.before.before.before.mark_of in
+    let u = c.atom-a in
+    let m = c.mark_of-mark in
     let s = u.result.shape in
-    let R = u.new.1.1.1.0 in
-    (omega (arith, u.ensures.0, m.ensures.0), m.ensures.1, u.ensures.2, u.ensures.3, item-bare T R a.base a.at u.result.next s m.result u.ensures.4 m.ensures.4 c.if2.true)
+    let R = u.new.rows in
+    (omega (arith, u.ensures.0, m.ensures.0), m.ensures.1, u.ensures.2, u.ensures.3, item-bare T R a.base a.at u.result.next s m.result u.ensures.4 m.ensures.4 c.if-mark-eq0.true)
 
 item-again-requires : (t : ℕ) → item-lts.Need-again-requires (
   none-end-reads.Asked,
@@ -681,8 +681,8 @@ item-again-requires : (t : ℕ) → item-lts.Need-again-requires (
   copies-reads.Learnt,
 ) (item-at t) item.Post
 item-again-requires t c κs =
-    let u = c.before.before.before.before.before.before.before.before.before.atom in
-    let p = c.before.before.before.before.before.before.before.before.before.before.before.before.before.before.before.requires.1 in
+    let u = c.atom-a in
+    let p = c.requires.1 in
     (u.ensures.2, p.2, u.ensures.3.long ∙ p.3)
 
 item-maybe-requires : (t : ℕ) → item-lts.Need-maybe-requires (
@@ -703,7 +703,7 @@ item-maybe-requires : (t : ℕ) → item-lts.Need-maybe-requires (
 ) (item-at t) item.Post
 item-maybe-requires t c κs = search rules
 
-item-same-length-2 : (t : ℕ) → item-lts.Need-same-length-2 (
+item-same-length-2 : (t : ℕ) → item-lts.Need-shape_of-rows-then-mark-eq1 (
   none-end-reads.Asked,
   none-end-reads.Learnt,
   nothing-reads.Asked,
@@ -720,9 +720,9 @@ item-same-length-2 : (t : ℕ) → item-lts.Need-same-length-2 (
   copies-reads.Learnt,
 ) (item-at t) item.Post
 item-same-length-2 t c =
-    c.before.before.before.again.auto.0 ∙ c.before.before.before.before.before.before.before.before.before.before.before.before.before.atom.auto.1.1.1.0
+    c.again.auto.rows ∙ c.atom-a.auto.rows
 
-item-returns-3 : (t : ℕ) → item-lts.Need-returns-3 (
+item-returns-3 : (t : ℕ) → item-lts.Need-returns-then-mark-eq1 (
   none-end-reads.Asked,
   none-end-reads.Learnt,
   nothing-reads.Asked,
@@ -739,25 +739,25 @@ item-returns-3 : (t : ℕ) → item-lts.Need-returns-3 (
   copies-reads.Learnt,
 ) (item-at t) item.Post
 item-returns-3 t c =
-    let s0 = c.before.before.before.before.before.before.before.before.before.before.before.before.before.before.before.before.before.before.before in
+    let s0 = c in
     let a = s0.args in
     let T = a.text.now in
     let A = a.rows.now in
-    let u = c.before.before.before.before.before.before.before.before.before.before.before.before.before.atom in
-    let m = c.before.before.before.before.before.before.before.before.before.before.mark_of in
+    let u = c.atom-a in
+    let m = c.mark_of-mark in
     let s = u.result.shape in
-    let R = u.new.1.1.1.0 in
-    let w = c.before.before.before.again in
-    let B = w.new.0 in
+    let R = u.new.rows in
+    let w = c.again in
+    let B = w.new.rows in
     let g = c.maybe.ensures in (
       omega (arith, u.ensures.0, m.ensures.0),
       m.ensures.1,
       subst (λ z. z ≤ states) (sym g.0) u.ensures.2,
       keeps_then a.base A R B u.ensures.3 (seam-keeps (set_of s.last) (set_of s.first) a.base (cap (a.base + s.size)) R B w.ensures),
-      item-star T R a.base a.at u.result.next s m.result u.ensures.4 m.ensures.4 B s c.maybe.result c.before.before.before.before.before.if3.true (λ e v. sum-plus R B a.base e s v w.ensures) (λ e v. sum-opt B a.base e s c.maybe.result v g),
+      item-star T R a.base a.at u.result.next s m.result u.ensures.4 m.ensures.4 B s c.maybe.result c.if-mark-eq1.true (λ e v. sum-plus R B a.base e s v w.ensures) (λ e v. sum-opt B a.base e s c.maybe.result v g),
     )
 
-item-again-requires-2 : (t : ℕ) → item-lts.Need-again-requires-2 (
+item-again-requires-2 : (t : ℕ) → item-lts.Need-again-requires-then-mark-eq2 (
   none-end-reads.Asked,
   none-end-reads.Learnt,
   nothing-reads.Asked,
@@ -774,11 +774,11 @@ item-again-requires-2 : (t : ℕ) → item-lts.Need-again-requires-2 (
   copies-reads.Learnt,
 ) (item-at t) item.Post
 item-again-requires-2 t c κs =
-    let u = c.before.before.before.before.before.before.before.before.before.before.before.atom in
-    let p = c.before.before.before.before.before.before.before.before.before.before.before.before.before.before.before.before.before.requires.1 in
+    let u = c.atom-a in
+    let p = c.requires.1 in
     (u.ensures.2, p.2, u.ensures.3.long ∙ p.3)
 
-item-same-length-3 : (t : ℕ) → item-lts.Need-same-length-3 (
+item-same-length-3 : (t : ℕ) → item-lts.Need-shape_of-rows-then-mark-eq2 (
   none-end-reads.Asked,
   none-end-reads.Learnt,
   nothing-reads.Asked,
@@ -795,9 +795,9 @@ item-same-length-3 : (t : ℕ) → item-lts.Need-same-length-3 (
   copies-reads.Learnt,
 ) (item-at t) item.Post
 item-same-length-3 t c =
-    c.before.before.again2.auto.0 ∙ c.before.before.before.before.before.before.before.before.before.before.before.before.before.before.atom.auto.1.1.1.0
+    c.again-then-mark-eq2.auto.rows ∙ c.atom-a.auto.rows
 
-item-returns-4 : (t : ℕ) → item-lts.Need-returns-4 (
+item-returns-4 : (t : ℕ) → item-lts.Need-returns-then-mark-eq2 (
   none-end-reads.Asked,
   none-end-reads.Learnt,
   nothing-reads.Asked,
@@ -814,24 +814,24 @@ item-returns-4 : (t : ℕ) → item-lts.Need-returns-4 (
   copies-reads.Learnt,
 ) (item-at t) item.Post
 item-returns-4 t c =
-    let s0 = c.before.before.before.before.before.before.before.before.before.before.before.before.before.before.before.before.before.before.before.before in
+    let s0 = c in
     let a = s0.args in
     let T = a.text.now in
     let A = a.rows.now in
-    let u = c.before.before.before.before.before.before.before.before.before.before.before.before.before.before.atom in
-    let m = c.before.before.before.before.before.before.before.before.before.before.before.mark_of in
+    let u = c.atom-a in
+    let m = c.mark_of-mark in
     let s = u.result.shape in
-    let R = u.new.1.1.1.0 in
-    let w = c.before.before.again2 in
-    let B = w.new.0 in (
+    let R = u.new.rows in
+    let w = c.again-then-mark-eq2 in
+    let B = w.new.rows in (
       omega (arith, u.ensures.0, m.ensures.0),
       m.ensures.1,
       u.ensures.2,
       keeps_then a.base A R B u.ensures.3 (seam-keeps (set_of s.last) (set_of s.first) a.base (cap (a.base + s.size)) R B w.ensures),
-      item-plus T R a.base a.at u.result.next s m.result u.ensures.4 m.ensures.4 B s c.before.before.before.before.if4.true (λ e v. sum-plus R B a.base e s v w.ensures),
+      item-plus T R a.base a.at u.result.next s m.result u.ensures.4 m.ensures.4 B s c.if-mark-eq2.true (λ e v. sum-plus R B a.base e s v w.ensures),
     )
 
-item-maybe-requires-2 : (t : ℕ) → item-lts.Need-maybe-requires-2 (
+item-maybe-requires-2 : (t : ℕ) → item-lts.Need-maybe-requires-then-mark-eq3 (
   none-end-reads.Asked,
   none-end-reads.Learnt,
   nothing-reads.Asked,
@@ -849,7 +849,7 @@ item-maybe-requires-2 : (t : ℕ) → item-lts.Need-maybe-requires-2 (
 ) (item-at t) item.Post
 item-maybe-requires-2 t c κs = search rules
 
-item-same-length-4 : (t : ℕ) → item-lts.Need-same-length-4 (
+item-same-length-4 : (t : ℕ) → item-lts.Need-shape_of-rows-then-mark-eq3 (
   none-end-reads.Asked,
   none-end-reads.Learnt,
   nothing-reads.Asked,
@@ -866,9 +866,9 @@ item-same-length-4 : (t : ℕ) → item-lts.Need-same-length-4 (
   copies-reads.Learnt,
 ) (item-at t) item.Post
 item-same-length-4 t c =
-    c.before.before.before.before.before.before.before.before.before.before.before.before.before.atom.auto.1.1.1.0
+    c.atom-a.auto.rows
 
-item-returns-5 : (t : ℕ) → item-lts.Need-returns-5 (
+item-returns-5 : (t : ℕ) → item-lts.Need-returns-then-mark-eq3 (
   none-end-reads.Asked,
   none-end-reads.Learnt,
   nothing-reads.Asked,
@@ -885,20 +885,20 @@ item-returns-5 : (t : ℕ) → item-lts.Need-returns-5 (
   copies-reads.Learnt,
 ) (item-at t) item.Post
 item-returns-5 t c =
-    let s0 = c.before.before.before.before.before.before.before.before.before.before.before.before.before.before.before.before.before.before.before in
+    let s0 = c in
     let a = s0.args in
     let T = a.text.now in
     let A = a.rows.now in
-    let u = c.before.before.before.before.before.before.before.before.before.before.before.before.before.atom in
-    let m = c.before.before.before.before.before.before.before.before.before.before.mark_of in
+    let u = c.atom-a in
+    let m = c.mark_of-mark in
     let s = u.result.shape in
-    let R = u.new.1.1.1.0 in
-    let g = c.maybe2.ensures in (
+    let R = u.new.rows in
+    let g = c.maybe-then-mark-eq3.ensures in (
       omega (arith, u.ensures.0, m.ensures.0),
       m.ensures.1,
       subst (λ z. z ≤ states) (sym g.0) u.ensures.2,
       u.ensures.3,
-      item-maybe T R a.base a.at u.result.next s m.result u.ensures.4 m.ensures.4 R c.maybe2.result c.before.if5.true (λ e v. sum-opt R a.base e s c.maybe2.result v g),
+      item-maybe T R a.base a.at u.result.next s m.result u.ensures.4 m.ensures.4 R c.maybe-then-mark-eq3.result c.if-mark-eq3.true (λ e v. sum-opt R a.base e s c.maybe-then-mark-eq3.result v g),
     )
 
 item-copies-requires : (t : ℕ) → item-lts.Need-copies-requires (
@@ -918,12 +918,12 @@ item-copies-requires : (t : ℕ) → item-lts.Need-copies-requires (
   copies-reads.Learnt,
 ) (item-at t) item.Post
 item-copies-requires t c κs =
-    let u = c.before.before.before.before.before.before.before.before.before.before.before.before.before.atom in
-    let m = c.before.before.before.before.before.before.before.before.before.before.mark_of in
-    let p = c.before.before.before.before.before.before.before.before.before.before.before.before.before.before.before.before.before.before.before.requires.1 in
+    let u = c.atom-a in
+    let m = c.mark_of-mark in
+    let p = c.requires.1 in
     (p.1, p.2, u.ensures.2, m.ensures.3, u.ensures.3.long ∙ p.3)
 
-item-same-length-5 : (t : ℕ) → item-lts.Need-same-length-5 (
+item-same-length-5 : (t : ℕ) → item-lts.Need-shape_of-rows (
   none-end-reads.Asked,
   none-end-reads.Learnt,
   nothing-reads.Asked,
@@ -940,9 +940,9 @@ item-same-length-5 : (t : ℕ) → item-lts.Need-same-length-5 (
   copies-reads.Learnt,
 ) (item-at t) item.Post
 item-same-length-5 t c =
-    c.before.before.copies.auto.0 ∙ c.before.before.before.before.before.before.before.before.before.before.before.before.before.before.before.before.atom.auto.1.1.1.0
+    c.copies.auto.rows ∙ c.atom-a.auto.rows
 
-item-returns-6 : (t : ℕ) → item-lts.Need-returns-6 (
+item-returns-6 : (t : ℕ) → item-lts.Need-returns (
   none-end-reads.Asked,
   none-end-reads.Learnt,
   nothing-reads.Asked,
@@ -959,32 +959,32 @@ item-returns-6 : (t : ℕ) → item-lts.Need-returns-6 (
   copies-reads.Learnt,
 ) (item-at t) item.Post
 item-returns-6 t c =
-    let s0 = c.before.before.before.before.before.before.before.before.before.before.before.before.before.before.before.before.before.before.before.before.before.before in
+    let s0 = c in
     let a = s0.args in
     let T = a.text.now in
     let A = a.rows.now in
-    let u = c.before.before.before.before.before.before.before.before.before.before.before.before.before.before.before.before.atom in
-    let m = c.before.before.before.before.before.before.before.before.before.before.before.before.before.mark_of in
+    let u = c.atom-a in
+    let m = c.mark_of-mark in
     let s = u.result.shape in
-    let R = u.new.1.1.1.0 in
-    let w = c.before.before.copies in
-    let B = w.new.0 in (
+    let R = u.new.rows in
+    let w = c.copies in
+    let B = w.new.rows in (
       omega (arith, u.ensures.0, m.ensures.0),
       m.ensures.1,
       w.ensures.0,
       keeps_then a.base A R B u.ensures.3 w.ensures.1,
-      item-rep T R a.base a.at u.result.next s m.result u.ensures.4 m.ensures.4 B w.result c.before.before.before.before.before.before.before.before.before.before.if2.false c.before.before.before.before.before.before.before.before.if3.false c.before.before.before.before.before.before.if4.false c.before.before.before.before.if5.false w.ensures.2,
+      item-rep T R a.base a.at u.result.next s m.result u.ensures.4 m.ensures.4 B w.result c.if-mark-eq0.false c.if-mark-eq1.false c.if-mark-eq2.false c.if-mark-eq3.false w.ensures.2,
     )
 
-abbrev sequence-Inv-loop : sequence-lts.invariant-loop
+abbrev sequence-Inv-loop : sequence-lts.invariant-loop-next
 sequence-Inv-loop text at base rows₀ next₀ shape₀ rows next shape =
     (at ≤ next) × (next ≤ length text) × (shape.size ≤ states) × Keeps base rows₀ rows × ((b : Body) (x : List ℕ) → ok_body b ≡ true → Stop x → drop at text ≡ reads b ++ x → Left text rows base at b x next shape)
 
-abbrev sequence-μ-loop : sequence-lts.decreases-loop
+abbrev sequence-μ-loop : sequence-lts.decreases-loop-next
 sequence-μ-loop text at base rows₀ next₀ shape₀ rows next shape =
     length text - next
 
-sequence-nothing-requires : (t : ℕ) → sequence-lts.Need-nothing-requires (
+sequence-nothing-requires : (t : ℕ) → sequence-lts.Need-nothing-shape-requires (
   nothing-reads.Asked,
   nothing-reads.Learnt,
   capped-reads.Asked,
@@ -996,7 +996,7 @@ sequence-nothing-requires : (t : ℕ) → sequence-lts.Need-nothing-requires (
 ) (sequence-at t) sequence.Post sequence-Inv-loop sequence-μ-loop
 sequence-nothing-requires t c κs = search rules
 
-sequence-loop-holds : (t : ℕ) → sequence-lts.Need-loop-init (
+sequence-loop-holds : (t : ℕ) → sequence-lts.Need-loop-next-init (
   nothing-reads.Asked,
   nothing-reads.Learnt,
   capped-reads.Asked,
@@ -1007,14 +1007,14 @@ sequence-loop-holds : (t : ℕ) → sequence-lts.Need-loop-init (
   then-reads.Learnt,
 ) (sequence-at t) sequence.Post sequence-Inv-loop sequence-μ-loop
 sequence-loop-holds t c =
-    let s0 = c.before.before.before in
+    let s0 = c in
     let a = s0.args in
     let T = a.text.now in
     let A = a.rows.now in
-    let f = c.nothing.ensures in
-    (omega arith, omega arith, omega (arith, f.0), keeps-refl a.base A, λ b x ok st e. seq_start T A a.base a.at b x c.nothing.result ok e (sum-eps A a.base c.nothing.result f))
+    let f = c.nothing-shape.ensures in
+    (omega arith, omega arith, omega (arith, f.0), keeps-refl a.base A, λ b x ok st e. seq_start T A a.base a.at b x c.nothing-shape.result ok e (sum-eps A a.base c.nothing-shape.result f))
 
-sequence-shared-slice-read-c : (t : ℕ) → sequence-lts.Need-shared-slice-read-c (
+sequence-shared-slice-read-c : (t : ℕ) → sequence-lts.Need-bounds-text-next (
   nothing-reads.Asked,
   nothing-reads.Learnt,
   capped-reads.Asked,
@@ -1026,7 +1026,7 @@ sequence-shared-slice-read-c : (t : ℕ) → sequence-lts.Need-shared-slice-read
 ) (sequence-at t) sequence.Post sequence-Inv-loop sequence-μ-loop
 sequence-shared-slice-read-c t c = search rules
 
-sequence-same-length : (t : ℕ) → sequence-lts.Need-same-length (
+sequence-same-length : (t : ℕ) → sequence-lts.Need-shape_of-rows-then-c-eq124 (
   nothing-reads.Asked,
   nothing-reads.Learnt,
   capped-reads.Asked,
@@ -1037,9 +1037,9 @@ sequence-same-length : (t : ℕ) → sequence-lts.Need-same-length (
   then-reads.Learnt,
 ) (sequence-at t) sequence.Post sequence-Inv-loop sequence-μ-loop
 sequence-same-length t c =
-    c.before.before.before.loop.invariant.3.long
+    c.loop-next.invariant.3.long
 
-sequence-returns : (t : ℕ) → sequence-lts.Need-returns (
+sequence-returns : (t : ℕ) → sequence-lts.Need-returns-then-c-eq124 (
   nothing-reads.Asked,
   nothing-reads.Learnt,
   capped-reads.Asked,
@@ -1050,19 +1050,19 @@ sequence-returns : (t : ℕ) → sequence-lts.Need-returns (
   then-reads.Learnt,
 ) (sequence-at t) sequence.Post sequence-Inv-loop sequence-μ-loop
 sequence-returns t c =
-    let s0 = c.before.before.before.before.before.before.before in
+    let s0 = c in
     let a = s0.args in
     let T = a.text.now in
     let A = a.rows.now in
-    let l0 = c.before.before.before.loop in
+    let l0 = c.loop-next in
     let n = l0.next in
     let r = l0.shape in
     let R = l0.rows in
     let i = l0.invariant in
     let l : n < length T = omega arith in
-    (i.0, i.1, i.2, i.3, λ b x ok st e. seq-over T a.base n x st R a.at b r (inl (l, inl c.if1.true)) (i.4 b x ok st e))
+    (i.0, i.1, i.2, i.3, λ b x ok st e. seq-over T a.base n x st R a.at b r (inl (l, inl c.if-c-eq124.true)) (i.4 b x ok st e))
 
-sequence-same-length-2 : (t : ℕ) → sequence-lts.Need-same-length-2 (
+sequence-same-length-2 : (t : ℕ) → sequence-lts.Need-shape_of-rows-then-c-eq41 (
   nothing-reads.Asked,
   nothing-reads.Learnt,
   capped-reads.Asked,
@@ -1073,9 +1073,9 @@ sequence-same-length-2 : (t : ℕ) → sequence-lts.Need-same-length-2 (
   then-reads.Learnt,
 ) (sequence-at t) sequence.Post sequence-Inv-loop sequence-μ-loop
 sequence-same-length-2 t c =
-    c.before.before.before.before.loop.invariant.3.long
+    c.loop-next.invariant.3.long
 
-sequence-returns-2 : (t : ℕ) → sequence-lts.Need-returns-2 (
+sequence-returns-2 : (t : ℕ) → sequence-lts.Need-returns-then-c-eq41 (
   nothing-reads.Asked,
   nothing-reads.Learnt,
   capped-reads.Asked,
@@ -1086,19 +1086,19 @@ sequence-returns-2 : (t : ℕ) → sequence-lts.Need-returns-2 (
   then-reads.Learnt,
 ) (sequence-at t) sequence.Post sequence-Inv-loop sequence-μ-loop
 sequence-returns-2 t c =
-    let s0 = c.before.before.before.before.before.before.before.before in
+    let s0 = c in
     let a = s0.args in
     let T = a.text.now in
     let A = a.rows.now in
-    let l0 = c.before.before.before.before.loop in
+    let l0 = c.loop-next in
     let n = l0.next in
     let r = l0.shape in
     let R = l0.rows in
     let i = l0.invariant in
     let l : n < length T = omega arith in
-    (i.0, i.1, i.2, i.3, λ b x ok st e. seq-over T a.base n x st R a.at b r (inl (l, inr c.if2.true)) (i.4 b x ok st e))
+    (i.0, i.1, i.2, i.3, λ b x ok st e. seq-over T a.base n x st R a.at b r (inl (l, inr c.if-c-eq41.true)) (i.4 b x ok st e))
 
-sequence-add-capped : (t : ℕ) → sequence-lts.Need-overflow-add-capped (
+sequence-add-capped : (t : ℕ) → sequence-lts.Need-overflow_add-base (
   nothing-reads.Asked,
   nothing-reads.Learnt,
   capped-reads.Asked,
@@ -1109,9 +1109,9 @@ sequence-add-capped : (t : ℕ) → sequence-lts.Need-overflow-add-capped (
   then-reads.Learnt,
 ) (sequence-at t) sequence.Post sequence-Inv-loop sequence-μ-loop
 sequence-add-capped t c =
-    omega (arith, c.before.before.before.before.before.loop.invariant.2)
+    omega (arith, c.loop-next.invariant.2)
 
-sequence-capped-requires : (t : ℕ) → sequence-lts.Need-capped-requires (
+sequence-capped-requires : (t : ℕ) → sequence-lts.Need-capped-low-requires (
   nothing-reads.Asked,
   nothing-reads.Learnt,
   capped-reads.Asked,
@@ -1123,7 +1123,7 @@ sequence-capped-requires : (t : ℕ) → sequence-lts.Need-capped-requires (
 ) (sequence-at t) sequence.Post sequence-Inv-loop sequence-μ-loop
 sequence-capped-requires t c κs = search rules
 
-sequence-item-requires : (t : ℕ) → sequence-lts.Need-item-requires (
+sequence-item-requires : (t : ℕ) → sequence-lts.Need-item-one-requires (
   nothing-reads.Asked,
   nothing-reads.Learnt,
   capped-reads.Asked,
@@ -1134,11 +1134,11 @@ sequence-item-requires : (t : ℕ) → sequence-lts.Need-item-requires (
   then-reads.Learnt,
 ) (sequence-at t) sequence.Post sequence-Inv-loop sequence-μ-loop
 sequence-item-requires t c κs =
-    let s0 = c.before.before.before.before.before.before.before.before.before.before.before in
+    let s0 = c in
     let a = s0.args in
     let T = a.text.now in
     let A = a.rows.now in
-    let l0 = c.before.before.before.before.before.before.before.loop in
+    let l0 = c.loop-next in
     let n = l0.next in
     let r = l0.shape in
     let R = l0.rows in
@@ -1147,7 +1147,7 @@ sequence-item-requires t c κs =
     let l = cap-low (a.base + r.size) (omega arith) in
     (omega arith, (omega arith, omega arith, omega arith, i.3.long ∙ s0.requires.1.3))
 
-sequence-then-requires : (t : ℕ) → sequence-lts.Need-then-requires (
+sequence-then-requires : (t : ℕ) → sequence-lts.Need-then-shape-requires (
   nothing-reads.Asked,
   nothing-reads.Learnt,
   capped-reads.Asked,
@@ -1158,20 +1158,20 @@ sequence-then-requires : (t : ℕ) → sequence-lts.Need-then-requires (
   then-reads.Learnt,
 ) (sequence-at t) sequence.Post sequence-Inv-loop sequence-μ-loop
 sequence-then-requires t c κs =
-    let s0 = c.before.before.before.before.before.before.before.before.before.before.before.before.before.before.before.before in
+    let s0 = c in
     let a = s0.args in
     let T = a.text.now in
     let A = a.rows.now in
-    let l0 = c.before.before.before.before.before.before.before.before.before.before.before.before.loop in
+    let l0 = c.loop-next in
     let n = l0.next in
     let r = l0.shape in
     let R = l0.rows in
     let i = l0.invariant in
-    let s = c.before.before.before.before.item in
-    let q = c.before.before.before.before.before.before.capped in
+    let s = c.item-one in
+    let q = c.capped-low in
     (i.2, s.ensures.2, subst (λ z. z ≤ states) (sym q.ensures) (cap-most (a.base + r.size)), s.ensures.3.long ∙ i.3.long ∙ s0.requires.1.3)
 
-sequence-loop-less : (t : ℕ) → sequence-lts.Need-loop-smaller (
+sequence-loop-less : (t : ℕ) → sequence-lts.Need-loop-next-smaller (
   nothing-reads.Asked,
   nothing-reads.Learnt,
   capped-reads.Asked,
@@ -1182,9 +1182,9 @@ sequence-loop-less : (t : ℕ) → sequence-lts.Need-loop-smaller (
   then-reads.Learnt,
 ) (sequence-at t) sequence.Post sequence-Inv-loop sequence-μ-loop
 sequence-loop-less t c =
-    omega (arith, c.before.before.before.before.before.before.before.item.ensures.0)
+    omega (arith, c.item-one.ensures.0)
 
-sequence-loop-again : (t : ℕ) → sequence-lts.Need-loop-preserved (
+sequence-loop-again : (t : ℕ) → sequence-lts.Need-loop-next-preserved (
   nothing-reads.Asked,
   nothing-reads.Learnt,
   capped-reads.Asked,
@@ -1195,20 +1195,20 @@ sequence-loop-again : (t : ℕ) → sequence-lts.Need-loop-preserved (
   then-reads.Learnt,
 ) (sequence-at t) sequence.Post sequence-Inv-loop sequence-μ-loop
 sequence-loop-again t c =
-    let s0 = c.before.before.before.before.before.before.before.before.before.before.before.before.before.before.before.before.before.before.before in
+    let s0 = c in
     let a = s0.args in
     let T = a.text.now in
     let A = a.rows.now in
-    let l0 = c.before.before.before.before.before.before.before.before.before.before.before.before.before.before.before.loop in
+    let l0 = c.loop-next in
     let n = l0.next in
     let r = l0.shape in
     let R = l0.rows in
     let i = l0.invariant in
-    let s = c.before.before.before.before.before.before.before.item in
-    let q = c.before.before.before.before.before.before.before.before.before.capped in
-    let t = c.before.before.then in
-    let B = s.new.1.1.1.0 in
-    let C = t.new.0 in
+    let s = c.item-one in
+    let q = c.capped-low in
+    let t = c.then-shape in
+    let B = s.new.rows in
+    let C = t.new.rows in
     let f = t.ensures in
     let l : n < length T = omega arith in
     let m : a.base ≤ q.result = subst (λ z. a.base ≤ z) (sym q.ensures) (cap-least a.base r.size s0.requires.1.2) in (
@@ -1216,10 +1216,10 @@ sequence-loop-again t c =
       s.ensures.1,
       subst (λ z. z ≤ states) (sym f.0.0) (cap-most (r.size + s.result.shape.size)),
       keeps_then a.base A R C i.3 (keeps_then a.base R B C (keeps-less a.base q.result R B m s.ensures.3) (keeps-less a.base q.result B C m (seam-keeps (set_of r.last) (set_of s.result.shape.first) q.result (cap (q.result + s.result.shape.size)) B C f.1))),
-      λ b x ok st e. seq_more T a.base n x st R B C a.at b s.result.next q.result r s.result.shape t.result q.ensures l c.before.before.before.before.before.before.before.before.before.before.before.before.if1.false c.before.before.before.before.before.before.before.before.before.before.before.if2.false s.ensures.3 s.ensures.4 f.1 f.0 (i.4 b x ok st e),
+      λ b x ok st e. seq_more T a.base n x st R B C a.at b s.result.next q.result r s.result.shape t.result q.ensures l c.if-c-eq124.false c.if-c-eq41.false s.ensures.3 s.ensures.4 f.1 f.0 (i.4 b x ok st e),
     )
 
-sequence-same-length-3 : (t : ℕ) → sequence-lts.Need-same-length-3 (
+sequence-same-length-3 : (t : ℕ) → sequence-lts.Need-shape_of-rows (
   nothing-reads.Asked,
   nothing-reads.Learnt,
   capped-reads.Asked,
@@ -1230,9 +1230,9 @@ sequence-same-length-3 : (t : ℕ) → sequence-lts.Need-same-length-3 (
   then-reads.Learnt,
 ) (sequence-at t) sequence.Post sequence-Inv-loop sequence-μ-loop
 sequence-same-length-3 t c =
-    c.before.loop.invariant.3.long
+    c.loop-next.invariant.3.long
 
-sequence-returns-3 : (t : ℕ) → sequence-lts.Need-returns-3 (
+sequence-returns-3 : (t : ℕ) → sequence-lts.Need-returns (
   nothing-reads.Asked,
   nothing-reads.Learnt,
   capped-reads.Asked,
@@ -1243,19 +1243,19 @@ sequence-returns-3 : (t : ℕ) → sequence-lts.Need-returns-3 (
   then-reads.Learnt,
 ) (sequence-at t) sequence.Post sequence-Inv-loop sequence-μ-loop
 sequence-returns-3 t c =
-    let s0 = c.before.before.before.before.before in
+    let s0 = c in
     let a = s0.args in
     let T = a.text.now in
     let A = a.rows.now in
-    let l0 = c.before.loop in
+    let l0 = c.loop-next in
     let n = l0.next in
     let r = l0.shape in
     let R = l0.rows in
     let i = l0.invariant in
     (i.0, i.1, i.2, i.3, λ b x ok st e. seq-over T a.base n x st R a.at b r (inr (omega arith)) (i.4 b x ok st e))
 
-pub +alternatives-atom-item-sequence-spec : {M : Type 1} → statement M
-+alternatives-atom-item-sequence-spec =
+pub +alternatives_atom_item_sequence_spec : {M : Type 1} → statement M
++alternatives_atom_item_sequence_spec =
     close μ-alternatives μ-atom μ-item μ-sequence (λ t. alternatives-lts.spec (
       sequence-below t,
       sequence.Post,

@@ -5,11 +5,11 @@ use Rattle.text_walk.proofs.Sum.{cap-small, cap-over}
 use Rattle.text_walk.proofs.capped.Statement.{statement}
 use Rattle.text_walk.proofs.capped.Tie as tie
 
-returns : tie.Need-returns
+returns : tie.Need-returns-then-n-gt-STATES
 returns c = sym (cap-over _ (omega arith))
 
-returns-2 : tie.Need-returns-2
+returns-2 : tie.Need-returns-else-n-gt-STATES
 returns-2 c = sym (cap-small _ (omega arith))
 
-pub capped-spec : {M : Type 1} → statement M
-capped-spec = tie.close (tie.spec returns returns-2)
+pub capped_spec : {M : Type 1} → statement M
+capped_spec = tie.close (tie.spec returns returns-2)

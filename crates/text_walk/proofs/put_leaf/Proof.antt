@@ -13,40 +13,40 @@ use Rattle.text_walk.proofs.Loops.{leafed, leafed-none}
 use Rattle.text_walk.proofs.put_leaf.Statement.{statement}
 use Rattle.text_walk.proofs.put_leaf.Tie as tie
 
-mul-store : tie.Need-overflow-mul-store
+mul-store : tie.Need-overflow_mul-t
 mul-store c = search rules
 
 store-requires : tie.Need-store-requires
 store-requires c κs = search rules
 
-mul-store-2 : tie.Need-overflow-mul-store-2
+mul-store-2 : tie.Need-overflow_mul-t-then-t-lt-STATES
 mul-store-2 c = search rules
 
-add-store : tie.Need-overflow-add-store
+add-store : tie.Need-overflow_add-t
 add-store c = search rules
 
-store-requires-2 : tie.Need-store-requires-2
+store-requires-2 : tie.Need-store-requires-then-t-lt-STATES
 store-requires-2 c κs =
-    let l : length c.before.before.before.store.new.1.0 ≡ length c.before.before.before.before.before.before.before.args.rows.now = c.before.before.before.store.auto.1.0 in
-    omega (arith, c.before.before.before.before.before.before.before.requires)
+    let l : length c.store.new.b ≡ length c.args.rows.now = c.store.auto.b in
+    omega (arith, c.requires)
 
-same_length : tie.Need-same-length
+same_length : tie.Need-shape_of-rows
 same_length c =
-    c.before.before.store2.auto.1.0 ∙ c.before.before.before.before.before.before.store.auto.1.0
+    c.store-then-t-lt-STATES.auto.b ∙ c.store.auto.b
 
-returns : tie.Need-returns
+returns : tie.Need-returns-then-t-lt-STATES
 returns c =
-    let s = c.before.before.before.before.before.before.before.before.before.before in
+    let s = c in
     let a = s.args in
-    leafed a.rows.now c.before.before.before.before.before.before.store.new.1.0 c.before.before.store2.new.1.0 a.t (byte_set_of a.letter) s.requires c.before.before.before.before.before.before.before.before.if1.true (words-lt byte_words a.letter.words (byte-set-valid-of a.letter _ s.well-formed.1.1.0))
-    (c.before.before.before.before.before.before.store.ensures ∙ ap (λ z. placed a.rows.now (row_size * a.t) (set_bytes z)) (empty-words set_words)) c.before.before.store2.ensures
+    leafed a.rows.now c.store.new.b c.store-then-t-lt-STATES.new.b a.t (byte_set_of a.letter) s.requires c.if-t-lt-STATES.true (words-lt byte_words a.letter.words (byte-set-valid-of a.letter _ s.well_formed.1.1.0))
+    (c.store.ensures ∙ ap (λ z. placed a.rows.now (row_size * a.t) (set_bytes z)) (empty-words set_words)) c.store-then-t-lt-STATES.ensures
 
-returns-2 : tie.Need-returns-2
+returns-2 : tie.Need-returns-else-t-lt-STATES
 returns-2 c =
-    leafed-none c.before.before.args.rows.now c.before.before.args.t (byte_set_of c.before.before.args.letter) (omega arith)
+    leafed-none c.args.rows.now c.args.t (byte_set_of c.args.letter) (omega arith)
 
-pub put-leaf-spec : {M : Type 1} → statement M
-put-leaf-spec =
+pub put_leaf_spec : {M : Type 1} → statement M
+put_leaf_spec =
     tie.close
     (tie.spec
     mul-store

@@ -6,13 +6,13 @@ use Rattle.sets.proofs.Sets.{empty-words}
 use Rattle.text_walk.proofs.single.Statement.{statement}
 use Rattle.text_walk.proofs.single.Tie as tie
 
-with-requires : tie.Need-with-requires
+with-requires : tie.Need-with-it-requires
 with-requires c κs = search rules
 
 returns : tie.Need-returns
 returns c =
-    let e = c.with.ensures ∙ ap (λ z. insert states z c.before.args.base) (empty-words set_words) in
+    let e = c.with-it.ensures ∙ ap (λ z. insert states z c.args.base) (empty-words set_words) in
     (refl, refl, e, e)
 
-pub single-spec : {M : Type 1} → statement M
-single-spec = tie.close (tie.spec with-requires returns)
+pub single_spec : {M : Type 1} → statement M
+single_spec = tie.close (tie.spec with-requires returns)

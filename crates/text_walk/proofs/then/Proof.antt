@@ -9,7 +9,7 @@ use Rattle.text_walk.proofs.Sum.{cap-least, cap-most}
 use Rattle.text_walk.proofs.then.Statement.{statement}
 use Rattle.text_walk.proofs.then.Tie as tie
 
-add-capped : tie.Need-overflow-add-capped
+add-capped : tie.Need-overflow_add-low
 add-capped c = search rules
 
 capped-requires : tie.Need-capped-requires
@@ -17,7 +17,7 @@ capped-requires c κs = search rules
 
 seam-requires : tie.Need-seam-requires
 seam-requires c κs =
-    let s = c.before.before.before.before.before.before.before.before in
+    let s = c in
     let a = s.args in
     let e = c.capped.ensures in
     let m = cap-most (a.low + a.y.size) in
@@ -27,32 +27,32 @@ seam-requires c κs =
 only-requires : tie.Need-only-requires
 only-requires c κs = search rules
 
-union-requires : tie.Need-union-requires
+union-requires : tie.Need-union-first-requires
 union-requires c κs = search rules
 
-only-requires-2 : tie.Need-only-requires-2
+only-requires-2 : tie.Need-only-kept-requires
 only-requires-2 c κs = search rules
 
-union-requires-2 : tie.Need-union-requires-2
+union-requires-2 : tie.Need-union-last-requires
 union-requires-2 c κs = search rules
 
-add-capped-2 : tie.Need-overflow-add-capped-2
+add-capped-2 : tie.Need-overflow_add-x
 add-capped-2 c = search rules
 
 capped-requires-2 : tie.Need-capped-requires-2
 capped-requires-2 c κs = search rules
 
-same_length : tie.Need-same-length
+same_length : tie.Need-shape_of-rows
 same_length c =
-    c.before.before.before.before.before.before.before.before.before.before.before.seam.auto.0
+    c.seam.auto.rows
 
 returns : tie.Need-returns
 returns c =
-    let a = c.before.before.before.before.before.before.before.before.before.before.before.before.before.before.before.before.before.before.before.before.args in
-    ((c.before.before.capped2.ensures, refl, c.before.before.before.before.before.before.before.union.ensures ∙ ap (join (set_of a.x.first)) c.before.before.before.before.before.before.before.before.only.ensures, c.before.before.before.before.before.union2.ensures ∙ ap (λ z. join z (set_of a.y.last)) c.before.before.before.before.before.before.only2.ensures), subst (λ z. Seamed (set_of a.x.last) (set_of a.y.first) a.low z a.rows.now c.before.before.before.before.before.before.before.before.before.before.before.seam.new.0) c.before.before.before.before.before.before.before.before.before.before.before.before.capped.ensures c.before.before.before.before.before.before.before.before.before.before.before.seam.ensures)
+    let a = c.args in
+    ((c.capped-2.ensures, refl, c.union-first.ensures ∙ ap (join (set_of a.x.first)) c.only.ensures, c.union-last.ensures ∙ ap (λ z. join z (set_of a.y.last)) c.only-kept.ensures), subst (λ z. Seamed (set_of a.x.last) (set_of a.y.first) a.low z a.rows.now c.seam.new.rows) c.capped.ensures c.seam.ensures)
 
-pub then-spec : {M : Type 1} → statement M
-then-spec =
+pub then_spec : {M : Type 1} → statement M
+then_spec =
     tie.close
     (tie.spec
     add-capped

@@ -12,16 +12,16 @@ use Rattle.text_walk.proofs.walk.Reads as reads
 front-requires : tie.Need-front-requires
 front-requires c κs = search rules
 
-alternatives-requires : tie.Need-alternatives-requires
+alternatives-requires : tie.Need-alternatives-all-requires
 alternatives-requires c κs = search rules
 
-same_length : tie.Need-same-length
+same_length : tie.Need-shape_of-rows
 same_length c = search rules
 
 returns : tie.Need-returns
 returns c =
-    let u = c.before.before.before.alternatives in
-    (u.ensures.2, u.ensures.3.long ∙ c.before.before.before.before.before.before.before.before.requires, λ t ok e. (u.ensures.4 t.body [] ok (inl refl) (c.before.before.before.before.before.front.ensures.1 t ok e ∙ sym (unit (reads t.body)))).0)
+    let u = c.alternatives-all in
+    (u.ensures.2, u.ensures.3.long ∙ c.requires, λ t ok e. (u.ensures.4 t.body [] ok (inl refl) (c.front.ensures.1 t ok e ∙ sym (unit (reads t.body)))).0)
 
-pub walk-spec : {M : Type 1} → statement M
-walk-spec = tie.close (tie.spec front-requires alternatives-requires same_length returns)
+pub walk_spec : {M : Type 1} → statement M
+walk_spec = tie.close (tie.spec front-requires alternatives-requires same_length returns)
