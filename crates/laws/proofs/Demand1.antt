@@ -14,15 +14,16 @@ use Rattle.rules.proofs.Scanning.{every-all}
 use Rattle.rules.proofs.Rules.{rises, verdict-lt}
 use Rattle.list.specs.List.{list_rules}
 use Rattle.list.specs.Automaton.{start, accepted}
+use Rattle.list.proofs.Listed.{list-refuses}
 use Rattle.list_flow.specs.Flow.{flow_layout, feed_rules}
 use Rattle.list_flow.specs.Opening.{open_pairs, first_rules, open_rules, opened, open_flow}
 use Rattle.list_flow.proofs.Opening.{open_pairs-long}
 use Rattle.feed.specs.Demands.{OneOpening}
 use Rattle.feed.proofs.Halts.{by-rule}
-use Rattle.feed.proofs.Feeds.{each-call}
+use Rattle.feed.proofs.Feeds.{each-feed}
 use Rattle.feed.proofs.Opening.{opening-refusal, one-opening}
 use Rattle.table.specs.Table.{Table, split_count, in_order, size_rules, table_rules, table_refusal}
-use Rattle.table.proofs.Checked.{in-order-first, in-order-exactly}
+use Rattle.table.proofs.Checked.{table-exactly, in-order-first, in-order-exactly}
 use Rattle.table_feed.specs.Split.{split, split_rules, split_feed}
 use Rattle.table_feed.proofs.Halting.{stuck-exactly}
 use Rattle.table_feed.proofs.Rising.{rising-verdict, rising-as-before}
@@ -37,12 +38,11 @@ use Rattle.table_build.proofs.Reached.{unique-build}
 use Rattle.table_build.proofs.Outcomes.{build-accepted}
 use Rattle.table_build.proofs.Words.{keeps, empties, fills}
 use Rattle.rules.specs.Words.{InWords}
-use Rattle.laws.specs.Words.{table_words}
-use Rattle.laws.proofs.Words.{AllRise}
-use Rattle.laws.specs.Calls.{words_by, way_of}
+use Rattle.laws.proofs.Words.{table_words, AllRise}
+use Rattle.laws.specs.Calls.{way_of}
 use Rattle.laws.specs.Demands.{Demand1, DemandPrepared}
 use Rattle.index_prepare.proofs.Ends.{unique-prepare}
-use Rattle.laws.proofs.Engines.{lawful-of, said_of, rises-of}
+use Rattle.laws.proofs.Engines.{lawful-of, said_of, ruled-of}
 use Rattle.laws.proofs.Saying.{list_tells, open-tells, table-tells, fill-tells, index-tells}
 use Rattle.laws.proofs.Building.{build-tells}
 use Rattle.laws.proofs.Preparing.{prepare-tells, prepare-keeps, prepare-empties, prepare-makes}
@@ -50,13 +50,13 @@ use Rattle.laws.proofs.Preparing.{prepare-tells, prepare-keeps, prepare-empties,
 -- ---- opening
 
 module _ (L R out : List ℕ) where
-  pub open-verdict : (open_flow L R out).refusal ≡ verdict (open_rules L R out)
+  open-verdict : (open_flow L R out).refusal ≡ verdict (open_rules L R out)
   open-verdict = opening-refusal (open_rules L R out) (open_pairs L) (opened L) R out
 
-  pub open-once : OneOpening (open_pairs L) (opened L) R out (open_flow L R out)
+  pub open-once : OneOpening (first_rules L R) (open_pairs L) (opened L) R out (open_flow L R out)
   open-once =
       let A = accepted L (start L) in
-      one-opening (first_rules L R) (open_pairs L) (opened L) R out (size signatures A) (open_pairs-long L) (omega (arith, members-size signatures A, members-most signatures A)) refl
+      one-opening (first_rules L R) (open_pairs L) (opened L) R out (size signatures A) (open_pairs-long L) (omega (arith, members-size signatures A, members-most signatures A)) refl refl
       (λ e. omega (arith, verdict-lt 15 (first_rules L R) (lit< tt) refl, e))
 
 -- ---- the split feed
@@ -92,19 +92,16 @@ demand-1 =
             rises 0 (table_rules L b T) refl,
             rises 0 (fill_rules L X) refl,
             rises 0 (index_rules L b T X) refl,
-            rises-of c.by.via c.by.list R c.at c.piece,
+            (ruled-of c.by.via c.by.list R c.at c.piece).0,
           );
+      lists = list-refuses;
       lists-said = list_tells;
-      opens =
-          λ L.
-          record {
-            one = open-once L;
-            said = λ R out. rw (open-verdict L R out) (open-tells L R out);
-            lengths = λ R Q out ws e f. rw (open-verdict L R out, open-verdict L Q ws, e, f);
-          };
-      feeds =
-          each-call way_of (λ b. words_by b.via b.list)
-          (λ R c. said_of c.by.via c.by.list R c.at c.piece) (λ R c v. ((lawful-of c.by.via).passes c.by.list R c.at c.piece v).1);
+      opens = open-once;
+      opens-said = λ L R out. rw (open-verdict L R out) (open-tells L R out);
+      opens-length = λ L R Q out ws e f. rw (open-verdict L R out, open-verdict L Q ws, e, f);
+      feeds = λ R c. each-feed (way_of c.by) R c.at c.piece c.out;
+      feeds-refuse = λ R c. (ruled-of c.by.via c.by.list R c.at c.piece).1;
+      feeds-said = λ R c. said_of c.by.via c.by.list R c.at c.piece;
       feeds-low = λ R c. (lawful-of c.by.via).below-14 c.by.list R c.at c.piece;
       feeds-cut = λ R c. (lawful-of c.by.via).shorter c.by.list R c.at c.piece;
       stuck-said = stuck-exactly;
@@ -112,6 +109,7 @@ demand-1 =
       splits-rising = λ L b T R at piece out r. rising-as-before L b T (all-rise T.splits r) R at piece out;
       matrices-plain = matrix-is-plain;
       prepares-split = λ L b T h R at piece out e s hb. index.stand-exact L b T e s h R at piece out hb;
+      tables = table-exactly;
       tables-said = table-said;
       fills-said = λ L X n left w. rw w.refuses (fill-tells L X);
       fills-not = λ L X n left w v. w.wrote ∙ rw (ne_eqb (verdict (fill_rules L X)) 0 (λ z. v (w.refuses ∙ z)));

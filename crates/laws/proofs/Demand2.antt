@@ -1,13 +1,18 @@
 -- Demand 2 over any list of plain calls from any record, however they are cut; and what holds of each call, by any of the four feeds. Assumes nothing.
 use Prim.Native.Nat.{ℕ, ◌^◌, ◌<◌}
-use mathlib.Core.Path.{◌≡◌, refl, ap}
+use mathlib.Core.Path.{◌≡◌, refl, sym, ap, ◌∙◌}
+use mathlib.Core.Bool.{true, not, true≢false}
 use mathlib.Core.List.{List}
 use native.Mathlib.Omega.{arith}
+use borrow.Author.Tests.{eq-eqb}
 use Rattle.sets.specs.Set.{states, size}
 use Rattle.rules.specs.Rules.{verdict}
+use Rattle.feed.specs.Demands.{Unchanged}
+use Rattle.feed.proofs.Moves.{no-refusal}
 use Rattle.feed.proofs.Feeds.{each-feed}
 use Rattle.feed.proofs.Calls.{along-map}
 use Rattle.feed.proofs.Whole.{Kind, Met, met, runs, counts, cuts, call-refusal}
+use Rattle.feed.specs.Piece.{other_start}
 use Rattle.list_flow.specs.Flow.{frontier_of, offset_of}
 use Rattle.list_flow.proofs.Records.{frontier-lt, flow-again}
 use Rattle.list_feed.proofs.Plain.{plain-kept}
@@ -58,10 +63,21 @@ plain-cuts L R h_r good cs ds hc hd fc fd e =
 
 -- ---- of one call
 
+-- a rule refuses it: nothing changes
+call-elsewhere : (R : List ℕ) (c : Call) → other_start (offset_of R) c.at ≡ true → ((outcome way_of R c).refusal ≡ 0 → ⊥) × Unchanged R c.out (outcome way_of R c)
+call-elsewhere R c e = (
+  λ z. refuses (no-refusal (way_of c.by).engine (way_of c.by).layout R (ruled way_of R c) c.piece c.out z),
+  ((each-feed (way_of c.by) R c.at c.piece c.out).refused refuses).1,
+)
+  where
+    refuses : verdict (ruled way_of R c) ≡ 0 → ⊥
+    refuses v = true≢false (sym e ∙ ap not (eq-eqb c.at (offset_of R) ((lawful-of c.by.via).passes c.by.list R c.at c.piece v).1))
+
 pub one-call : OneCall
 one-call =
     record {
       room_whole = λ out. (omega arith, omega arith);
+      elsewhere = call-elsewhere;
       never-4 = λ R c h k f. (lawful-of c.by.via).fits c.by.list k R c.at c.piece c.out h f;
       never-foreign = λ R c n f e. (lawful-of c.by.via).not-4 c.by.list R c.at c.piece n f (((each-feed (way_of c.by) R c.at c.piece c.out).ruled 4 (λ z. omega (arith, z)) (λ z. omega (arith, z))).0 e);
       kept_whole = λ R c h l g. call-good c.by.via c.by.list R c.at c.piece c.out h l g;

@@ -43,7 +43,7 @@ use Rattle.laws.proofs.Swapping.{swapped}
 
 -- what opening tells fits the words
 pub open-fits : (L R out : List ℕ) (f : Opened) (vs sv : List ℕ) → Opens (open_flow L R out) f vs sv → 2 * f.pairs ≤ length vs
-open-fits L R out f vs sv o = let d = (demand-1.opens L).one R out in rw (o.pairs, o.words) (omega (arith, d.pairs-fit, d.words-many))
+open-fits L R out f vs sv o = let d = demand-1.opens L R out in rw (o.pairs, o.words) (omega (arith, d.pairs-fit, d.words-many))
 
 -- past the end of a list stands 0
 pub get_d_past : (xs : List ℕ) (i : ℕ) → length xs ≤ i → get_or xs i 0 ≡ 0
@@ -188,7 +188,7 @@ module _ (L : List ℕ) (b : ℕ) (T : Table) (R out X₀ X Y₀ Y kinds starts 
 
   -- on the record and behind the words that opening leaves by its definition
   came-so : Came L plan many (open_flow L R out).saved (2 * (open_flow L R out).pairs) (open_told (open_flow L R out)) n w ws notes Q
-  came-so = rw (opens.saved, opens.pairs, opens.words, ((demand-1.opens L).one R out).words-many) at came
+  came-so = rw (opens.saved, opens.pairs, opens.words, (demand-1.opens L R out).words-many) at came
 
   swaps : f.refusal ≡ 0 → checked ≡ 0 → written ≡ 0 → indexed ≡ 0 → Swapped L (open_flow L R out) (calls_of came-so.feeds)
   swaps z y x u =

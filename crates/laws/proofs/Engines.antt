@@ -7,8 +7,8 @@ use native.Mathlib.Omega.{arith}
 use native.Mathlib.Decide.{ℕ_discrete}
 use Rattle.sets.specs.Set.{states}
 use Rattle.rules.specs.Scan.{rising}
-use Rattle.rules.specs.Rules.{verdict, Rises}
-use Rattle.rules.proofs.Rules.{rises}
+use Rattle.rules.specs.Rules.{verdict, Rises, Refuses}
+use Rattle.rules.proofs.Rules.{rises, refuses}
 use Rattle.list.specs.Automaton.{step}
 use Rattle.feed.specs.Engine.{feed}
 use Rattle.feed.specs.Calls.{Bytes, fed_by, all_bytes, outcome, ruled, asked, Pieces}
@@ -47,12 +47,12 @@ said_of (by_table b T) L = split-tells L b T
 said_of (by_matrix X) L = matrix-tells L X
 said_of (by_index b n S X h) L = prepared-tells S X h
 
-pub rises-of : (v : Via) (L R : List ℕ) (at : ℕ) (piece : List ℕ) → Rises ((means_of v).rules L R at piece)
+pub ruled-of : (v : Via) (L R : List ℕ) (at : ℕ) (piece : List ℕ) → Rises ((means_of v).rules L R at piece) × Refuses ((means_of v).rules L R at piece) (verdict ((means_of v).rules L R at piece))
 unfolding rising
-rises-of by_list L R at piece = rises 0 ((means_of by_list).rules L R at piece) refl
-rises-of (by_table b T) L R at piece = rises 0 ((means_of (by_table b T)).rules L R at piece) refl
-rises-of (by_matrix X) L R at piece = rises 0 ((means_of (by_matrix X)).rules L R at piece) refl
-rises-of (by_index b n S X h) L R at piece = rises 0 ((means_of (by_index b n S X h)).rules L R at piece) refl
+ruled-of by_list L R at piece = let rs = (means_of by_list).rules L R at piece in (rises 0 rs refl, refuses rs refl)
+ruled-of (by_table b T) L R at piece = let rs = (means_of (by_table b T)).rules L R at piece in (rises 0 rs refl, refuses rs refl)
+ruled-of (by_matrix X) L R at piece = let rs = (means_of (by_matrix X)).rules L R at piece in (rises 0 rs refl, refuses rs refl)
+ruled-of (by_index b n S X h) L R at piece = let rs = (means_of (by_index b n S X h)).rules L R at piece in (rises 0 rs refl, refuses rs refl)
 
 -- ---- of any of them
 

@@ -38,8 +38,8 @@ use Rattle.index.specs.Entry.{entry_place, flag_at, known_in, wrong_index, bad_i
 use Rattle.index.specs.Stand.{holds_at, named_by, stand_rules}
 use Rattle.index.proofs.Hints.{holds-said}
 use Rattle.index_fill.specs.Filled.{index_rules}
-use Rattle.laws.specs.Words.{list_words, Foreign, flow_words, feed_words, Highest, length_words, Miscounted, Mislisted, SlotsGood, Rises, size_words, entry_words, Unordered, Misindexed, Misfit, Hinted, Outside, Unnamed, open_words, fill_words, table_words, index_words}
-use Rattle.laws.proofs.Words.{opening_rows, matrix_words, split_words, prepared_words}
+use Rattle.laws.specs.Words.{list_words, Foreign, flow_words, feed_words, Highest, length_words, Miscounted, Mislisted, SlotsGood, Rises, size_words, entry_words, Unordered, Misindexed, Misfit, Hinted, Outside, Unnamed}
+use Rattle.laws.proofs.Words.{opening_rows, open_words, fill_words, matrix_words, table_words, split_words, index_words, prepared_words}
 
 -- ---- the rows
 

@@ -1,21 +1,22 @@
 -- The order's three demands as statements about the definitions. Each entry point of the code promises to be its definition, so they are statements about the code.
-use Rattle.std.specs.Prelude.{ℕ, suc, ◌+◌, ◌*◌, ◌≤◌, ◌<◌, true, false, List, ◌++◌, ◌⊎◌, ◌↔◌, ◌≡◌, length, take, get_or}
-use Rattle.sets.specs.Set.{holds}
-use Rattle.rules.specs.Rules.{verdict, Rises}
+use Rattle.std.specs.Prelude.{ℕ, suc, ◌+◌, ◌*◌, ◌≤◌, ◌<◌, true, false, List, [], ◌∷◌, ◌++◌, ◌⊎◌, ◌↔◌, ◌≡◌, length, take, get_or}
+use Rattle.sets.specs.Set.{signatures, holds, members}
+use Rattle.rules.specs.Rules.{verdict, Rises, Refuses}
 use Rattle.list.specs.List.{list_rules, list_refusal}
 use Rattle.list.specs.Automaton.{start, accepted}
 use Rattle.feed.specs.Pairs.{Pair}
 use Rattle.feed.specs.Engine.{Engine, run, costs, room, feed}
-use Rattle.list_flow.specs.Flow.{flow_layout, frontier_of, offset_of, rows_of, bad_flow, feed_rules}
-use Rattle.list_flow.specs.Opening.{opened, open_pairs, open_rules, open_flow}
+use Rattle.list_flow.specs.Flow.{flow_size, flow_layout, frontier_of, offset_of, rows_of, bad_flow, feed_rules}
+use Rattle.list_flow.specs.Opening.{opened, open_pairs, first_rules, open_rules, open_flow}
 use Rattle.feed.specs.Calls.{Bytes, costing, outcome, ruled, asked, all_bytes, all_told, record_after, Pieces, Along}
-use Rattle.feed.specs.Demands.{Answered, EachOpening, EachCall, Tells, Counts, Flowed, Onward, Cuts}
+use Rattle.feed.specs.Demands.{Unchanged, Answered, OneOpening, OneFeed, Tells, Counts, Flowed, Onward, Cuts}
 use Rattle.feed.specs.Opening.{Opening}
+use Rattle.feed.specs.Piece.{other_start}
 use Rattle.feed.specs.Demands as calls
 use Rattle.feed.specs.Lawful as lawful
 use Rattle.list_feed.specs.Means.{list_automata}
 use Rattle.list_feed.specs.Plain.{plain, plain_feed}
-use Rattle.table.specs.Table.{Table, part_count, split_count, size_rules, table_rules, table_refusal}
+use Rattle.table.specs.Table.{Table, most_bound, part_count, split_count, size_rules, table_rules, table_refusal}
 use Rattle.table_feed.specs.Split.{taken, stuck, split, split_feed}
 use Rattle.matrix.specs.Matrix.{filled, fill_rules, Fills, matrix_feed}
 use Rattle.index.specs.Stand.{Stand, indexed, stand_rules, stand_feed, stood_at}
@@ -25,7 +26,7 @@ use Rattle.index_prepare.specs.Prepare.{Preparing, Prepares, splits_of, made_ind
 use Rattle.table_build.specs.Words.{Tabled, fronts, unbuilt, Ends, ZerosBehind}
 use Rattle.table_build.specs.Build.{Building, Builds, Reached}
 use Rattle.rules.specs.Words.{InWords}
-use Rattle.laws.specs.Words.{list_words, open_words, fill_words, table_words, index_words, NoSplit, build_words, prepare_words}
+use Rattle.laws.specs.Words.{list_words, size_words, entry_words, length_words, Mislisted, Misindexed, NoSplit, build_words, prepare_words}
 use Rattle.laws.specs.Words as words
 use Rattle.laws.specs.Calls.{Via, by_list, by_table, by_index, by_slots, by_one, means_of, words_by, Checked, Names, Call, way_of, OnList}
 
@@ -36,15 +37,20 @@ pub record Demand1 : Type 0 where
   -- in the rules of each entry point the numbers rise: of those that apply, the lowest is given
   pub lowest : (L : List ℕ) (b : ℕ) (T : Table) (X R out : List ℕ) (c : Call)
       → Rises (list_rules L) × Rises (open_rules L R out) × Rises (table_rules L b T) × Rises (fill_rules L X) × Rises (index_rules L b T X) × Rises (ruled way_of R c)
-  -- the list check: 1 to 3, in words: each number exactly when its words hold and those of no row before it do
+  -- the list check: 1 to 3; and in words: each number exactly when its words hold and those of no row before it do
+  pub lists : (L : List ℕ) → Refuses (list_rules L) (list_refusal L)
   pub lists-said : (L : List ℕ) → InWords (list_words L) (list_refusal L)
   -- opening: 1 to 4, then 15 exactly when the pairs of offset 0 are more than the room, so that there are fewer words than two for each signature that the start set accepts; of the record
   -- and the words only their lengths are looked at.
   -- It leaves the start states at offset 0 with no rows read
-  pub opens : (L : List ℕ) → EachOpening (open_pairs L) (opened L) (open_words L) (open_flow L)
+  pub opens : (L R out : List ℕ) → OneOpening (first_rules L R) (open_pairs L) (opened L) R out (open_flow L R out)
+  pub opens-said : (L R out : List ℕ) → InWords (list_words L ++ ((4, length R ≡ flow_size → ⊥) ∷ (15, length out < 2 * length (members signatures (accepted L (start L)))) ∷ [])) (open_flow L R out).refusal
+  pub opens-length : (L R Q out ws : List ℕ) → length R ≡ length Q → length out ≡ length ws → (open_flow L R out).refusal ≡ (open_flow L Q ws).refusal
   -- a feed, by any way: its rules are those of its words, which no 14 is of and which take a front of each piece that they take; so what `OneFeed` says of 14 holds.
   -- The plain feed: 1 to 6; the matrix feed: 1 to 6, then 8; the split feed: 1 to 9; the prepared feed: 4 to 6 and 8
-  pub feeds : EachCall way_of (λ b. words_by b.via b.list)
+  pub feeds : (R : List ℕ) (c : Call) → OneFeed (way_of c.by) R c.at c.piece c.out (outcome way_of R c)
+  pub feeds-refuse : (R : List ℕ) (c : Call) → Refuses (ruled way_of R c) (verdict (ruled way_of R c))
+  pub feeds-said : (R : List ℕ) (c : Call) → InWords (words_by c.by.via c.by.list R c.at c.piece) (verdict (ruled way_of R c))
   pub feeds-low : (R : List ℕ) (c : Call) → verdict (ruled way_of R c) < 14
   pub feeds-cut : (R : List ℕ) (c : Call) (n : ℕ) → verdict (ruled way_of R c) ≡ 0 → verdict ((way_of c.by).rules R c.at (take n c.piece)) ≡ 0
   -- 14 in words: the split feed halts at a frontier F where no split has that set, a slot taken names no part, or more than b are taken; the prepared feed at a place behind which no whole entry stands
@@ -60,14 +66,15 @@ pub record Demand1 : Type 0 where
   pub prepares-split : (L : List ℕ) (b : ℕ) (T : Table) (h : ℕ) (R : List ℕ) (at : ℕ) (piece out : List ℕ) → table_refusal L b T ≡ 0 → Bytes T.splits → Bytes piece
       → stand_feed T.splits (filled_index L T) h R at piece out ≡ split_feed L b T R at piece out
   -- the table check: 1 to 3 and 7 to 13
-  pub tables-said : (L : List ℕ) (b : ℕ) (T : Table) → InWords (table_words L b T) (table_refusal L b T)
+  pub tables : (L : List ℕ) (b : ℕ) (T : Table) → Refuses (table_rules L b T) (table_refusal L b T)
+  pub tables-said : (L : List ℕ) (b : ℕ) (T : Table) → InWords (list_words L ++ (size_words b T ++ entry_words L b T)) (table_refusal L b T)
   -- filling a matrix: 1 to 3, then 8; filling an index: 1 to 3 and 7 to 13, where 8 covers the index's length; a refusal leaves the bytes as they were, else they are the list's
   -- matrix, and the index of the table, which is accepted
-  pub fills-said : (L X : List ℕ) (refusal : ℕ) (left : List ℕ) → Fills L X refusal left → InWords (fill_words L X) refusal
+  pub fills-said : (L X : List ℕ) (refusal : ℕ) (left : List ℕ) → Fills L X refusal left → InWords (list_words L ++ length_words L X) refusal
   pub fills-not : (L X : List ℕ) (refusal : ℕ) (left : List ℕ) → Fills L X refusal left → (refusal ≡ 0 → ⊥) → left ≡ X
   pub fills-passes : (L X : List ℕ) (refusal : ℕ) (left : List ℕ) → Fills L X refusal left → refusal ≡ 0 → left ≡ filled L
   pub indexes-said : (L : List ℕ) (b : ℕ) (T : Table) (X : List ℕ) (refusal : ℕ) (left : List ℕ) → FillsIndex L b T X refusal left
-      → InWords (index_words L b T X) refusal
+      → InWords (list_words L ++ ((7, (b ≡ 0) ⊎ (most_bound < b)) ∷ (8, Mislisted T ⊎ Misindexed T.splits X) ∷ entry_words L b T)) refusal
   pub indexes-not : (L : List ℕ) (b : ℕ) (T : Table) (X : List ℕ) (refusal : ℕ) (left : List ℕ) → FillsIndex L b T X refusal left → (refusal ≡ 0 → ⊥) → left ≡ X
   pub indexes-passes : (L : List ℕ) (b : ℕ) (T : Table) (X : List ℕ) (refusal : ℕ) (left : List ℕ) → FillsIndex L b T X refusal left → refusal ≡ 0
       → (table_refusal L b T ≡ 0) × (left ≡ filled_index L T)
@@ -157,6 +164,8 @@ Fit = lawful.Fit list_automata
 pub record OneCall : Type 0 where
   -- the room is all that fits: two words more would be more than there are
   pub room_whole : (out : List ℕ) → (2 * room out ≤ length out) × (length out < 2 * room out + 2)
+  -- a piece that does not begin at the flow's offset is refused and changes nothing
+  pub elsewhere : (R : List ℕ) (c : Call) → other_start (offset_of R) c.at ≡ true → ((outcome way_of R c).refusal ≡ 0 → ⊥) × Unchanged R c.out (outcome way_of R c)
   -- a feed leaves no record that a later feed on its list refuses with 4, if what it goes by is checked: then it names no foreign state
   pub never-4 : (R : List ℕ) (c : Call) → Bytes c.piece → Checked c.by.list c.by.via → Fit c.by.list R → Fit c.by.list (outcome way_of R c).saved
   -- and such a record no call on the list refuses with 4, whatever table or matrix it goes by, checked or not, and by every index that names what the list does

@@ -1,9 +1,9 @@
 -- The table of refusals in words: for each entry point its numbers in their order, and what each is given for, said of bytes, places and sets.
 use Rattle.std.specs.Prelude.{ℕ, suc, ◌+◌, ◌*◌, ◌%◌, ◌≤◌, ◌<◌, ◌≡◌, true, List, [], ◌∷◌, ◌++◌, ◌⊎◌, length, get_or}
-use Rattle.sets.specs.Set.{states, signatures, set_size, holds, set_at, members}
+use Rattle.sets.specs.Set.{states, set_size, holds, set_at}
 use Rattle.rules.specs.Words.{Row}
 use Rattle.list.specs.List.{record_size, most_records, records}
-use Rattle.list.specs.Automaton.{start, step, accepted}
+use Rattle.list.specs.Automaton.{start, step}
 use Rattle.list.specs.Words.{Edge-bytes, Start-bytes, Accept-bytes, Names-bytes}
 use Rattle.numbers.specs.Order.{Smaller}
 use Rattle.feed.specs.Piece.{piece_words}
@@ -22,11 +22,6 @@ list_words L =
     ∷ (2, (i : ℕ) × (i < records L) × ((Edge-bytes L i ⊎ Start-bytes L i) ⊎ Accept-bytes L i → ⊥))
     ∷ (3, (i : ℕ) → i < records L → get_or L (8 * i) 0 ≡ 2 → ⊥)
     ∷ []
-
--- ---- opening: 1 to 4, then 15
-
-abbrev pub open_words : List ℕ → List ℕ → List ℕ → List Row
-open_words L R out = list_words L ++ ((4, length R ≡ flow_size → ⊥) ∷ (15, length out < 2 * length (members signatures (accepted L (start L)))) ∷ [])
 
 -- ---- the feeds: 1 to 6
 
@@ -53,10 +48,6 @@ pub record Highest (L : List ℕ) (n : ℕ) : Type 0 where
 -- not a set for each state up to the highest and each byte
 abbrev pub length_words : List ℕ → List ℕ → List Row
 length_words L X = (8, (n : ℕ) → Highest L n → length X ≡ set_size * (byte_values * suc n) → ⊥) ∷ []
-
--- filling one: 1 to 3, then 8
-abbrev pub fill_words : List ℕ → List ℕ → List Row
-fill_words L X = list_words L ++ length_words L X
 
 -- ---- the table: 7 to 13
 
@@ -105,19 +96,11 @@ entry_words L b T = (
     ∷ (13, (i : ℕ) × (i < split_count T.splits) × ((c : ℕ) × (c < byte_values) × NoSplit T.splits (step L (split_set T.splits i) c)))
     ∷ []
 
--- its check: 1 to 3, then these
-abbrev pub table_words : List ℕ → ℕ → Table → List Row
-table_words L b T = list_words L ++ (size_words b T ++ entry_words L b T)
-
 -- ---- the index of a table: 8, and 4 of a feed by it
 
 -- not a set of states, and 1,088 bytes for each split
 abbrev pub Misindexed : List ℕ → List ℕ → Type 0
 Misindexed S X = length X ≡ set_size + 1088 * split_count S → ⊥
-
--- filling one: as the check of the table, where 8 covers the index's length
-abbrev pub index_words : List ℕ → ℕ → Table → List ℕ → List Row
-index_words L b T X = list_words L ++ ((7, (b ≡ 0) ⊎ (most_bound < b)) ∷ (8, Mislisted T ⊎ Misindexed T.splits X) ∷ entry_words L b T)
 
 -- splits or an index of a wrong length
 abbrev pub Misfit : List ℕ → List ℕ → Type 0

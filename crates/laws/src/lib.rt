@@ -1,4 +1,6 @@
 // The drivers: code for no user. Each calls the entry points as a caller would, and promises a demand of what they answered and left.
+#![tactic(auto)]
+
 ghost use Rattle.std.specs.Prelude.{◌≤◌, ◌+◌, ◌*◌, ◌/◌, cond, ◌≡◌, length, get_or, take};
 ghost use Rattle.numbers.specs.Number.{placed};
 ghost use Rattle.table.specs.Table.{table};
@@ -131,7 +133,7 @@ fn feed_part(
 }
 
 // What feeds one after another did: the bytes consumed by all of them, and the words told with those before them.
-#[derive(Drop)]
+#[derive(Clone, Copy)]
 struct FedAll {
     bytes: usize,
     words: usize,
@@ -186,7 +188,7 @@ fn feed_all(
 }
 
 // What the calls of `drive` answered: the two checks, the two fillers and the opening; and the bytes consumed by all feeds, and the words told by the opening and all feeds.
-#[derive(Drop)]
+#[derive(Clone, Copy)]
 struct Drove {
     listed: u32,
     checked: u32,
@@ -260,7 +262,7 @@ fn drive(
 }
 
 // What the calls of `drive_build` answered: the builder, and the check of the fronts that it named.
-#[derive(Drop)]
+#[derive(Clone, Copy)]
 struct DroveBuild {
     built: Built,
     checked: u32,

@@ -1,11 +1,13 @@
 // The theorem on renewals, and a driver: code for no user, that calls the entry points as a caller would and promises the theorem.
+#![tactic(auto)]
+
 ghost use Rattle.std.specs.Prelude.{◌≡◌};
 ghost use Rattle.list_renew_laws.specs.Drivers.{RenewedKept};
 
 use feed::{Fed, Opened};
 
 // What the calls of the driver answered: the opening, a feed, the offset then, the renewal, and a feed after it.
-#[derive(Drop)]
+#[derive(Clone, Copy)]
 struct DroveRenewed {
     opened: Opened,
     first: Fed,

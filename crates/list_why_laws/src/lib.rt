@@ -1,4 +1,6 @@
 // The driver of why: code for no user. It calls the entry points as a caller would, and promises of what they answered and left that every pair told has its reason.
+#![tactic(auto)]
+
 ghost use Rattle.std.specs.Prelude.{◌+◌, ◌*◌, ◌≤◌, ◌≡◌, ◌↔◌, length, take};
 ghost use Rattle.table.specs.Table.{table};
 ghost use Rattle.feed.specs.Fed.{Answers};
@@ -41,7 +43,7 @@ fn ask_all(
 }
 
 // What a feed and the questions after it answered.
-#[derive(Drop)]
+#[derive(Clone, Copy)]
 struct AskedFed {
     fed: Fed,
     refusal: u32,
@@ -84,7 +86,7 @@ fn feed_and_ask(
 }
 
 // What the calls of `drive_why` answered: the check, the two fillers, the two openings, the feed, and the first refusal of a question.
-#[derive(Drop)]
+#[derive(Clone, Copy)]
 struct DroveWhy {
     checked: u32,
     filled: u32,

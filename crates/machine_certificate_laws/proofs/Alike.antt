@@ -28,13 +28,13 @@ use Rattle.machine.specs.Extended as ext
 use Rattle.machine_laws.proofs.Demand2.{demand-2-opened, calls-bytes}
 use Rattle.machine_certificate.specs.Certificate.{certificate_refusal}
 use Rattle.machine_certificate.specs.Words.{Recorded, Certified}
-use Rattle.machine_certificate.proofs.Accepts.{accepts-exactly, gives-22, list-first, machine-second}
+use Rattle.machine_certificate.proofs.Accepts.{certificate-refuses, accepts-exactly, gives-22, list-first, machine-second}
 use Rattle.machine_certificate.proofs.Following.{begins-recorded, opens-same, recorded-leads}
 use Rattle.machine_certificate_laws.specs.Alike.{Demand1, ListFlow, MachineFlow, eaten_by, told_by, Front, Alike, CertifiedAlike}
 use Rattle.machine_certificate_laws.proofs.Next.{next-alike}
 
 pub demand-1 : Demand1
-demand-1 = record { said-0 = accepts-exactly; said-22 = gives-22; said-list = list-first; said-machine = machine-second }
+demand-1 = record { checks = certificate-refuses; said-0 = accepts-exactly; said-22 = gives-22; said-list = list-first; said-machine = machine-second }
 
 module _ (L M P Z : List ℕ) (ok : certificate_refusal L M P Z ≡ 0) where
   -- the machine follows the list where a configuration is recorded with a set

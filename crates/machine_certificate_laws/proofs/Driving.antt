@@ -10,14 +10,13 @@ use Rattle.feed.specs.Opening.{Opening, Opens}
 use Rattle.feed.specs.Made.{Made}
 use Rattle.feed.specs.declared.Fed.{Fed}
 use Rattle.feed.specs.Calls.{Bytes, all_bytes, all_told, record_after}
-use Rattle.list_flow.specs.Opening.{open_pairs, open_rules, open_flow}
+use Rattle.list_flow.specs.Opening.{open_pairs, open_flow}
 use Rattle.list_feed.specs.Plain.{pairs_of, plain_feed}
 use Rattle.laws.specs.Calls as list
 use Rattle.laws.specs.Demands.{Due}
 use Rattle.feed.specs.Demands.{Answered}
-use Rattle.laws.proofs.Demand1.{open-verdict}
+use Rattle.laws.proofs.Demand1.{demand-1}
 use Rattle.machine.specs.Extended.{extended_open, extended_feed}
-use Rattle.machine.specs.Extended as extended
 use Rattle.machine_laws.specs.Calls.{Call}
 use Rattle.machine_laws.specs.Drivers.{outcome_of}
 use Rattle.machine_laws.proofs.Demand1 as machine
@@ -135,8 +134,8 @@ module _ (L M P Z : List ℕ) (at : ℕ) (piece : List ℕ) (hm : Bytes M) (hp :
   both-driven checked e =
       record {
         checks = rw e (refuses (certificate_rules L M P Z) refl);
-        list-opens = rw (opens.refusal ∙ open-verdict L o.flow o.out) (refuses (open_rules L o.flow o.out) refl);
-        machine-opens = rw (opens₂.refusal ∙ machine.open-verdict M P p.flow p.out) (refuses (extended.open_rules M P p.flow p.out) refl);
+        list-opens = rw opens.refusal (demand-1.opens L o.flow o.out).refuses;
+        machine-opens = rw opens₂.refusal ((machine.demand-1).opens M P p.flow p.out).refuses;
         opened = λ c. opened_both (sym e ∙ c);
         likewise = λ c z w i j k. likewise (sym e ∙ c) z w k;
         list-due = λ c z. list-due L o S at piece out fed words saved opens feeds hb z;

@@ -1,6 +1,7 @@
 -- The check of a certificate, and what an accepted one promises: both openings answer alike, and from there the feeds of the list and the feed of the
 -- machine tell the same pairs, however the bytes are cut. And which lists have one: every set that can be reached is the set of a record.
 use Rattle.std.specs.Prelude.{ℕ, ◌≤◌, ◌<◌, List, ◌++◌, ◌↔◌, ◌≡◌, length}
+use Rattle.rules.specs.Rules.{Refuses}
 use Rattle.list.specs.List.{list_refusal}
 use Rattle.feed.specs.Calls.{Bytes, Asked, asked, record_after, all_told, all_bytes, Along, Pieces}
 use Rattle.feed.specs.Opening.{Opening}
@@ -14,13 +15,14 @@ use Rattle.machine.specs.Extended.{extended_open, extended_feed}
 use Rattle.machine_laws.specs.Calls.{way_of}
 use Rattle.machine_laws.specs.Demands.{By}
 use Rattle.table_build.specs.Build.{Reach, Many}
-use Rattle.machine_certificate.specs.Certificate.{notes, note_set, certificate_refusal}
+use Rattle.machine_certificate.specs.Certificate.{notes, note_set, certificate_rules, certificate_refusal}
 use Rattle.machine_certificate.specs.Words.{Certified}
 
 -- ==== Demand 1 of the check: each refusal has a number and is given exactly when the rules say: 1 to 3 of the list, 24 of the machine, and 22
 -- ==== exactly where the certificate does not show all that `Certified` says in words. It lends for reading alone, so no buffer changes.
 
 pub record Demand1 : Type 0 where
+  pub checks : (L M P Z : List ℕ) → Refuses (certificate_rules L M P Z) (certificate_refusal L M P Z)
   pub said-0 : (L M P Z : List ℕ) → certificate_refusal L M P Z ≡ 0 ↔ ((list_refusal L ≡ 0) × (machine_refusal M P ≡ 0) × Certified L M P Z)
   pub said-22 : (L M P Z : List ℕ) → certificate_refusal L M P Z ≡ 22 ↔ ((list_refusal L ≡ 0) × (machine_refusal M P ≡ 0) × (Certified L M P Z → ⊥))
   -- the list's refusal before all others, and then the machine's

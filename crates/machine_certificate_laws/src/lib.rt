@@ -1,10 +1,12 @@
 // The driver over a certificate: code for no user. It calls the entry points as a caller would, and promises that both feeds told the same.
+#![tactic(auto)]
+
 ghost use Rattle.machine_certificate_laws.specs.Drivers.{begun, by_list, by_machine, BothDriven};
 
 use feed::{Fed, Opened};
 
 // What the calls of `drive_both` answered: the check, and the opening and the feed of the list and of the machine.
-#[derive(Drop)]
+#[derive(Clone, Copy)]
 struct DroveBoth {
     checked: u32,
     opened: Opened,

@@ -1,21 +1,25 @@
 -- Demand 2 over any list of calls from any record, and from opening on; and what holds of each call. Assumes nothing.
 use Prim.Native.Nat.{ℕ, ◌+◌, ◌<◌}
 use mathlib.Core.Path.{◌≡◌, refl, sym, ap, ap₂, ◌∙◌}
-use mathlib.Core.Bool.{false, true≢false}
+use mathlib.Core.Bool.{true, false, not, true≢false}
 use mathlib.Core.List.{List}
 use native.Mathlib.Omega.{arith}
 use native.Mathlib.Decide.{ℕ_discrete}
 use lib.ListN.{length, take}
 use lib.Dec.{lit<}
+use borrow.Author.Tests.{eq-eqb}
 use Rattle.rules.specs.Rules.{verdict}
 use Rattle.rules.proofs.Rules.{exactly}
 use Rattle.feed.specs.Engine.{run, ended}
 use Rattle.feed.specs.Calls.{Bytes, outcome, ruled, asked, all_bytes, Pieces, Along}
-use Rattle.feed.specs.Demands.{Tells, open_told}
+use Rattle.feed.specs.Demands.{Unchanged, Tells, open_told}
 use Rattle.feed.proofs.Runs.{bytes_take}
 use Rattle.feed.proofs.Going.{unfed}
+use Rattle.feed.proofs.Feeds.{each-feed}
+use Rattle.feed.proofs.Moves.{no-refusal}
 use Rattle.feed.proofs.Calls.{along-all, along-map, along-both}
 use Rattle.feed.proofs.Whole.{Kind, Written, Within, Met, met, met-within, runs, flowed, cuts, by-feed, run-good, all-fed}
+use Rattle.feed.specs.Piece.{other_start}
 use Rattle.machine.specs.declared.Config.{Config}
 use Rattle.machine.specs.Machine.{state_count, bad_machine, machine, first, first_alerts}
 use Rattle.machine.specs.Record.{config_of, offset_of, flow_bytes, flow_layout, bad_flow}
@@ -26,7 +30,7 @@ use Rattle.machine.proofs.Kept.{Kept, kept_fine, flow-kept, kept-flow, machine-f
 use Rattle.machine.proofs.Feeding.{feed-passes, extended-refusal}
 use Rattle.machine.proofs.Opening.{open-passes, first_passes}
 use Rattle.machine_laws.specs.Calls.{Call, way_of}
-use Rattle.machine_laws.specs.Demands.{By, MachineTells, Demand2Opened, MachineFlows, MachineCuts, MachineKept}
+use Rattle.machine_laws.specs.Demands.{By, MachineTells, Demand2Opened, MachineFlows, MachineCuts, OneCall}
 use Rattle.machine_laws.proofs.Demand1.{open-verdict, open-once}
 
 -- ---- demand 2
@@ -127,7 +131,18 @@ demand-2-opened M P hm hp R out z cs hb h = opened-so M P hm hp R out z cs hb h
 
 -- ---- of one call
 
-pub call_kept : MachineKept
+-- a rule refuses it: nothing changes
+call-elsewhere : (R : List ℕ) (c : Call) → other_start (offset_of R) c.at ≡ true → ((outcome way_of R c).refusal ≡ 0 → ⊥) × Unchanged R c.out (outcome way_of R c)
+call-elsewhere R c e = (
+  λ z. refuses (no-refusal (machine c.by.moves c.by.programs) flow_layout R (ruled way_of R c) c.piece c.out z),
+  ((each-feed (way_of c.by) R c.at c.piece c.out).refused refuses).1,
+)
+  where
+    refuses : verdict (ruled way_of R c) ≡ 0 → ⊥
+    refuses v = true≢false (sym e ∙ ap not (eq-eqb c.at (offset_of R) (feed-passes c.by.moves c.by.programs R c.at c.piece v).2))
+
+call_kept : (R : List ℕ) (c : Call) → Bytes R → Bytes c.piece → Bytes c.by.programs → bad_flow (state_count c.by.moves) R ≡ false
+    → bad_flow (state_count c.by.moves) (outcome way_of R c).saved ≡ false
 unfolding ended
 call_kept R c h_r h hp g =
     by-feed (ruled way_of R c) (machine c.by.moves c.by.programs) flow_layout R c.piece c.out (λ o. bad_flow (state_count c.by.moves) o.saved ≡ false)
@@ -139,6 +154,9 @@ call_kept R c h_r h hp g =
     kept-flow m (run E (config_of R) front) (offset_of R + length front) (good-machine c.by.moves c.by.programs e).lengths.most
     (run-good E (Kept m) (machine-kept c.by.moves c.by.programs e hp) (config_of R) front (bytes_take n c.piece h) (flow-kept m R h_r g)))
     (λ n. g)
+
+pub one-call : OneCall
+one-call = record { elsewhere = call-elsewhere; never-4 = call_kept }
 
 -- calls whose pieces are bytes consume bytes
 pub calls-bytes : (R : List ℕ) (cs : List Call) → Pieces (asked way_of) cs → Bytes (all_bytes (asked way_of) R cs)

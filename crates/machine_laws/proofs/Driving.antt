@@ -178,13 +178,12 @@ each-one M P starts S k (m ∷ ms) s p = (one, each-one M P starts m.saved (suc 
     said : InWords (feed_words M P S m.call.at m.call.piece) (outcome way_of S m.call).refusal
     said =
         subst (λ (y : List ℕ). InWords (feed_words M y S m.call.at m.call.piece) (outcome way_of S m.call).refusal) s.0.1
-        (subst (λ (x : List ℕ). InWords (feed_words x m.call.by.programs S m.call.at m.call.piece) (outcome way_of S m.call).refusal) s.0.0
-        (rw (demand-1.feeds-ruled S m.call) (demand-1.feeds.said S m.call)))
+        (subst (λ (x : List ℕ). InWords (feed_words x m.call.by.programs S m.call.at m.call.piece) (outcome way_of S m.call).refusal) s.0.0 (demand-1.feeds-said S m.call))
 
     fed : OneFeed (way_of (record { moves = M; programs = P })) S m.call.at m.call.piece m.call.out (outcome way_of S m.call)
     fed =
         subst (λ (y : List ℕ). OneFeed (way_of (record { moves = M; programs = y })) S m.call.at m.call.piece m.call.out (outcome way_of S m.call)) s.0.1
-        (subst (λ (x : List ℕ). OneFeed (way_of (record { moves = x; programs = m.call.by.programs })) S m.call.at m.call.piece m.call.out (outcome way_of S m.call)) s.0.0 (each-feed (way_of m.call.by) S m.call.at m.call.piece m.call.out))
+        (subst (λ (x : List ℕ). OneFeed (way_of (record { moves = x; programs = m.call.by.programs })) S m.call.at m.call.piece m.call.out (outcome way_of S m.call)) s.0.0 (demand-1.feeds S m.call))
 
     one : OneMade M P S m
     one = (
@@ -207,7 +206,7 @@ driven M P starts R out stream n checked f vs B r ws ns Q hm hp e a k =
     (λ z. demand-2-opened M P hm hp R out (sym a.refusal ∙ z) (calls_of g.feeds) (pieces-calls piece_of does g.feeds g.in_bytes) (said-by M P starts S 0 g.feeds g.said)) in
     record {
       checks = rw e (demand-1.checks-said M P);
-      opens = rw a.refusal ((demand-1.opens M P).said R out);
+      opens = rw a.refusal (demand-1.opens-said M P R out);
       feeds = g.feeds;
       many = g.many;
       said = g.said;

@@ -1,18 +1,20 @@
 // The driver: code for no user. It calls the entry points as a caller would, and promises the demands of what they answered and left.
+#![tactic(auto)]
+
 ghost use Rattle.std.specs.Prelude.{◌≡◌, cond, ◌++◌, ◌≤◌, ◌-◌, ◌+◌, ◌*◌, ◌/◌, length, get_or, take, drop};
 ghost use Rattle.machine_laws.specs.Drivers.{numbers_of, Turned, Driven};
 
 use feed::{Fed, Opened};
 
 // Where the driver stands: the bytes consumed and the words told.
-#[derive(Drop)]
+#[derive(Clone, Copy)]
 struct Standing {
     bytes: usize,
     words: usize,
 }
 
 // What the calls of `drive` answered: the check, the opening, and where it stands in the end.
-#[derive(Drop)]
+#[derive(Clone, Copy)]
 struct Drove {
     checked: u32,
     opened: Opened,
@@ -76,7 +78,7 @@ fn turn(
     requires { (so.bytes ≤ e) × (e ≤ length stream.now) × (so.words ≤ v) × (v ≤ length pairs.old) × (4 * i + 4 ≤ length numbers.old) }
     ensures { Turned (record {
       by = record {
-        moves = moves.entry.now;
+        moves = moves.now;
         programs = programs.now;
       };
       at = start;

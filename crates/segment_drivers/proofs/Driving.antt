@@ -132,7 +132,7 @@ pub fed-fits : (L R : List ℕ) (at : ℕ) (d : List ℕ) (w v : ℕ) (ws : List
 fed-fits L R at d w v ws l h f ys Q a = omega (arith, (each-feed (way_of (record { list = L; via = by_list })) R at d (mid_of w (v - w) ws)).pairs-fit, a.pairs, mid_len w v ws h)
 
 pub open-fits : (L R out : List ℕ) (f : Opened) (vs Q : List ℕ) → Opens (open_flow L R out) f vs Q → 2 * f.pairs ≤ length vs
-open-fits L R out f vs Q a = let d = (demand-1.opens L).one R out in rw (a.pairs, a.words) (omega (arith, d.pairs-fit, d.words-many))
+open-fits L R out f vs Q a = let d = demand-1.opens L R out in rw (a.pairs, a.words) (omega (arith, d.pairs-fit, d.words-many))
 
 -- an opening refuses as its rules say
 open-refuses : (L R out : List ℕ) (f : Opened) (vs Q : List ℕ) → Opens (open_flow L R out) f vs Q → Refuses (open_rules L R out) f.refusal

@@ -1,5 +1,7 @@
 // The drivers: code for no user. Each opens a flow and hands in segments as a caller would, any number of them, and promises of what was answered and left
 // what the theorems say. Between two segments there is nothing but what is saved: the record, the held buffer, the held place and the words told.
+#![tactic(auto)]
+
 ghost use Rattle.std.specs.Prelude.{◌-◌, ◌≤◌, length, take, drop};
 ghost use Rattle.table.specs.Table.{table};
 ghost use Rattle.laws.specs.Calls.{way_of, by_list};
@@ -14,7 +16,7 @@ use feed::Opened;
 use segment_feed::Heard;
 
 // Where a driver stands: the held place, and the words told.
-#[derive(Drop)]
+#[derive(Clone, Copy)]
 struct Standing {
     start: u32,
     length: u32,
@@ -22,7 +24,7 @@ struct Standing {
 }
 
 // What the calls of `drive_segments` answered: the check, the opening, and where it stands in the end.
-#[derive(Drop)]
+#[derive(Clone, Copy)]
 struct DroveSegments {
     checked: u32,
     opened: Opened,
@@ -49,7 +51,7 @@ fn within(low: usize, x: usize, high: usize) -> usize
 }
 
 // What the calls of `drive_each` answered.
-#[derive(Drop)]
+#[derive(Clone, Copy)]
 struct DroveEach {
     plain: Heard,
     split: Heard,
@@ -132,7 +134,7 @@ fn hear(
     segment: &[u8],
     pairs: &mut [u32],
 ) -> Heard
-    ensures { Hears (feed_segment (way_of (record { list = list.entry.now; via = by_flag through bound (table classes.now parts.now rows.now splits.now) }))
+    ensures { Hears (feed_segment (way_of (record { list = list.now; via = by_flag through bound (table classes.now parts.now rows.now splits.now) }))
         (sent first start segment.now) (kept flow.old held.old held_start held_length) pairs.old)
         result pairs.new flow.new held.new }
 {
@@ -190,7 +192,7 @@ fn turn(
     requires { (n ≤ e) × (e ≤ length bytes.now) × (so.words ≤ v) × (v ≤ length pairs.old) }
     ensures { Turned (handed way_of first (record {
       by = record {
-        list = list.entry.now;
+        list = list.now;
         via = by_flag through bound (table classes.now parts.now rows.now splits.now);
       };
       at = start;
@@ -298,7 +300,7 @@ fn glance(
     ensures { Turned (glancing way_of first (record {
       call = record {
         by = record {
-          list = list.entry.now;
+          list = list.now;
           via = by_list;
         };
         at = start;
@@ -333,7 +335,7 @@ fn glance(
 }
 
 // What the calls of `drive_looks` answered: the opening, and where it stands in the end.
-#[derive(Drop)]
+#[derive(Clone, Copy)]
 struct DroveLooks {
     opened: Opened,
     stands: Standing,

@@ -58,7 +58,7 @@ segment-refuses W ws g S out h =
 
 pub segments-refuse : SegmentsRefuse
 segments-refuse v L g S out =
-    segment-refuses (way_of (record { list = L; via = v })) _ g S out (demand-1.feeds.said S.flow (record { by = record { list = L; via = v }; at = offset_of S.flow; piece = []; out = [] }))
+    segment-refuses (way_of (record { list = L; via = v })) _ g S out (demand-1.feeds-said S.flow (record { by = record { list = L; via = v }; at = offset_of S.flow; piece = []; out = [] }))
 
 pub machine-segments-refuse : MachineSegmentsRefuse
 machine-segments-refuse M P g S out = segment-refuses (machines.way_of (record { moves = M; programs = P })) _ g S out (feed-tells M P S.flow (x.offset_of S.flow) [])

@@ -41,6 +41,7 @@ module _ (free : Bool) (e : Exp) (g : ℕ) where
   sorted-one q m = go (mem-sort q (all_records free e g) [] m)
     where
       go : Mem q (all_records free e g) ⊎ ⊥ → One free e g q
+      go (inr x') = elim x' [ ]
       go (inl z) = mem-one free e g q z
 
   pub one-sorted : (q : List ℕ) → Mem q (all_records free e g) → Mem q (sorted free e g)

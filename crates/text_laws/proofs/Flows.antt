@@ -22,7 +22,6 @@ use Rattle.feed.specs.Demands.{open_told}
 use Rattle.laws.proofs.Engines.{calls-bytes}
 use Rattle.laws.specs.Calls.{Via, by_list, by_table, by_matrix, by_index, words_by, Call, way_of}
 use Rattle.laws.specs.Demands.{Swaps}
-use Rattle.feed.proofs.Feeds.{each-feed}
 use Rattle.laws.proofs.Demand1.{demand-1}
 use Rattle.laws.proofs.Swapping.{swapped}
 use Rattle.text.specs.Grammar.{Text, ok_body}
@@ -72,7 +71,7 @@ module _ (L : List ℕ) (z : list_refusal L ≡ 0) where
   passes-all =
       record {
         lists = z;
-        opens = λ R out. past (opening_rows L R out) _ (omega arith, (omega arith, tt)) ((demand-1.opens L).said R out);
+        opens = λ R out. past (opening_rows L R out) _ (omega arith, (omega arith, tt)) (demand-1.opens-said L R out);
         feeds = fed;
         fills = λ X n left f. past (length_words L X) n (omega arith, tt) (demand-1.fills-said L X n left f);
         tables = λ b T. past (size_words b T ++ entry_words L b T) _ (omega arith, (omega arith, (omega arith, (omega arith, (omega arith, (omega arith, (omega arith, tt))))))) (demand-1.tables-said L b T);
@@ -101,7 +100,7 @@ module _ (L : List ℕ) (z : list_refusal L ≡ 0) where
       fed-past R c o zero e = inl refl
       fed-past R c o (suc n) e = elim (ℕ_discrete (suc n) 14) [
         | yes q ↦ inr (omega (arith, q))
-        | no q ↦ let z : suc n ≡ 0 → ⊥ = (λ y. omega (arith, y)) in inr (o (suc n) (((demand-1.feeds.said R c).gives (suc n) z).0 (((each-feed (way_of c.by) R c.at c.piece c.out).ruled (suc n) z q).0 e)))
+        | no q ↦ let z : suc n ≡ 0 → ⊥ = (λ y. omega (arith, y)) in inr (o (suc n) (((demand-1.feeds-said R c).gives (suc n) z).0 (((demand-1.feeds R c).ruled (suc n) z q).0 e)))
       ]
 
       fed : (v : Via) (R : List ℕ) (at : ℕ) (piece out : List ℕ) → Past (outcome way_of R (call_by v at piece out)).refusal

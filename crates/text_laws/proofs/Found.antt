@@ -14,6 +14,7 @@ use Rattle.text_records.proofs.Rising.{Mem, Long}
 -- ---- members of joined lists, and of each
 
 pub mem-left : (q : List ℕ) (a b : List (List ℕ)) → Mem q a → Mem q (a ++ b)
+mem-left q [] b x' = elim x' [ ]
 mem-left q (x ∷ a) b (inl e) = inl e
 mem-left q (x ∷ a) b (inr m) = inr (mem-left q a b m)
 
@@ -28,6 +29,7 @@ mem-either q (x ∷ a) b (inr m) = ⊎_elim (λ (z : Mem q a). inl (inr z)) (λ 
 
 pub mem-each : (q : List ℕ) (f : ℕ → List (List ℕ)) (n : ℕ) → Mem q (each f n) → (i : ℕ) × (i < n) × Mem q (f i)
 unfolding each
+mem-each q f zero m = elim m [ ]
 mem-each q f (suc n) m = go (mem-either q (each f n) (f n) m) (mem-each q f n)
   where
     go : Mem q (each f n) ⊎ Mem q (f n) → (Mem q (each f n) → (i : ℕ) × (i < n) × Mem q (f i)) → (i : ℕ) × (i < suc n) × Mem q (f i)
@@ -45,6 +47,7 @@ each-mem q f (suc n) i h m =
 
 -- a member stands at some place, and what stands at a place is a member
 pub mem-at : (q : List ℕ) (rs : List (List ℕ)) → Mem q rs → (i : ℕ) × (i < length rs) × (get_or rs i [] ≡ q)
+mem-at q [] x' = elim x' [ ]
 mem-at q (x ∷ rs) (inl e) = (0, omega arith, sym e)
 mem-at q (x ∷ rs) (inr m) = let w = mem-at q rs m in (suc w.0, omega (arith, w.1), w.2)
 

@@ -1,7 +1,7 @@
 -- The records of a text: an edge for each run of bytes between two states, the start, and the accepts.
 use Prim.Native.Nat.{ℕ, suc, ◌≤◌}
 use mathlib.Core.Path.{◌≡◌, refl, sym, ap, subst}
-use mathlib.Core.Bool.{Bool, true, cond}
+use mathlib.Core.Bool.{Bool, true, cond, false}
 use mathlib.Core.List.{List, [], ◌∷◌}
 use mathlib.Core.Logic.{◌⊎◌, inl, inr}
 use native.Mathlib.Omega.{arith}
@@ -33,11 +33,13 @@ One free e g r = AnEdge free e r ⊎ ((r ≡ start_record) ⊎ AnAccept e g r)
 
 pub edges-has : (s t : ℕ) (ps : List (ℕ × ℕ)) (r : List ℕ) → Mem r (edge_records s t ps) → (p : ℕ × ℕ) × Has p ps × (r ≡ edge_record p.0 p.1 s t)
 unfolding edge_records
+edges-has s t [] r x' = elim x' [ ]
 edges-has s t (x ∷ ps) r (inl e) = (x, inl refl, e)
 edges-has s t (x ∷ ps) r (inr m) = let w = edges-has s t ps r m in (w.0, inr w.1, w.2)
 
 has-edges : (s t : ℕ) (ps : List (ℕ × ℕ)) (p : ℕ × ℕ) → Has p ps → Mem (edge_record p.0 p.1 s t) (edge_records s t ps)
 unfolding edge_records
+has-edges s t [] p x' = elim x' [ ]
 has-edges s t (x ∷ ps) p (inl e) = inl (ap (λ (z : ℕ × ℕ). edge_record z.0 z.1 s t) e)
 has-edges s t (x ∷ ps) p (inr m) = inr (has-edges s t ps p m)
 
@@ -54,6 +56,8 @@ module _ (free : Bool) (e : Exp) (g : ℕ) where
           record { source = s; target = t; range = p; source_in = omega arith; target-in = omega arith; run = h; is = q }
 
       taken : (s : ℕ) → s ≤ size e → (b : Bool) → accepts e s ≡ b → Mem r (cond b (accept_record s g ∷ []) []) → AnAccept e g r
+      taken s l false q x'' = elim x'' [ ]
+      taken s l true q (inr x4) = elim x4 [ ]
       taken s l true q (inl w) = record { state = s; state-in = l; accepting = q; is = w }
 
       accepting : Mem r (each (accepts_of e g) (suc (size e))) → AnAccept e g r

@@ -77,6 +77,7 @@ module _ (f : ℕ → Bool) where
       go false e = one (subst (Has p) (last_one c low e) h)
         where
           one : Has p ((low - 1, c - 1) ∷ []) → Longest f (c + 0) p.0 p.1
+          one (inr x4) = elim x4 [ ]
           one (inl q) = ended c low (c + 0) p a (eqb-false low 0 e) (omega arith) (λ k. absurd (omega (arith, k))) q
   runs-sound (suc n) c low a p h = go (λ d lo b k. runs-sound n d lo b p k) (f c) (eqb low 0) refl refl
     where
@@ -155,6 +156,7 @@ module _ (f : ℕ → Bool) where
       go false e = one (subst (Has p) (last_one c low e) h)
         where
           one : Has p ((low - 1, c - 1) ∷ []) → (low ≡ 0 → c ≤ p.0) × (low ≤ suc p.0)
+          one (inr x4) = elim x4 [ ]
           one (inl q) = let w : p.0 ≡ low - 1 = ap (λ (z : ℕ × ℕ). z.0) q in (λ z. absurd (eqb-false low 0 e z), omega arith)
   runs-late (suc n) c low l p h = go (λ d lo u v. runs-late n d lo u p v) (f c) (eqb low 0) refl refl
     where

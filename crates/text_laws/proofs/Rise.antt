@@ -89,6 +89,8 @@ module _ (free : Bool) (e : Exp) (g : ℕ) (few : size e < states) where
   accept-of q s l m = go (accepts e s) m
     where
       go : (b : Bool) → Mem q (cond b (accept_record s g ∷ []) []) → q ≡ accept_record s g
+      go false x' = elim x' [ ]
+      go true (inr x3) = elim x3 [ ]
       go true (inl z) = z
 
   accepts-distinct : Distinct (each (accepts_of e g) (suc (size e)))

@@ -2,7 +2,7 @@
 use Prim.Native.Nat.{ℕ}
 use mathlib.Core.Path.{◌≡◌, sym, subst}
 use mathlib.Core.Bool.{Bool, not}
-use mathlib.Core.List.{List, ◌∷◌}
+use mathlib.Core.List.{List, [], ◌∷◌}
 use mathlib.Core.Logic.{◌⊎◌, inl, inr}
 use Rattle.text.specs.Exp.{Exp, eps, edge}
 use Rattle.text.specs.Grammar.{exp}
@@ -13,10 +13,12 @@ use Rattle.text_laws.proofs.Ran.{all-longest, longest-has}
 use Rattle.text_laws.proofs.Members.{One, mem-one, edge-mem, start-mem, accept-mem}
 
 one-mem : (r : List ℕ) (rs : List (List ℕ)) → OneOf r rs → Mem r rs
+one-mem r [] x' = elim x' [ ]
 one-mem r (x ∷ rs) (inl e) = inl e
 one-mem r (x ∷ rs) (inr h) = inr (one-mem r rs h)
 
 mem-of : (r : List ℕ) (rs : List (List ℕ)) → Mem r rs → OneOf r rs
+mem-of r [] x' = elim x' [ ]
 mem-of r (x ∷ rs) (inl e) = inl e
 mem-of r (x ∷ rs) (inr h) = inr (mem-of r rs h)
 

@@ -1,12 +1,14 @@
 // What a compiled list is: its records rise, it passes the list check, and its pairs are those of the text's language.
 // The one driver here is code for no user: it compiles, checks, opens and feeds as a caller would, and promises the text's pairs of what that answered and left.
+#![tactic(auto)]
+
 ghost use Rattle.text_laws.specs.Drivers.{Tries, TextServed};
 
 use feed::{Fed, Opened};
 use text_compile::Compiled;
 
 // What the calls on a list answered: its check, the opening, and the feed.
-#[derive(Drop)]
+#[derive(Clone, Copy)]
 pub struct Served {
     pub checked: u32,
     pub opened: Opened,
@@ -14,7 +16,7 @@ pub struct Served {
 }
 
 // What compiling answered, and then the calls on what it wrote.
-#[derive(Drop)]
+#[derive(Clone, Copy)]
 struct Drove {
     compiled: Compiled,
     served: Served,

@@ -1,5 +1,7 @@
 // What a list joined of many texts' lists is.
 // The one driver here is code for no user: it compiles two texts, joins, folds, checks, opens and feeds as a caller would, and promises the pairs of both texts of what that answered and left.
+#![tactic(auto)]
+
 ghost use Rattle.text_many_laws.specs.Drivers.{Gathers, BothServed};
 
 use list_fold::Folded;
@@ -8,7 +10,7 @@ use text_compile::Compiled;
 use text_laws::Served;
 
 // What compiling each text, joining and folding answered.
-#[derive(Drop)]
+#[derive(Clone, Copy)]
 struct Gathered {
     first: Compiled,
     second: Compiled,
@@ -17,7 +19,7 @@ struct Gathered {
 }
 
 // The same, and then what the calls on the folded list answered.
-#[derive(Drop)]
+#[derive(Clone, Copy)]
 struct Drove {
     gathered: Gathered,
     served: Served,

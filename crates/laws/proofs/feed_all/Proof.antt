@@ -10,106 +10,92 @@ use Rattle.laws.proofs.Driving.{planned-so, came-none, came-more, ended}
 use Rattle.laws.proofs.feed_all.Statement.{statement}
 use Rattle.laws.proofs.feed_all.Tie as tie
 
-abbrev invariant-loop : tie.invariant-loop
+abbrev invariant-loop : tie.invariant-loop-i
 invariant-loop list bound classes parts rows splits matrix index flow₀ kinds starts cuts rooms stream pairs₀ notes₀ told n₀ w₀ many i₀ flow pairs notes n w i =
     (i ≤ many) × (n ≤ length stream) × (w ≤ length pairs) × (length pairs ≡ length pairs₀) × (length flow ≡ length flow₀) × (length notes ≡ length notes₀)
     × Came list (planned bound (table classes parts rows splits) matrix index kinds starts cuts rooms stream (length pairs₀)) i flow₀ told (take told pairs₀) n w pairs notes flow
 
-abbrev decreases-loop : tie.decreases-loop
+abbrev decreases-loop : tie.decreases-loop-i
 decreases-loop list bound classes parts rows splits matrix index flow₀ kinds starts cuts rooms stream pairs₀ notes₀ told n₀ w₀ many i₀ flow pairs notes n w i = many - i
 
-loop-holds : tie.Need-loop-init invariant-loop decreases-loop
-loop-holds c = (omega arith, omega arith, c.before.before.before.before.before.before.before.before.before.before.before.before.before.before.before.requires, search rules, search rules, search rules, came-none _ _ _ _ _ _)
+loop-holds : tie.Need-loop-i-init invariant-loop decreases-loop
+loop-holds c = (omega arith, omega arith, c.requires, search rules, search rules, search rules, came-none _ _ _ _ _ _)
 
-number-at-requires : tie.Need-number-at-requires invariant-loop decreases-loop
+number-at-requires : tie.Need-number_at-requires invariant-loop decreases-loop
 number-at-requires c κs = search rules
 
-within-requires : tie.Need-within-requires invariant-loop decreases-loop
+within-requires : tie.Need-within-e-requires invariant-loop decreases-loop
 within-requires c κs = search rules
 
-number-at-requires-2 : tie.Need-number-at-requires-2 invariant-loop decreases-loop
+number-at-requires-2 : tie.Need-number_at-requires-in-loop-i invariant-loop decreases-loop
 number-at-requires-2 c κs = search rules
 
-within-requires-2 : tie.Need-within-requires-2 invariant-loop decreases-loop
+within-requires-2 : tie.Need-within-v-requires invariant-loop decreases-loop
 within-requires-2 c κs = search rules
 
-number-at-requires-3 : tie.Need-number-at-requires-3 invariant-loop decreases-loop
+number-at-requires-3 : tie.Need-number_at-kind-requires invariant-loop decreases-loop
 number-at-requires-3 c κs = search rules
 
-number-at-requires-4 : tie.Need-number-at-requires-4 invariant-loop decreases-loop
+number-at-requires-4 : tie.Need-number_at-start-requires invariant-loop decreases-loop
 number-at-requires-4 c κs = search rules
 
-feed-part-requires : tie.Need-feed-part-requires invariant-loop decreases-loop
+feed-part-requires : tie.Need-feed_part-fed-requires invariant-loop decreases-loop
 feed-part-requires c κs = search rules
 
 note-requires : tie.Need-note-requires invariant-loop decreases-loop
 note-requires c κs =
-    let here = c.before.before.before.before.before.before.before.before.before.before.before.before.before.before.before in
-    let h : 4 * here.loop.i + 4 ≤ length here.loop.notes = omega (arith, c.before.before.before.before.before.before.before.before.before.before.before.before.before.before.loop-test.true, here.loop.invariant.5) in h
+    let h : 4 * c.loop-i.i + 4 ≤ length c.loop-i.notes = omega (arith, c.loop-i-test.true, c.loop-i.invariant.5) in h
 
-add-n : tie.Need-overflow-add-n invariant-loop decreases-loop
+add-n : tie.Need-overflow_add-n invariant-loop decreases-loop
 add-n c =
-    let feeding = c.before.before.before.before.before.before.before.before.before in
-    omega (arith, feeding.feed-part.ensures.short, c.before.before.before.before.before.before.before.before.before.before.before.before.before.before.before.before.before.before.before.before.before.before.before.before.before.before.before.before.before.before.before.before.before.before.before.well-formed.1.1.1.1.1.1.1.1.1.1.1.1.1.0.0)
+    omega (arith, c.feed_part-fed.ensures.short, c.well_formed.1.1.1.1.1.1.1.1.1.1.1.1.1.0.0)
 
-mul-w : tie.Need-overflow-mul-w invariant-loop decreases-loop
+mul-w : tie.Need-overflow_mul-w invariant-loop decreases-loop
 mul-w c =
-    let feeding = c.before.before.before.before.before.before.before.before.before.before in
-    let here = c.before.before.before.before.before.before.before.before.before.before.before.before.before.before.before.before.before.before.before.before in
-    omega (arith, feeding.feed-part.ensures.fits, feeding.feed-part.auto.1.1.1.1.1.1.1.1.1.1.1.1.1.1.0, here.loop.invariant.3, c.before.before.before.before.before.before.before.before.before.before.before.before.before.before.before.before.before.before.before.before.before.before.before.before.before.before.before.before.before.before.before.before.before.before.before.before.well-formed.1.1.1.1.1.1.1.1.1.1.1.1.1.1.0.0)
+    omega (arith, c.feed_part-fed.ensures.fits, c.feed_part-fed.auto.pairs, c.loop-i.invariant.3, c.well_formed.1.1.1.1.1.1.1.1.1.1.1.1.1.1.0.0)
 
-add-w : tie.Need-overflow-add-w invariant-loop decreases-loop
+add-w : tie.Need-overflow_add-w invariant-loop decreases-loop
 add-w c =
-    let feeding = c.before.before.before.before.before.before.before.before.before.before in
-    let here = c.before.before.before.before.before.before.before.before.before.before.before.before.before.before.before.before.before.before.before.before in
-    omega (arith, feeding.feed-part.ensures.fits, feeding.feed-part.auto.1.1.1.1.1.1.1.1.1.1.1.1.1.1.0, here.loop.invariant.3, c.before.before.before.before.before.before.before.before.before.before.before.before.before.before.before.before.before.before.before.before.before.before.before.before.before.before.before.before.before.before.before.before.before.before.before.before.well-formed.1.1.1.1.1.1.1.1.1.1.1.1.1.1.0.0)
+    omega (arith, c.feed_part-fed.ensures.fits, c.feed_part-fed.auto.pairs, c.loop-i.invariant.3, c.well_formed.1.1.1.1.1.1.1.1.1.1.1.1.1.1.0.0)
 
-add-i : tie.Need-overflow-add-i invariant-loop decreases-loop
-add-i c = omega (arith, c.before.before.before.before.before.before.before.before.before.before.before.before.before.before.before.before.before.before.before.loop-test.true, c.before.before.before.before.before.before.before.before.before.before.before.before.before.before.before.before.before.before.before.before.before.before.before.before.before.before.before.before.before.before.before.before.before.before.before.before.well-formed.1.1.1.1.1.1.1.1.1.1.1.1.1.1.1.0.0)
+add-i : tie.Need-overflow_step-i invariant-loop decreases-loop
+add-i c = omega (arith, c.loop-i-test.true, c.well_formed.1.1.1.1.1.1.1.1.1.1.1.1.1.1.1.0.0)
 
-loop-less : tie.Need-loop-smaller invariant-loop decreases-loop
+loop-less : tie.Need-loop-i-smaller invariant-loop decreases-loop
 loop-less c = search rules
 
-loop-again : tie.Need-loop-preserved invariant-loop decreases-loop
+loop-again : tie.Need-loop-i-preserved invariant-loop decreases-loop
 loop-again c =
-    let feeding = c.before.before.before.before.before.before.before.before.before.before in
-    let starting = feeding.before.before.before in
-    let choosing = starting.before in
-    let ending = choosing.before in
-    let rooming = ending.before in
-    let cutting = rooming.before in
-    let here = c.before.before.before.before.before.before.before.before.before.before.before.before.before.before.before.before.before.before.before.before in
-    let a = c.before.before.before.before.before.before.before.before.before.before.before.before.before.before.before.before.before.before.before.before.before.before.before.before.before.before.before.before.before.before.before.before.before.before.before.before.args in
-    let t = feeding.feed-part.ensures in
-    let h : 4 * here.loop.i + 4 ≤ length here.loop.notes = omega (arith, c.before.before.before.before.before.before.before.before.before.before.before.before.before.before.before.before.before.before.before.loop-test.true, here.loop.invariant.5) in (
-      omega (arith, c.before.before.before.before.before.before.before.before.before.before.before.before.before.before.before.before.before.before.before.loop-test.true),
+    let a = c.args in
+    let t = c.feed_part-fed.ensures in
+    let h : 4 * c.loop-i.i + 4 ≤ length c.loop-i.notes = omega (arith, c.loop-i-test.true, c.loop-i.invariant.5) in (
+      omega (arith, c.loop-i-test.true),
       t.short,
       t.fits,
-      feeding.feed-part.auto.1.1.1.1.1.1.1.1.1.1.1.1.1.1.0 ∙ here.loop.invariant.3,
-      feeding.feed-part.auto.1.1.1.1.1.1.1.1.1.0 ∙ here.loop.invariant.4,
-      c.before.before.before.before.note.auto.0 ∙ here.loop.invariant.5,
-      came-more _ _ _ _ _ _ _ _ _ _ _ _ _ _ _ _ _ _ _ here.loop.invariant.6
-          (planned-so _ _ _ _ _ a.kinds.now a.starts.now a.cuts.now a.rooms.now _ _ _ _ _ _ _ _ _ _ _ _ choosing.number-at3.ensures starting.number-at4.ensures cutting.within.ensures.1 cutting.before.number_at.ensures
-          (ending.within2.ensures.1 ∙ ap (nearest here.loop.w rooming.number-at2.result) here.loop.invariant.3) rooming.number-at2.ensures t.room)
-          t h c.before.before.before.before.note.ensures,
+      c.feed_part-fed.auto.pairs ∙ c.loop-i.invariant.3,
+      c.feed_part-fed.auto.flow ∙ c.loop-i.invariant.4,
+      c.note.auto.notes ∙ c.loop-i.invariant.5,
+      came-more _ _ _ _ _ _ _ _ _ _ _ _ _ _ _ _ _ _ _ c.loop-i.invariant.6
+          (planned-so _ _ _ _ _ a.kinds.now a.starts.now a.cuts.now a.rooms.now _ _ _ _ _ _ _ _ _ _ _ _ c.number_at-kind.ensures c.number_at-start.ensures c.within-e.ensures.1 c.number_at.ensures
+          (c.within-v.ensures.1 ∙ ap (nearest c.loop-i.w c.number_at-in-loop-i.result) c.loop-i.invariant.3) c.number_at-in-loop-i.ensures t.room)
+          t h c.note.ensures,
     )
 
-same_length : tie.Need-same-length invariant-loop decreases-loop
+same_length : tie.Need-shape_of-flow invariant-loop decreases-loop
 same_length c = search rules
 
-same-length-2 : tie.Need-same-length-2 invariant-loop decreases-loop
+same-length-2 : tie.Need-shape_of-pairs invariant-loop decreases-loop
 same-length-2 c = search rules
 
-same-length-3 : tie.Need-same-length-3 invariant-loop decreases-loop
+same-length-3 : tie.Need-shape_of-notes invariant-loop decreases-loop
 same-length-3 c = search rules
 
 returns : tie.Need-returns invariant-loop decreases-loop
 returns c =
-    let looped = c.before in
-    ended _ _ _ _ _ _ _ _ _ _ _ _ (omega (arith, looped.loop.invariant.0, c.loop-test.false)) looped.loop.invariant.6
+    ended _ _ _ _ _ _ _ _ _ _ _ _ (omega (arith, c.loop-i.invariant.0, c.loop-i-test.false)) c.loop-i.invariant.6
 
-pub feed-all-spec : {M : Type 1} → statement M
-feed-all-spec =
+pub feed_all_spec : {M : Type 1} → statement M
+feed_all_spec =
     tie.close
     (tie.spec
     invariant-loop

@@ -5,56 +5,47 @@ use Rattle.machine_certificate_laws.proofs.Driving.{both-driven}
 use Rattle.machine_certificate_laws.proofs.drive_both.Statement.{statement}
 use Rattle.machine_certificate_laws.proofs.drive_both.Tie as tie
 
-check-certificate-requires : tie.Need-check-certificate-requires
+check-certificate-requires : tie.Need-check_certificate-checked-requires
 check-certificate-requires c κs = search rules
 
-open-flow-requires : tie.Need-open-flow-requires
+open-flow-requires : tie.Need-open_flow-opened-requires
 open-flow-requires c κs = search rules
 
-feed-requires : tie.Need-feed-requires
+feed-requires : tie.Need-feed-fed-requires
 feed-requires c κs = search rules
 
-open-flow-requires-2 : tie.Need-open-flow-requires-2
+open-flow-requires-2 : tie.Need-open_flow-machine_opened-requires
 open-flow-requires-2 c κs = search rules
 
-feed-requires-2 : tie.Need-feed-requires-2
+feed-requires-2 : tie.Need-feed-machine_fed-requires
 feed-requires-2 c κs = search rules
 
-same_length : tie.Need-same-length
+same_length : tie.Need-shape_of-flow
 same_length c =
-    let feeding = c.before.before.before.before.before.before.before.before.before.before.before.before.before.before.before.before.before.before in
-    let opening = feeding.before.before.before.before.before.before.before in
-    feeding.feed.auto.1.0 ∙ opening.open-flow.auto.1.0
+    c.feed-fed.auto.flow ∙ c.open_flow-opened.auto.flow
 
-same-length-2 : tie.Need-same-length-2
+same-length-2 : tie.Need-shape_of-pairs0
 same-length-2 c = search rules
 
-same-length-3 : tie.Need-same-length-3
+same-length-3 : tie.Need-shape_of-pairs
 same-length-3 c = search rules
 
-same-length-4 : tie.Need-same-length-4
+same-length-4 : tie.Need-shape_of-machine_flow
 same-length-4 c = search rules
 
-same-length-5 : tie.Need-same-length-5
+same-length-5 : tie.Need-shape_of-machine_pairs0
 same-length-5 c = search rules
 
-same-length-6 : tie.Need-same-length-6
+same-length-6 : tie.Need-shape_of-machine_pairs
 same-length-6 c = search rules
 
 returns : tie.Need-returns
 returns c =
-    let machine-feed = c.before.before.before.before in
-    let machine-opening = machine-feed.before.before.before.before.before.before.before in
-    let feeding = machine-opening.before.before.before.before.before.before.before in
-    let opening = feeding.before.before.before.before.before.before.before in
-    let checking = opening.before.before.before in
-    let known5 = checking.before.before.before.before.before.before.before in
-    let known3 = known5.before.before in
-    both-driven _ _ _ _ _ _ (λ i. (known3.before.shared-slice-known2.given i).fits) (λ i. (known3.shared-slice-known3.given i).fits) (λ i. (known5.shared-slice-known5.given i).fits)
-    _ _ _ _ _ _ opening.open-flow.ensures feeding.feed.ensures _ _ _ _ _ _ machine-opening.open-flow2.ensures machine-feed.feed2.ensures _ checking.check-certificate.ensures
+    both-driven _ _ _ _ _ _ (λ i. (c.shared_slice_known-2-1.given i).fits) (λ i. (c.shared_slice_known-3-1.given i).fits) (λ i. (c.shared_slice_known-5-1.given i).fits)
+    _ _ _ _ _ _ c.open_flow-opened.ensures c.feed-fed.ensures _ _ _ _ _ _ c.open_flow-machine_opened.ensures c.feed-machine_fed.ensures _ c.check_certificate-checked.ensures
 
-pub drive-both-spec : {M : Type 1} → statement M
-drive-both-spec =
+pub drive_both_spec : {M : Type 1} → statement M
+drive_both_spec =
     tie.close
     (tie.spec
     check-certificate-requires

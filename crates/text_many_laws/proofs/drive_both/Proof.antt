@@ -6,49 +6,44 @@ use Rattle.text_many_laws.proofs.Driving.{folded_fits, both-served}
 use Rattle.text_many_laws.proofs.drive_both.Statement.{statement}
 use Rattle.text_many_laws.proofs.drive_both.Tie as tie
 
-gather-requires : tie.Need-gather-requires
+gather-requires : tie.Need-gather-gathered-requires
 gather-requires c κs = search rules
 
-slice-reshare-prefix-serve : tie.Need-slice-reshare-prefix-serve
-slice-reshare-prefix-serve c = folded_fits _ _ _ _ c.before.before.before.before.before.before.gather.ensures.folds
+slice-reshare-prefix-serve : tie.Need-slice_bounds-serve-end
+slice-reshare-prefix-serve c = folded_fits _ _ _ _ c.gather-gathered.ensures.folds
 
-slice-aggregate-serve : tie.Need-slice-aggregate-serve
-slice-aggregate-serve c = sym (length-take-le _ _ (folded_fits _ _ _ _ c.before.before.before.before.before.before.before.gather.ensures.folds))
+slice-aggregate-serve : tie.Need-slice_bounds-serve-end-2
+slice-aggregate-serve c = sym (length-take-le _ _ (folded_fits _ _ _ _ c.gather-gathered.ensures.folds))
 
-serve-requires : tie.Need-serve-requires
+serve-requires : tie.Need-serve-served-requires
 serve-requires c κs = search rules
 
-same_length : tie.Need-same-length
+same_length : tie.Need-shape_of-list
 same_length c = search rules
 
-same-length-2 : tie.Need-same-length-2
+same-length-2 : tie.Need-shape_of-other
 same-length-2 c = search rules
 
-same-length-3 : tie.Need-same-length-3
+same-length-3 : tie.Need-shape_of-out
 same-length-3 c = search rules
 
-same-length-4 : tie.Need-same-length-4
+same-length-4 : tie.Need-shape_of-flow
 same-length-4 c = search rules
 
-same-length-5 : tie.Need-same-length-5
+same-length-5 : tie.Need-shape_of-words
 same-length-5 c = search rules
 
-same-length-6 : tie.Need-same-length-6
+same-length-6 : tie.Need-shape_of-pairs
 same-length-6 c = search rules
 
 returns : tie.Need-returns
 returns c =
-    let serving = c.before.before.before.before.before.before in
-    let gathering = serving.before.before.before.before.before.before.before.before.before.before.before in
-    let piece-known = gathering.before.before.before.before.before in
-    let second-known = piece-known.before.before.before.before.before in
-    let first-known = second-known.before.before in
-    both-served _ _ _ _ _ _ _ _ _ _ _ _ _ _ _ (λ i. (first-known.shared-slice-known.given i).fits) first-known.before.ranges.g.fits
-    (λ i. (second-known.shared-slice-known2.given i).fits) first-known.before.ranges.h.fits (λ i. (piece-known.shared-slice-known3.given i).fits)
-    gathering.gather.ensures serving.serve.ensures
+    both-served _ _ _ _ _ _ _ _ _ _ _ _ _ _ _ (λ i. (c.shared_slice_known-1.given i).fits) c.ranges.g.fits
+    (λ i. (c.shared_slice_known-2-1.given i).fits) c.ranges.h.fits (λ i. (c.shared_slice_known-3-1.given i).fits)
+    c.gather-gathered.ensures c.serve-served.ensures
 
-pub drive-both-spec : {M : Type 1} → statement M
-drive-both-spec =
+pub drive_both_spec : {M : Type 1} → statement M
+drive_both_spec =
     tie.close
     (tie.spec
     gather-requires

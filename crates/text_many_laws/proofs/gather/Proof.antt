@@ -7,63 +7,55 @@ use Rattle.text_many_laws.proofs.Driving.{joined-fits}
 use Rattle.text_many_laws.proofs.gather.Statement.{statement}
 use Rattle.text_many_laws.proofs.gather.Tie as tie
 
-compile-requires : tie.Need-compile-requires
+compile-requires : tie.Need-compile-one-requires
 compile-requires c κs = search rules
 
-compile-requires-2 : tie.Need-compile-requires-2
+compile-requires-2 : tie.Need-compile-two-requires
 compile-requires-2 c κs = search rules
 
-slice-reshare-prefix-join : tie.Need-slice-reshare-prefix-join
+slice-reshare-prefix-join : tie.Need-slice_bounds-join-end
 slice-reshare-prefix-join c =
-    let compiling = c.before.before.before in
-    let known = compiling.before.before.before.before.before.before.before.before in
-    compiled-fits _ _ _ _ _ (λ i. (known.shared-slice-known2.given i).fits) known.before.before.before.ranges.h.fits compiling.compile2.ensures
+    compiled-fits _ _ _ _ _ (λ i. (c.shared_slice_known-2-1.given i).fits) c.ranges.h.fits c.compile-two.ensures
 
-slice-aggregate-join : tie.Need-slice-aggregate-join
+slice-aggregate-join : tie.Need-slice_bounds-join-end-2
 slice-aggregate-join c =
-    let compiling = c.before.before.before.before in
-    let known = compiling.before.before.before.before.before.before.before.before in
-    sym (length-take-le _ _ (compiled-fits _ _ _ _ _ (λ i. (known.shared-slice-known2.given i).fits) known.before.before.before.ranges.h.fits compiling.compile2.ensures))
+    sym (length-take-le _ _ (compiled-fits _ _ _ _ _ (λ i. (c.shared_slice_known-2-1.given i).fits) c.ranges.h.fits c.compile-two.ensures))
 
-join-requires : tie.Need-join-requires
+join-requires : tie.Need-join-joined-requires
 join-requires c κs = search rules
 
-slice-reshare-prefix-fold : tie.Need-slice-reshare-prefix-fold
-slice-reshare-prefix-fold c = joined-fits _ _ _ _ _ c.before.before.join.ensures
+slice-reshare-prefix-fold : tie.Need-slice_bounds-fold-end
+slice-reshare-prefix-fold c = joined-fits _ _ _ _ _ c.join-joined.ensures
 
-slice-aggregate-fold : tie.Need-slice-aggregate-fold
-slice-aggregate-fold c = sym (length-take-le _ _ (joined-fits _ _ _ _ _ c.before.before.before.join.ensures))
+slice-aggregate-fold : tie.Need-slice_bounds-fold-end-2
+slice-aggregate-fold c = sym (length-take-le _ _ (joined-fits _ _ _ _ _ c.join-joined.ensures))
 
-fold-requires : tie.Need-fold-requires
+fold-requires : tie.Need-fold-folded-requires
 fold-requires c κs = search rules
 
-same_length : tie.Need-same-length
+same_length : tie.Need-shape_of-list
 same_length c = search rules
 
-same-length-2 : tie.Need-same-length-2
+same-length-2 : tie.Need-shape_of-other
 same-length-2 c = search rules
 
-same-length-3 : tie.Need-same-length-3
+same-length-3 : tie.Need-shape_of-out
 same-length-3 c = search rules
 
 returns : tie.Need-returns
 returns c =
-    let folding = c.before.before in
-    let joining = folding.before.before.before.before.before in
-    let second = joining.before.before.before.before.before in
-    let first = second.before.before.before.before in
     record {
       list = _;
       other = _;
       whole = _;
-      first = first.compile.ensures;
-      second = second.compile2.ensures;
-      joins = joining.join.ensures;
-      folds = folding.fold.ensures;
+      first = c.compile-one.ensures;
+      second = c.compile-two.ensures;
+      joins = c.join-joined.ensures;
+      folds = c.fold-folded.ensures;
     }
 
-pub gather-spec : {M : Type 1} → statement M
-gather-spec =
+pub gather_spec : {M : Type 1} → statement M
+gather_spec =
     tie.close
     (tie.spec
     compile-requires
