@@ -1,4 +1,6 @@
 // The C face: the library's twenty-nine functions under names of their own, over numbers and slices, and the face's version. Nothing else is here.
+#![tactic(auto)]
+
 ghost use Rattle.std.specs.Prelude.{◌≡◌, ◌≤◌, length};
 ghost use Rattle.list.specs.List.{list_refusal};
 ghost use Rattle.list_flow.specs.Opening.{open_flow};
@@ -37,7 +39,7 @@ pub const VERSION: u32 = 20;
 
 // What a feed answers, as C lays it out.
 #[repr(C)]
-#[derive(Drop)]
+#[derive(Clone, Copy)]
 pub struct WatchFed {
     pub bytes: u64,
     pub pairs: u64,
@@ -47,7 +49,7 @@ pub struct WatchFed {
 
 // What a feed by an index answers, as C lays it out: the split where the flow then stands beside the rest.
 #[repr(C)]
-#[derive(Drop)]
+#[derive(Clone, Copy)]
 pub struct WatchStood {
     pub bytes: u64,
     pub pairs: u64,
@@ -58,7 +60,7 @@ pub struct WatchStood {
 
 // What opening a flow answers, as C lays it out.
 #[repr(C)]
-#[derive(Drop)]
+#[derive(Clone, Copy)]
 pub struct WatchOpened {
     pub pairs: u64,
     pub refusal: u32,
@@ -66,7 +68,7 @@ pub struct WatchOpened {
 
 // What building a table answers, as C lays it out: the bytes used of each list.
 #[repr(C)]
-#[derive(Drop)]
+#[derive(Clone, Copy)]
 pub struct WatchBuilt {
     pub classes: u64,
     pub parts: u64,
@@ -77,7 +79,7 @@ pub struct WatchBuilt {
 
 // What preparing a list answers, as C lays it out: the bytes used of each list.
 #[repr(C)]
-#[derive(Drop)]
+#[derive(Clone, Copy)]
 pub struct WatchMade {
     pub splits: u64,
     pub index: u64,
@@ -86,7 +88,7 @@ pub struct WatchMade {
 
 // What compiling a text answers, as C lays it out: the place counts for 19 alone, the length without a refusal.
 #[repr(C)]
-#[derive(Drop)]
+#[derive(Clone, Copy)]
 pub struct WatchCompiled {
     pub place: u64,
     pub length: u64,
@@ -95,7 +97,7 @@ pub struct WatchCompiled {
 
 // What joining and folding answer, as C lays it out: the length of the list that stands in front of the lent one.
 #[repr(C)]
-#[derive(Drop)]
+#[derive(Clone, Copy)]
 pub struct WatchJoined {
     pub length: u64,
     pub refusal: u32,
@@ -348,7 +350,7 @@ pub extern "C" fn watch_x_feed(
 
 // What taking a segment answers, as C lays it out: a refusal's number or 0, and the held place at exit.
 #[repr(C)]
-#[derive(Drop)]
+#[derive(Clone, Copy)]
 pub struct WatchHeld {
     pub refusal: u32,
     pub start: u32,
@@ -357,7 +359,7 @@ pub struct WatchHeld {
 
 // The part that is due, as C lays it out: where it begins, how long it is, and in what: 0 nothing, 1 the held buffer, 2 the segment.
 #[repr(C)]
-#[derive(Drop)]
+#[derive(Clone, Copy)]
 pub struct WatchPart {
     pub at: u64,
     pub length: u64,
@@ -498,7 +500,7 @@ pub extern "C" fn watch_why_state(
 
 // What the question which edge record leads from one state to another answers, as C lays it out; the place is `record` there.
 #[repr(C)]
-#[derive(Drop)]
+#[derive(Clone, Copy)]
 pub struct WatchFound {
     pub place: u64,
     pub refusal: u32,
@@ -534,7 +536,7 @@ pub extern "C" fn watch_offset(flow: &[u8]) -> u64
 
 // What feeding a segment answers, as C lays it out; the held place at exit is `held_start` and `held_length` there.
 #[repr(C)]
-#[derive(Drop)]
+#[derive(Clone, Copy)]
 pub struct WatchHeard {
     pub bytes: u64,
     pub pairs: u64,
@@ -634,7 +636,7 @@ pub extern "C" fn watch_split_feed_segment(
 
 // What feeding a segment by an index answers, as C lays it out: the split where the flow then stands beside the rest.
 #[repr(C)]
-#[derive(Drop)]
+#[derive(Clone, Copy)]
 pub struct WatchHeardAt {
     pub bytes: u64,
     pub pairs: u64,

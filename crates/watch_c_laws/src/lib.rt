@@ -1,4 +1,6 @@
 // The driver of the C face: code for no user. It calls each exported name, and promises that what they answer and leave is the definitions'.
+#![tactic(auto)]
+
 ghost use Rattle.std.specs.Prelude.{◌≡◌, length};
 ghost use Rattle.list.specs.List.{list_refusal};
 ghost use Rattle.list_flow.specs.Opening.{open_flow};
@@ -36,7 +38,7 @@ use watch_c::{
 };
 
 // What the calls answered: the two checks, the opening, and both feeds.
-#[derive(Drop)]
+#[derive(Clone, Copy)]
 struct Drove {
     listed: u32,
     checked: u32,
@@ -106,7 +108,7 @@ fn drive_faces(
 }
 
 // What a filler and a feed by what it left answered.
-#[derive(Drop)]
+#[derive(Clone, Copy)]
 struct DroveFilled {
     filled: u32,
     fed: WatchFed,
@@ -136,7 +138,7 @@ fn drive_matrix(
 }
 
 // What the filler of an index and a feed by what it left answered.
-#[derive(Drop)]
+#[derive(Clone, Copy)]
 struct DroveIndex {
     filled: u32,
     stood: WatchStood,
@@ -196,7 +198,7 @@ fn drive_prepare(list: &[u8], splits: &mut [u8], index: &mut [u8]) -> WatchMade
 }
 
 // What the calls for the automaton with bits and counters answered: the check, the opening, and the feed.
-#[derive(Drop)]
+#[derive(Clone, Copy)]
 struct DroveExtended {
     checked: u32,
     opened: WatchOpened,
@@ -231,7 +233,7 @@ fn drive_extended(
 }
 
 // What taking a segment and asking for what is due answered.
-#[derive(Drop)]
+#[derive(Clone, Copy)]
 struct DroveSegment {
     taken: WatchHeld,
     part: WatchPart,

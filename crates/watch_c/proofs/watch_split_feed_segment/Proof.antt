@@ -3,21 +3,21 @@ use borrow.Author.Rules.{rules}
 use Rattle.watch_c.proofs.watch_split_feed_segment.Statement.{statement}
 use Rattle.watch_c.proofs.watch_split_feed_segment.Tie as tie
 
-split-feed-segment-requires : tie.Need-split-feed-segment-requires
+split-feed-segment-requires : tie.Need-split_feed_segment-h-requires
 split-feed-segment-requires c κs = search rules
 
-same_length : tie.Need-same-length
-same_length c = c.before.before.before.before.before.before.split-feed-segment.auto.1.1.1.1.1.1.0
+same_length : tie.Need-shape_of-flow
+same_length c = c.split_feed_segment-h.auto.flow
 
-same-length-2 : tie.Need-same-length-2
-same-length-2 c = c.before.before.before.before.before.before.split-feed-segment.auto.1.1.1.1.1.1.1.1.0
+same-length-2 : tie.Need-shape_of-held
+same-length-2 c = c.split_feed_segment-h.auto.held
 
-same-length-3 : tie.Need-same-length-3
-same-length-3 c = c.before.before.before.before.before.before.split-feed-segment.auto.1.1.1.1.1.1.1.1.1.1.1.1.1.0
+same-length-3 : tie.Need-shape_of-pairs
+same-length-3 c = c.split_feed_segment-h.auto.pairs
 
 returns : tie.Need-returns
-returns c = c.before.before.before.before.before.before.split-feed-segment.ensures
+returns c = c.split_feed_segment-h.ensures
 
-pub watch-split-feed-segment-spec : {M : Type 1} → statement M
-watch-split-feed-segment-spec =
+pub watch_split_feed_segment_spec : {M : Type 1} → statement M
+watch_split_feed_segment_spec =
     tie.close (tie.spec split-feed-segment-requires same_length same-length-2 same-length-3 returns)

@@ -4,21 +4,21 @@ use Rattle.watch_c.proofs.Facing.{faced}
 use Rattle.watch_c.proofs.watch_x_feed.Statement.{statement}
 use Rattle.watch_c.proofs.watch_x_feed.Tie as tie
 
-feed-requires : tie.Need-feed-requires
+feed-requires : tie.Need-feed-f-requires
 feed-requires c κs = search rules
 
 face-requires : tie.Need-face-requires
 face-requires c κs = search rules
 
-same_length : tie.Need-same-length
+same_length : tie.Need-shape_of-flow
 same_length c = search rules
 
-same-length-2 : tie.Need-same-length-2
+same-length-2 : tie.Need-shape_of-pairs
 same-length-2 c = search rules
 
 returns : tie.Need-returns
-returns c = faced c.before.before.before.before.before.feed.ensures c.face.ensures
+returns c = faced c.feed-f.ensures c.face.ensures
 
-pub watch-x-feed-spec : {M : Type 1} → statement M
-watch-x-feed-spec =
+pub watch_x_feed_spec : {M : Type 1} → statement M
+watch_x_feed_spec =
     tie.close (tie.spec feed-requires face-requires same_length same-length-2 returns)

@@ -3,21 +3,21 @@ use borrow.Author.Rules.{rules}
 use Rattle.watch_c_laws.proofs.drive_feed_segment.Statement.{statement}
 use Rattle.watch_c_laws.proofs.drive_feed_segment.Tie as tie
 
-watch-feed-segment-requires : tie.Need-watch-feed-segment-requires
+watch-feed-segment-requires : tie.Need-watch_feed_segment-requires
 watch-feed-segment-requires c κs = search rules
 
-same_length : tie.Need-same-length
-same_length c = c.before.before.before.before.before.before.watch-feed-segment.auto.1.0
+same_length : tie.Need-shape_of-flow
+same_length c = c.watch_feed_segment.auto.flow
 
-same-length-2 : tie.Need-same-length-2
-same-length-2 c = c.before.before.before.before.before.before.watch-feed-segment.auto.1.1.1.0
+same-length-2 : tie.Need-shape_of-held
+same-length-2 c = c.watch_feed_segment.auto.held
 
-same-length-3 : tie.Need-same-length-3
-same-length-3 c = c.before.before.before.before.before.before.watch-feed-segment.auto.1.1.1.1.1.1.1.1.0
+same-length-3 : tie.Need-shape_of-pairs
+same-length-3 c = c.watch_feed_segment.auto.pairs
 
 returns : tie.Need-returns
-returns c = c.before.before.before.before.before.before.watch-feed-segment.ensures
+returns c = c.watch_feed_segment.ensures
 
-pub drive-feed-segment-spec : {M : Type 1} → statement M
-drive-feed-segment-spec =
+pub drive_feed_segment_spec : {M : Type 1} → statement M
+drive_feed_segment_spec =
     tie.close (tie.spec watch-feed-segment-requires same_length same-length-2 same-length-3 returns)
