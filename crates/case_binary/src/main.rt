@@ -1,4 +1,6 @@
 // Binary input of every byte value, longer than two pieces, by a list with ranges; a match lies across a cut.
-fn main() {
-    program::start();
+#![tactic(auto)]
+
+fn main(rt: HostRuntime) {
+    program::start(&rt);
 }

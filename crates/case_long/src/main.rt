@@ -1,4 +1,6 @@
 // A list of 8,193 records: refused by rule 1.
-fn main() {
-    program::start();
+#![tactic(auto)]
+
+fn main(rt: HostRuntime) {
+    program::start(&rt);
 }

@@ -1,4 +1,6 @@
 // No rules.bin: it counts as an empty list, refused by rule 1.
-fn main() {
-    program::start();
+#![tactic(auto)]
+
+fn main(rt: HostRuntime) {
+    program::start(&rt);
 }

@@ -1,4 +1,6 @@
 // The example of two breakfasts: no order for calf number nine is repeated.
-fn main() {
-    program::start();
+#![tactic(auto)]
+
+fn main(rt: HostRuntime) {
+    program::start(&rt);
 }

@@ -1,4 +1,6 @@
 // A list without a start record: refused by rule 3, whatever the input is.
-fn main() {
-    program::start();
+#![tactic(auto)]
+
+fn main(rt: HostRuntime) {
+    program::start(&rt);
 }

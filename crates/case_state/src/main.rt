@@ -1,4 +1,6 @@
 // A list with state 1,024 in an edge: refused by rule 2.
-fn main() {
-    program::start();
+#![tactic(auto)]
+
+fn main(rt: HostRuntime) {
+    program::start(&rt);
 }

@@ -1,4 +1,6 @@
 // The example of two breakfasts: the feeder repeats the order for calf number nine.
-fn main() {
-    program::start();
+#![tactic(auto)]
+
+fn main(rt: HostRuntime) {
+    program::start(&rt);
 }

@@ -2,6 +2,8 @@
 // From the first write that is not whole on it writes nothing more, so that output without its last line has lost something.
 // Each text is made and promised before it is handed over. `read_piece` and `hand` alone reach out; by a flag they take and leave arrays in the place of
 // standard input and output, and of such a run `watch` promises what is handed over, for every list, every input and all answers of the writes.
+#![tactic(auto)]
+
 ghost use Rattle.std.specs.Prelude.{◌≡◌, false, suc, ◌%◌, ◌≤◌, ◌<◌, min, length, take, drop};
 ghost use Rattle.program_text.specs.Hand.{handed, Logs};
 ghost use Rattle.program.specs.App.{text_size, piece_size, open_turn, turn_of, texts_from, texts, Says, Held};
@@ -13,7 +15,7 @@ const PAIR_WORDS: usize = 2048;
 const PIECE: usize = 4096;
 
 // What a turn says: whether its text is the last, the bytes consumed, and the length of the text.
-#[derive(Drop)]
+#[derive(Clone, Copy)]
 pub struct Said {
     pub last: bool,
     pub bytes: usize,
@@ -164,9 +166,9 @@ fn watch(outside: bool, list: &[u8], input: &[u8], answers: &[u8], log: &mut [u8
 }
 
 // The program.
-pub fn start() {
+pub fn start(rt: &HostRuntime) {
     let mut list = program_text::list_buffer();
-    let n = program_text::read_rules(b"rules.bin", &mut list);
+    let n = program_text::read_rules(rt, b"rules.bin", &mut list);
     let mut log = [0u8; 1];
     watch(true, &list[..n], b"", b"", &mut log);
 }

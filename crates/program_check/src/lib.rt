@@ -1,8 +1,12 @@
 // `watch check DIR [STATE]`: looks at what the programs read of a box: the list, the names beside it, and the state of a live line where one is named. Each has
 // a line or two of its own, and the last line says `passed` or `refused`. Here it is shown that this is safe and ends; what a check says of a list, a record or
 // a state, the crates below promise.
+#![tactic(auto)]
+
 ghost use Rattle.std.specs.Prelude.{◌≡◌, length};
 ghost use Rattle.program_turn.specs.State.{state_size};
+
+use std::fs::File;
 
 // The highest signature.
 const MOST_SIGNATURE: u32 = 255;
@@ -78,14 +82,17 @@ fn are_names(file: &[u8]) -> bool {
 }
 
 // Whether the file of names at a path is good, where there is one.
-fn check_names(path: &[u8]) -> bool {
-    let fd = os::open_read(path);
-    if fd < 0 {
-        return true;
+fn check_names(rt: &HostRuntime, path: &[u8]) -> bool {
+    match program_system::open_read(rt, path) {
+        Ok(names) => are_names_of(&names),
+        Err(_) => true,
     }
+}
+
+// Whether an open file of names is good.
+fn are_names_of(names: &File) -> bool {
     let mut file = program_files::texts_buffer();
-    let n = io::read_full(fd, &mut file);
-    libc::close(fd);
+    let n = io::read_full(program_system::number_of(names), &mut file);
     if program_files::MOST_TEXTS < n {
         program_files::fail(b"names: this has more than 1,048,576 bytes\n");
         return false;
@@ -122,17 +129,22 @@ fn is_state(list: &[u8], state: &[u8]) -> bool
 }
 
 // Whether the state at a path is one of a list.
-fn check_state(list: &[u8], path: &[u8]) -> bool {
-    let mut state = program_turn::state_buffer();
-    let fd = os::open_read(path);
-    if fd < 0 {
-        program_files::fail(b"the state cannot be read\n");
-        return false;
+fn check_state(rt: &HostRuntime, list: &[u8], path: &[u8]) -> bool {
+    match program_system::open_read(rt, path) {
+        Ok(file) => is_state_in(list, &file),
+        Err(_) => {
+            program_files::fail(b"the state cannot be read\n");
+            false
+        }
     }
-    let n = io::read_full(fd, &mut state);
+}
+
+// Whether an open file has a state of a list, and nothing behind it.
+fn is_state_in(list: &[u8], file: &File) -> bool {
+    let mut state = program_turn::state_buffer();
+    let n = io::read_full(program_system::number_of(file), &mut state);
     let mut behind = [0u8; 1];
-    let more = io::read_full(fd, &mut behind);
-    libc::close(fd);
+    let more = io::read_full(program_system::number_of(file), &mut behind);
     if (n != program_turn::STATE_SIZE) | (more != 0) {
         program_files::fail(b"this is no state: it has not 4,304 bytes\n");
         return false;
@@ -152,11 +164,11 @@ fn end(good: bool) {
 }
 
 // `watch check DIR [STATE]`; the state has no bytes where none is named.
-pub fn check_folder(folder: &[u8], state: &[u8]) {
+pub fn check_folder(rt: &HostRuntime, folder: &[u8], state: &[u8]) {
     let mut rules_path = io::buffer();
     let a = program_files::put_both(&mut rules_path, folder, b"/rules.bin");
     let mut list = program_text::list_buffer();
-    let n = program_text::read_rules(&rules_path[..a], &mut list);
+    let n = program_text::read_rules(rt, &rules_path[..a], &mut list);
     let refusal = check_rules(&list[..n]);
     if refusal != rules::PASSED {
         program_files::end_line(refusal);
@@ -164,7 +176,7 @@ pub fn check_folder(folder: &[u8], state: &[u8]) {
     }
     let mut names_path = io::buffer();
     let b = program_files::put_both(&mut names_path, folder, b"/names");
-    if !check_names(&names_path[..b]) {
+    if !check_names(rt, &names_path[..b]) {
         end(false);
         return;
     }
@@ -172,5 +184,5 @@ pub fn check_folder(folder: &[u8], state: &[u8]) {
         end(true);
         return;
     }
-    end(check_state(&list[..n], state));
+    end(check_state(rt, &list[..n], state));
 }

@@ -1,10 +1,12 @@
 // `watch compile FILE [OUT]`: a file of texts to a list and its names, over the library's own calls. Each text is compiled, its list joined to those before it
 // and the whole folded. Here it is shown that this is safe and ends; what a list is, the crates below promise. A line that is refused is said on standard
 // error, with a caret under the place; then nothing is written.
+#![tactic(auto)]
+
 ghost use Rattle.std.specs.Prelude.{◌≤◌, length};
 
 // The list so far: how many lines were refused, the bytes of the list, and how many texts there are.
-#[derive(Drop)]
+#[derive(Clone, Copy)]
 struct Gathered {
     bad: u64,
     used: usize,
@@ -189,48 +191,56 @@ fn take_lines(
 // ---- files
 
 // Writes a new file of names.
-fn write_new_names(path: &[u8], file: &[u8], names: &[usize]) -> bool {
-    let fd = os::open_overwrite(path);
-    if fd < 0 {
-        return false;
+fn write_new_names(rt: &HostRuntime, path: &[u8], file: &[u8], names: &[usize]) -> bool {
+    match program_system::open_overwrite(rt, path) {
+        Ok(beside) => {
+            let good = program_lines::write_names(program_system::number_of(&beside), file, names);
+            program_files::end_new(rt, beside, path, good)
+        }
+        Err(_) => false,
     }
-    let good = program_lines::write_names(fd, file, names);
-    program_files::end_new(fd, path, good)
 }
 
 // Writes a list and its names in the place of the old ones: both are whole before one takes its place.
-fn write_both(rules: &[u8], names_path: &[u8], list: &[u8], file: &[u8], names: &[usize]) -> bool {
+fn write_both(
+    rt: &HostRuntime,
+    rules: &[u8],
+    names_path: &[u8],
+    list: &[u8],
+    file: &[u8],
+    names: &[usize],
+) -> bool {
     let mut new_rules = io::buffer();
     let a = program_files::put_both(&mut new_rules, rules, b".new");
     let mut new_names = io::buffer();
     let b = program_files::put_both(&mut new_names, names_path, b".new");
-    if !program_files::write_new(&new_rules[..a], list) {
+    if !program_files::write_new(rt, &new_rules[..a], list) {
         return false;
     }
-    if !write_new_names(&new_names[..b], file, names) {
-        os::unlink(&new_rules[..a]);
+    if !write_new_names(rt, &new_names[..b], file, names) {
+        program_system::unlink(rt, &new_rules[..a]);
         return false;
     }
-    if os::rename(&new_rules[..a], rules) != 0 {
-        os::unlink(&new_rules[..a]);
-        os::unlink(&new_names[..b]);
+    if program_system::rename(rt, &new_rules[..a], rules).is_err() {
+        program_system::unlink(rt, &new_rules[..a]);
+        program_system::unlink(rt, &new_names[..b]);
         return false;
     }
-    os::rename(&new_names[..b], names_path) == 0
+    program_system::rename(rt, &new_names[..b], names_path).is_ok()
 }
 
 // Writes a list to OUT, or to rules.bin where that is a folder, and the names beside it.
-fn write_out(out: &[u8], list: &[u8], file: &[u8], names: &[usize]) -> bool {
+fn write_out(rt: &HostRuntime, out: &[u8], list: &[u8], file: &[u8], names: &[usize]) -> bool {
     let mut rules = io::buffer();
     let mut beside = io::buffer();
-    if program_files::is_folder(out) {
+    if program_files::is_folder(rt, out) {
         let a = program_files::put_both(&mut rules, out, b"/rules.bin");
         let b = program_files::put_both(&mut beside, out, b"/names");
-        return write_both(&rules[..a], &beside[..b], list, file, names);
+        return write_both(rt, &rules[..a], &beside[..b], list, file, names);
     }
     let e = program_files::within(out, program_files::folder_end(out));
     let b = program_files::put_both(&mut beside, &out[..e], b"names");
-    write_both(out, &beside[..b], list, file, names)
+    write_both(rt, out, &beside[..b], list, file, names)
 }
 
 // ---- the command
@@ -241,7 +251,7 @@ fn end_refused() {
 }
 
 // Compiles the texts of a file that is read; writes the list where `out` names a place.
-fn compile_texts(file: &[u8], out: &[u8]) {
+fn compile_texts(rt: &HostRuntime, file: &[u8], out: &[u8]) {
     let mut list = io::large_buffer();
     let mut one = io::large_buffer();
     let mut work = io::large_buffer();
@@ -260,7 +270,7 @@ fn compile_texts(file: &[u8], out: &[u8]) {
     }
     program_lines::say_list(got.texts, &list[..n]);
     if out.len() != 0 {
-        if !write_out(out, &list[..n], file, &names) {
+        if !write_out(rt, out, &list[..n], file, &names) {
             program_files::fail(b"cannot write the list or its names\n");
             return;
         }
@@ -269,9 +279,9 @@ fn compile_texts(file: &[u8], out: &[u8]) {
 }
 
 // `watch compile FILE [OUT]`.
-pub fn compile_file(path: &[u8], out: &[u8]) {
+pub fn compile_file(rt: &HostRuntime, path: &[u8], out: &[u8]) {
     let mut file = program_files::texts_buffer();
-    let n = program_text::read_rules(path, &mut file);
+    let n = program_text::read_rules(rt, path, &mut file);
     if n == 0 {
         program_files::fail(b"the file is empty, or cannot be read\n");
         return;
@@ -285,5 +295,5 @@ pub fn compile_file(path: &[u8], out: &[u8]) {
         end_refused();
         return;
     }
-    compile_texts(&file[..n], out);
+    compile_texts(rt, &file[..n], out);
 }

@@ -1,7 +1,11 @@
 // What the commands on files share: paths; files that are written new, synced and renamed over the old ones, whole or not at all; the numbers and names in
 // the lines of a file; and the words for people, on standard error. That they are safe and end is shown, and where a text is cut, how far it goes.
+#![tactic(auto)]
+
 ghost use Rattle.std.specs.Prelude.{◌≡◌, ◌++◌, ◌<◌, ◌≤◌, length, take};
 ghost use Rattle.io.specs.Counts.{IsPrefixLen};
+
+use std::fs::File;
 
 // Standard output and standard error.
 pub const OUT: i32 = 1;
@@ -29,15 +33,10 @@ pub fn put_both(text: &mut [u8], first: &[u8], second: &[u8]) -> usize
 }
 
 // Whether a path is a folder.
-pub fn is_folder(path: &[u8]) -> bool {
+pub fn is_folder(rt: &HostRuntime, path: &[u8]) -> bool {
     let mut inside = io::buffer();
     let n = put_both(&mut inside, path, b"/.");
-    let fd = os::open_read(&inside[..n]);
-    if fd < 0 {
-        return false;
-    }
-    libc::close(fd);
-    true
+    program_system::open_read(rt, &inside[..n]).is_ok()
 }
 
 // Where the folder of a path ends: behind its last stroke, 0 where it has none.
@@ -153,28 +152,26 @@ pub fn texts_buffer() -> [u8; 1048577]
 }
 
 // Ends a new file: whether it was all written and stands on the disk; else it goes.
-pub fn end_new(fd: i32, path: &[u8], good: bool) -> bool {
-    let synced = libc::fsync(fd);
-    let closed = libc::close(fd);
+pub fn end_new(rt: &HostRuntime, file: File, path: &[u8], good: bool) -> bool {
+    let synced = program_system::is_synced(&file);
     if good {
-        if synced == 0 {
-            if closed == 0 {
-                return true;
-            }
+        if synced {
+            return true;
         }
     }
-    os::unlink(path);
+    program_system::unlink(rt, path);
     false
 }
 
 // Writes a new file.
-pub fn write_new(path: &[u8], bytes: &[u8]) -> bool {
-    let fd = os::open_overwrite(path);
-    if fd < 0 {
-        return false;
+pub fn write_new(rt: &HostRuntime, path: &[u8], bytes: &[u8]) -> bool {
+    match program_system::open_overwrite(rt, path) {
+        Ok(file) => {
+            let good = io::write_all(program_system::number_of(&file), bytes);
+            end_new(rt, file, path, good)
+        }
+        Err(_) => false,
     }
-    let good = io::write_all(fd, bytes);
-    end_new(fd, path, good)
 }
 
 // ---- words

@@ -1,5 +1,7 @@
 // The lines of a file of texts: their fronts and names, and what is said of a line that is refused, with a caret under the place, and of the list that is made.
 // Here it is shown that this is safe and ends; what is for people goes to standard error.
+#![tactic(auto)]
+
 ghost use Rattle.std.specs.Prelude.{◌≡◌, ◌+◌, ◌≤◌, length};
 ghost use Rattle.io.specs.Counts.{IsPrefixLen};
 
@@ -13,7 +15,7 @@ const MOST_SAID: u64 = 20;
 const BEFORE: usize = 60;
 
 // What stands in front of a line's text: whether it is there, the signature, where its name begins and ends, and where the text begins.
-#[derive(Drop)]
+#[derive(Clone, Copy)]
 pub struct Front {
     pub good: bool,
     pub signature: u8,

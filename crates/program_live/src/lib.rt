@@ -2,6 +2,8 @@
 // them. So a run that is cut anywhere goes on from the state that was last handed over whole, with the lines cut to its length and the line moved to its place.
 // `next_unit` and `hand_over` alone reach out; by a flag they take and leave arrays in the place of files, and of such a run `run` promises what is handed over,
 // for every list, state and recording, and all answers of the writes.
+#![tactic(auto)]
+
 ghost use Rattle.std.specs.Prelude.{◌≡◌, ◌+◌, ◌≤◌, false, length, take, drop};
 ghost use Rattle.io.specs.Counts.{IsPrefixLen};
 ghost use Rattle.program_text.specs.Hand.{handed, Takes, Logs};
@@ -11,12 +13,14 @@ ghost use Rattle.program_live.specs.Live.{most_turns, no_unit_yet, unit_at, next
 ghost use Rattle.program_live.specs.Live as def;
 
 use program_text::Taken;
+use std::fs::File;
+use std::io::{Error, ErrorKind};
 
 // The most turns of a run: at a turn a nanosecond more than a hundred years. A run that makes them ends, with the state handed over.
 const MOST_TURNS: u64 = 4611686018427387904;
 
 // What was read: whether it is there, the number of its first byte, which part of it is left, and where the next one stands in a recording.
-#[derive(Drop)]
+#[derive(Clone, Copy)]
 struct Unit {
     more: bool,
     start: u32,
@@ -26,12 +30,18 @@ struct Unit {
 }
 
 // Where a run reads and writes: the files, or arrays; and whether it keeps a state.
-#[derive(Drop)]
+#[derive(Clone, Copy)]
 struct Ends {
     outside: bool,
     keeping: bool,
-    line: i32,
-    lines: i32,
+}
+
+// What a run reaches outside: the file of the line, standard input where it is none, and that of the lines, standard output where it is none.
+#[derive(Clone, Copy)]
+struct Reach<'a> {
+    rt: &'a HostRuntime,
+    line: Option<&'a File>,
+    lines: Option<&'a File>,
 }
 
 // ---- what is read
@@ -79,16 +89,15 @@ fn recorded_unit(input: &[u8], at: usize, bytes: &mut [u8]) -> Unit
 }
 
 // Reads what has come of a line; where a read fails or nothing more comes, no bytes.
-fn read_bytes(line: i32, bytes: &mut [u8]) -> Unit
+fn read_bytes(reach: &Reach<'_>, bytes: &mut [u8]) -> Unit
     requires { length bytes.old ≡ most_unit }
     ensures { (result.from ≤ result.to) × (result.to ≤ most_unit) }
 {
-    let got = libc::read(line, bytes);
     Unit {
         more: true,
         start: 0,
         from: 0,
-        to: io::count(got, bytes),
+        to: program_system::read_some(reach.rt, reach.line, bytes),
         at: 0,
     }
 }
@@ -98,6 +107,14 @@ fn within(bytes: &[u8], n: usize) -> usize
     ensures { IsPrefixLen result bytes.now }
 {
     if n < bytes.len() { n } else { bytes.len() }
+}
+
+// The number of a line's file.
+fn number_of(line: Option<&File>) -> i32 {
+    match line {
+        Some(file) => program_system::number_of(file),
+        None => program_system::IN,
+    }
 }
 
 // Reads a segment of a line; none where the line ends before it does.
@@ -126,18 +143,19 @@ fn read_segment(line: i32, bytes: &mut [u8]) -> Unit
 }
 
 // Reads a unit of a line, by its kind.
-fn read_unit(line: i32, state: &[u8], bytes: &mut [u8]) -> Unit
+fn read_unit(reach: &Reach<'_>, state: &[u8], bytes: &mut [u8]) -> Unit
     requires { length bytes.old ≡ most_unit }
     ensures { (result.from ≤ result.to) × (result.to ≤ most_unit) }
 {
     if numbers::number_at(state, program_turn::KIND_AT, 4) == program_turn::OF_BYTES {
-        return read_bytes(line, bytes);
+        return read_bytes(reach, bytes);
     }
-    read_segment(line, bytes)
+    read_segment(number_of(reach.line), bytes)
 }
 
 // The unit of a turn: what is left of the last one, also where the state comes next; else the next one, of the line or of a recording.
 fn next_unit(
+    reach: &Reach<'_>,
     ends: Ends,
     saving: bool,
     state: &[u8],
@@ -156,7 +174,7 @@ fn next_unit(
         return u;
     }
     if ends.outside {
-        return read_unit(ends.line, state, bytes);
+        return read_unit(reach, state, bytes);
     }
     recorded_unit(input, u.at, bytes)
 }
@@ -181,24 +199,22 @@ fn less(u: Unit, done: usize) -> Unit
 
 // ---- what is written
 
-// Whether what was written to a file has reached its device; of what is no file nothing is asked.
-fn is_synced(fd: i32) -> bool {
-    if libc::fsync(fd) == 0 {
-        return true;
-    }
-    os::errno() == libc::EINVAL
-}
-
 // Writes lines, and where a state is kept waits until they have reached their device; says whether that was done.
-fn is_written(keeping: bool, fd: i32, text: &[u8]) -> bool {
-    if !io::write_all(fd, text) {
-        os::fail(b"watch: the lines cannot be written");
-        return false;
+fn is_written(reach: &Reach<'_>, keeping: bool, text: &[u8]) -> bool {
+    match program_system::write_whole(reach.rt, reach.lines, text) {
+        Ok(_) => {}
+        Err(error) => {
+            program_system::fail(reach.rt, b"watch: the lines cannot be written", &error);
+            return false;
+        }
     }
     if !keeping {
         return true;
     }
-    is_synced(fd)
+    match reach.lines {
+        Some(file) => program_system::sync_where_file(file).is_ok(),
+        None => true,
+    }
 }
 
 // Puts the name of the file beside the state's into an array; answers its length, 0 where it is too long.
@@ -215,35 +231,40 @@ fn put_fresh(name: &[u8], fresh: &mut [u8]) -> usize
     program_text::put_bytes(fresh, at, b".new")
 }
 
-// Writes a state to a file, and waits until it has reached its device; says whether that was done.
-fn is_put(fresh: &[u8], state: &[u8]) -> bool {
-    let fd = os::open_overwrite(fresh);
-    if fd < 0 {
-        return false;
-    }
-    let written = io::write_all(fd, state);
-    let synced = is_synced(fd);
-    libc::close(fd);
-    if written { synced } else { false }
+// Writes a state to a file, and waits until it has reached its device.
+fn put(rt: &HostRuntime, fresh: &[u8], state: &[u8]) -> Result<(), Error> {
+    let file = program_system::open_overwrite(rt, fresh)?;
+    program_system::write_whole(rt, Some(&file), state)?;
+    program_system::sync_where_file(&file)
 }
 
 // Puts a new file in the place of the state's whole; says whether that was done.
-fn is_saved(name: &[u8], state: &[u8]) -> bool {
+fn is_saved(rt: &HostRuntime, name: &[u8], state: &[u8]) -> bool {
     let mut space = io::buffer();
     let n = put_fresh(name, &mut space);
-    if !is_put(&space[..n], state) {
-        os::fail(b"watch: the state cannot be written");
-        return false;
+    match put(rt, &space[..n], state) {
+        Ok(_) => {}
+        Err(error) => {
+            program_system::fail(rt, b"watch: the state cannot be written", &error);
+            return false;
+        }
     }
-    if os::rename(&space[..n], name) != 0 {
-        os::fail(b"watch: the state cannot be put in the place of the old one");
-        return false;
+    match program_system::rename(rt, &space[..n], name) {
+        Ok(_) => true,
+        Err(error) => {
+            program_system::fail(
+                rt,
+                b"watch: the state cannot be put in the place of the old one",
+                &error,
+            );
+            false
+        }
     }
-    true
 }
 
 // Hands a text over: a state to its file, lines to theirs; or to the end of the log, with answer number i.
 fn hand_over(
+    reach: &Reach<'_>,
     ends: Ends,
     saving: bool,
     name: &[u8],
@@ -263,12 +284,12 @@ fn hand_over(
     }
     if saving {
         return Taken {
-            cut: !is_saved(name, text),
+            cut: !is_saved(reach.rt, name, text),
             end: end,
         };
     }
     Taken {
-        cut: !is_written(ends.keeping, ends.lines, text),
+        cut: !is_written(reach, ends.keeping, text),
         end: end,
     }
 }
@@ -288,15 +309,15 @@ fn say_again(ends: Ends, again: bool, start: u32) {
 
 // Says a word and a number to people.
 fn say(word: &[u8], n: u64) {
-    io::write_all(libc::STDERR_FILENO, word);
-    io::print_decimal(libc::STDERR_FILENO, n);
-    io::write_all(libc::STDERR_FILENO, b"\n");
+    io::write_all(program_system::SAYS, word);
+    io::print_decimal(program_system::SAYS, n);
+    io::write_all(program_system::SAYS, b"\n");
 }
 
 // ---- a run
 
 // Where a run begins: whether the state comes next, how many texts were handed over, where the log ends, and the most turns.
-#[derive(Drop)]
+#[derive(Clone, Copy)]
 struct Begun {
     saving: bool,
     texts: usize,
@@ -319,6 +340,7 @@ fn before_all() -> Unit
 
 // Runs from a state on: each turn's text is handed over, up to the last one or the first that is cut. Answers where the log ends.
 fn run(
+    reach: &Reach<'_>,
     ends: Ends,
     list: &[u8],
     state: &mut [u8],
@@ -341,7 +363,7 @@ fn run(
     let mut end = begun.end;
     let mut left = begun.most;
     while left > 0 {
-        let unit = next_unit(ends, saving, state, input, bytes, u);
+        let unit = next_unit(reach, ends, saving, state, input, bytes, u);
         let from = unit.from;
         let to = unit.to;
         let said = program_turn::turn(
@@ -355,6 +377,7 @@ fn run(
             text,
         );
         let taken = hand_over(
+            reach,
             ends,
             saving,
             name,
@@ -382,6 +405,7 @@ fn run(
 
 // Runs from a state that was handed over. Answers where the log ends.
 fn go_on(
+    reach: &Reach<'_>,
     ends: Ends,
     list: &[u8],
     state: &mut [u8],
@@ -403,12 +427,13 @@ fn go_on(
         most: MOST_TURNS,
     };
     run(
-        ends, list, state, &mut bytes, &mut text, name, input, answers, log, begun,
+        reach, ends, list, state, &mut bytes, &mut text, name, input, answers, log, begun,
     )
 }
 
 // Runs from the opening on, which is refused before any input is read. Answers where the log ends.
 fn watch(
+    reach: &Reach<'_>,
     ends: Ends,
     kind: u64,
     list: &[u8],
@@ -425,7 +450,17 @@ fn watch(
     let mut text = io::large_buffer();
     program_turn::fresh_state(list, kind, &mut state);
     let said = program_turn::begin(ends.keeping, list, &mut state, &mut text);
-    let taken = hand_over(ends, false, name, &text[..said.length], answers, 0, log, 0);
+    let taken = hand_over(
+        reach,
+        ends,
+        false,
+        name,
+        &text[..said.length],
+        answers,
+        0,
+        log,
+        0,
+    );
     let end = taken.end;
     if said.last {
         return end;
@@ -440,7 +475,7 @@ fn watch(
         most: MOST_TURNS,
     };
     run(
-        ends, list, &mut state, &mut bytes, &mut text, name, input, answers, log, begun,
+        reach, ends, list, &mut state, &mut bytes, &mut text, name, input, answers, log, begun,
     )
 }
 
@@ -454,19 +489,24 @@ const LOADED: u32 = 1;
 const WRONG: u32 = 2;
 
 // Loads the saved state.
-fn load(name: &[u8], state: &mut [u8]) -> u32 {
-    let fd = os::open_read(name);
-    if fd < 0 {
-        if os::errno() == libc::ENOENT {
-            return NONE;
+fn load(rt: &HostRuntime, name: &[u8], state: &mut [u8]) -> u32 {
+    match program_system::open_read(rt, name) {
+        Ok(file) => load_from(&file, state),
+        Err(error) => {
+            if error.kind() == ErrorKind::NotFound {
+                return NONE;
+            }
+            program_system::fail(rt, b"watch: the state cannot be read", &error);
+            WRONG
         }
-        os::fail(b"watch: the state cannot be read");
-        return WRONG;
     }
-    let n = io::read_full(fd, state);
+}
+
+// Loads the saved state of an open file.
+fn load_from(file: &File, state: &mut [u8]) -> u32 {
+    let n = io::read_full(program_system::number_of(file), state);
     let mut behind = [0u8; 1];
-    let more = io::read_full(fd, &mut behind);
-    libc::close(fd);
+    let more = io::read_full(program_system::number_of(file), &mut behind);
     if n + more != program_turn::STATE_SIZE {
         say(
             b"watch: this is no state; its bytes are not ",
@@ -481,7 +521,7 @@ fn load(name: &[u8], state: &mut [u8]) -> u32 {
 fn is_ours(segments: bool, list: &[u8], state: &[u8]) -> bool {
     if !program_turn::is_state_of(list, state) {
         io::write_all(
-            libc::STDERR_FILENO,
+            program_system::SAYS,
             b"watch: the state is one of another list: take another file for it, or remove it and begin at offset 0\n",
         );
         return false;
@@ -489,7 +529,7 @@ fn is_ours(segments: bool, list: &[u8], state: &[u8]) -> bool {
     let bytes = numbers::number_at(state, program_turn::KIND_AT, 4) == program_turn::OF_BYTES;
     if bytes == segments {
         io::write_all(
-            libc::STDERR_FILENO,
+            program_system::SAYS,
             b"watch: the state is one of a line of the other kind, bytes or segments: take another file for it\n",
         );
         return false;
@@ -497,49 +537,55 @@ fn is_ours(segments: bool, list: &[u8], state: &[u8]) -> bool {
     true
 }
 
-// Cuts the file of lines to the length that a state says, and answers its descriptor; -1 where it cannot be cut, or is shorter.
-fn cut_lines(lines: &[u8], length: u64) -> i32 {
-    let fd = os::open_update(lines);
-    if fd < 0 {
-        os::fail(b"watch: the lines cannot be opened");
-        return -1;
-    }
-    let size = libc::lseek(fd, 0, libc::SEEK_END);
+// Cuts the file of lines to the length that a state says; says whether that was done: not where it cannot be cut, or is shorter.
+fn is_cut_to(rt: &HostRuntime, lines: &File, length: u64) -> bool {
     let to = signed(length);
-    if size < to {
+    if !has_bytes(lines, to) {
         say(b"watch: lines are missing; their bytes should be ", length);
-        return -1;
+        return false;
     }
-    if libc::ftruncate(fd, to) != 0 {
-        os::fail(b"watch: the lines cannot be cut");
-        return -1;
+    match cut(lines, to) {
+        Ok(_) => true,
+        Err(error) => {
+            program_system::fail(rt, b"watch: the lines cannot be cut", &error);
+            false
+        }
     }
-    if libc::lseek(fd, to, libc::SEEK_SET) != to {
-        os::fail(b"watch: the lines cannot be cut");
-        return -1;
+}
+
+// Whether a file has so many bytes.
+fn has_bytes(file: &File, n: u64) -> bool {
+    match program_system::move_to_end(file) {
+        Ok(size) => n <= size,
+        Err(_) => false,
     }
-    fd
+}
+
+// Cuts a file to a length, and moves to its end.
+fn cut(file: &File, to: u64) -> Result<(), Error> {
+    program_system::cut(file, to)?;
+    let _at = program_system::move_to(file, to)?;
+    Ok(())
 }
 
 // A count as a place in a file: the largest that there is where it is larger.
-fn signed(n: u64) -> i64 {
+fn signed(n: u64) -> u64 {
     if n < 9223372036854775807 {
-        n as i64
+        n
     } else {
         9223372036854775807
     }
 }
 
 // Moves the line to the place of a state; where it cannot be moved, says where its sender begins.
-fn move_line(fd: i32, state: &[u8])
+fn move_line(line: &File, state: &[u8])
     requires { length state.now ≡ state_size }
 {
     let place = numbers::number_at(state, program_turn::PLACE_AT, 8);
     if place == 0 {
         return;
     }
-    let to = signed(place);
-    if libc::lseek(fd, to, libc::SEEK_SET) == to {
+    if program_system::move_to(line, signed(place)).is_ok() {
         return;
     }
     if numbers::number_at(state, program_turn::KIND_AT, 4) == program_turn::OF_BYTES {
@@ -555,31 +601,55 @@ fn move_line(fd: i32, state: &[u8])
     );
 }
 
-// Opens the line; -1 where it cannot be.
-fn open_line(line: &[u8]) -> i32 {
-    let fd = os::open_read(line);
-    if fd < 0 {
-        os::fail(b"watch: the line cannot be opened");
+// Opens the line, where it can be; else says that it cannot.
+fn open_line(rt: &HostRuntime, line: &[u8]) -> Option<File> {
+    match program_system::open_read(rt, line) {
+        Ok(file) => Some(file),
+        Err(error) => {
+            program_system::fail(rt, b"watch: the line cannot be opened", &error);
+            None
+        }
     }
-    fd
 }
 
 // Begins a live line: its lines are emptied.
-fn begin_live(segments: bool, list: &[u8], line: &[u8], name: &[u8], lines: &[u8]) {
-    let out = os::open_overwrite(lines);
-    if out < 0 {
-        os::fail(b"watch: the lines cannot be opened");
-        return;
+fn begin_live(
+    rt: &HostRuntime,
+    segments: bool,
+    list: &[u8],
+    line: &[u8],
+    name: &[u8],
+    lines: &[u8],
+) {
+    match program_system::open_overwrite(rt, lines) {
+        Ok(out) => {
+            if let Some(from) = open_line(rt, line) {
+                watch_live(rt, segments, list, &from, name, &out);
+            }
+        }
+        Err(error) => {
+            program_system::fail(rt, b"watch: the lines cannot be opened", &error);
+        }
     }
-    let from = open_line(line);
-    if from < 0 {
-        return;
-    }
+}
+
+// Watches an open line from its beginning on.
+fn watch_live(
+    rt: &HostRuntime,
+    segments: bool,
+    list: &[u8],
+    line: &File,
+    name: &[u8],
+    lines: &File,
+) {
+    let reach = Reach {
+        rt: rt,
+        line: Some(line),
+        lines: Some(lines),
+    };
     let ends = Ends {
         outside: true,
         keeping: true,
-        line: from,
-        lines: out,
     };
     let kind = if segments {
         program_turn::SEGMENTS
@@ -587,62 +657,105 @@ fn begin_live(segments: bool, list: &[u8], line: &[u8], name: &[u8], lines: &[u8
         program_turn::OF_BYTES
     };
     let mut log = [0u8; 1];
-    watch(ends, kind, list, name, b"", b"", &mut log);
+    watch(&reach, ends, kind, list, name, b"", b"", &mut log);
 }
 
 // Goes on with a live line from its saved state.
-fn resume_live(list: &[u8], state: &mut [u8], line: &[u8], name: &[u8], lines: &[u8])
+fn resume_live(
+    rt: &HostRuntime,
+    list: &[u8],
+    state: &mut [u8],
+    line: &[u8],
+    name: &[u8],
+    lines: &[u8],
+)
     requires { length state.old ≡ state_size }
 {
-    let out = cut_lines(lines, numbers::number_at(state, program_turn::LINES_AT, 8));
-    if out < 0 {
-        return;
+    match program_system::open_update(rt, lines) {
+        Ok(out) => {
+            if !is_cut_to(
+                rt,
+                &out,
+                numbers::number_at(state, program_turn::LINES_AT, 8),
+            ) {
+                return;
+            }
+            if let Some(from) = open_line(rt, line) {
+                move_line(&from, state);
+                go_on_live(rt, list, state, &from, name, &out);
+            }
+        }
+        Err(error) => {
+            program_system::fail(rt, b"watch: the lines cannot be opened", &error);
+        }
     }
-    let from = open_line(line);
-    if from < 0 {
-        return;
-    }
-    move_line(from, state);
+}
+
+// Goes on with an open line that stands where its state says.
+fn go_on_live(
+    rt: &HostRuntime,
+    list: &[u8],
+    state: &mut [u8],
+    line: &File,
+    name: &[u8],
+    lines: &File,
+)
+    requires { length state.old ≡ state_size }
+{
+    let reach = Reach {
+        rt: rt,
+        line: Some(line),
+        lines: Some(lines),
+    };
     let ends = Ends {
         outside: true,
         keeping: true,
-        line: from,
-        lines: out,
     };
     let mut log = [0u8; 1];
-    go_on(ends, list, state, name, b"", b"", &mut log);
+    go_on(&reach, ends, list, state, name, b"", b"", &mut log);
 }
 
 // Watches a live line by the list in a file: from its saved state on, or from the beginning where there is none.
-pub fn live(segments: bool, rules: &[u8], line: &[u8], name: &[u8], lines: &[u8]) {
+pub fn live(
+    rt: &HostRuntime,
+    segments: bool,
+    rules: &[u8],
+    line: &[u8],
+    name: &[u8],
+    lines: &[u8],
+) {
     let mut list = program_text::list_buffer();
-    let n = program_text::read_rules(rules, &mut list);
+    let n = program_text::read_rules(rt, rules, &mut list);
     let mut state = program_turn::state_buffer();
-    let found = load(name, &mut state);
+    let found = load(rt, name, &mut state);
     if found == WRONG {
         return;
     }
     if found == NONE {
-        begin_live(segments, &list[..n], line, name, lines);
+        begin_live(rt, segments, &list[..n], line, name, lines);
         return;
     }
     if is_ours(segments, &list[..n], &state) {
-        resume_live(&list[..n], &mut state, line, name, lines);
+        resume_live(rt, &list[..n], &mut state, line, name, lines);
     }
 }
 
 // Watches a line of segments that is recorded on standard input, by the list in a file; lines go to standard output.
-pub fn recorded(rules: &[u8]) {
+pub fn recorded(rt: &HostRuntime, rules: &[u8]) {
     let mut list = program_text::list_buffer();
-    let n = program_text::read_rules(rules, &mut list);
+    let n = program_text::read_rules(rt, rules, &mut list);
+    let reach = Reach {
+        rt: rt,
+        line: None,
+        lines: None,
+    };
     let ends = Ends {
         outside: true,
         keeping: false,
-        line: libc::STDIN_FILENO,
-        lines: libc::STDOUT_FILENO,
     };
     let mut log = [0u8; 1];
     watch(
+        &reach,
         ends,
         program_turn::SEGMENTS,
         &list[..n],

@@ -10,9 +10,8 @@ use lib.Seq.{take-append_seam, take-take, take-length}
 use lib.Dec.{eqb, leb}
 use borrow.Author.Tests.{eqb-true, eqb-false, eq-eqb, ne_eqb, leb-true}
 use Rattle.numbers.specs.Number.{num, placed}
-use Rattle.sets.specs.Set.{within}
 use Rattle.rules.specs.Rules.{verdict}
-use Rattle.rules.proofs.Rules.{last, passes-front}
+use Rattle.rules.proofs.Rules.{passes-front}
 use Rattle.segment.specs.Resend.{circle}
 use Rattle.list.specs.List.{list_rules}
 use Rattle.list.specs.Automaton.{start}

@@ -2,6 +2,8 @@
 // the place of the index, else by the list. The opening's lines come first, then the list is prepared, then the input is read.
 // What is handed over is what 01's program (app) hands over, to the byte, for every list, every input and all answers of the writes: each engine answers as
 // the plain feed does, and the record that it leaves stands where the plain one does, but for the rows.
+#![tactic(auto)]
+
 ghost use Rattle.std.specs.Prelude.{◌≡◌, false, List, ℕ, suc, ◌<◌, ◌≤◌, length, take, drop};
 ghost use Rattle.feed.specs.Fed.{Answers};
 ghost use Rattle.matrix.specs.Matrix.{filled};
@@ -26,7 +28,7 @@ const BY_MATRIX: u8 = 1;
 const BY_INDEX: u8 = 2;
 
 // By what a run goes: the engine, how many bytes of each place it uses, and the split where the flow may stand.
-#[derive(Drop)]
+#[derive(Clone, Copy)]
 struct By {
     engine: u8,
     splits: usize,
@@ -35,7 +37,7 @@ struct By {
 }
 
 // What a turn says, and the split where the flow then stands.
-#[derive(Drop)]
+#[derive(Clone, Copy)]
 struct Spoke {
     said: Said,
     split: usize,
@@ -286,9 +288,9 @@ fn index_buffer() -> [u8; index_prepare::PREPARE_INDEX]
 }
 
 // The program: watches standard input by the list of a path.
-pub fn start(path: &[u8]) {
+pub fn start(rt: &HostRuntime, path: &[u8]) {
     let mut list = program_text::list_buffer();
-    let n = program_text::read_rules(path, &mut list);
+    let n = program_text::read_rules(rt, path, &mut list);
     let mut splits = splits_buffer();
     let mut index = index_buffer();
     let mut log = [0u8; 1];

@@ -1,6 +1,8 @@
 // What the programs share: the texts of pairs and of the last line; handing a text over, to a descriptor or, by a flag, to a log; and reading a list.
 // A text is made in an array and promised before it is handed over. `hand` alone writes: by its flag the text goes to the end of a log in the place of a
 // descriptor, with an answer out of an array, and of such a run a program promises what is handed over, for all answers of the writes.
+#![tactic(auto)]
+
 ghost use Rattle.std.specs.Prelude.{◌≡◌, false, ◌+◌, ◌*◌, ◌≤◌, ◌<◌, [], ◌∷◌, ◌++◌, length, take, get_or};
 ghost use Rattle.io.specs.Counts.{IsPrefixLen};
 ghost use Rattle.program_text.specs.Text.{most_digits, word_size, line_size, decimal, line, lines, last_line, Puts};
@@ -10,7 +12,7 @@ ghost use Rattle.program_text.specs.Hand.{is_cut, Takes};
 const DIGITS: usize = 20;
 
 // How a text was taken: whether it was cut, that is, not taken whole, and where the log ends.
-#[derive(Drop)]
+#[derive(Clone, Copy)]
 pub struct Taken {
     pub cut: bool,
     pub end: usize,
@@ -147,14 +149,11 @@ pub fn list_buffer() -> [u8; 65544]
 }
 
 // Reads the list of a path into the list, up to its end, a read that fails, or the list's size; answers how many bytes came, none where it cannot be opened.
-pub fn read_rules(path: &[u8], list: &mut [u8]) -> usize
+pub fn read_rules(rt: &HostRuntime, path: &[u8], list: &mut [u8]) -> usize
     ensures { IsPrefixLen result list.new }
 {
-    let fd = os::open_read(path);
-    if fd < 0 {
-        return 0;
+    match program_system::open_read(rt, path) {
+        Ok(file) => io::read_full(program_system::number_of(&file), list),
+        Err(_) => 0,
     }
-    let n = io::read_full(fd, list);
-    libc::close(fd);
-    n
 }

@@ -20,7 +20,7 @@ use Rattle.program_text.specs.Text.{most_digits, line_size, decimal, line, last_
 use Rattle.program_text.proofs.Texts.{puts_none, puts-after, puts-less}
 use Rattle.program_turn.specs.State.{kept_state, whole_numbers, long_at, word_at, short_at, flow_of, held_of, flow_offset, kind_at, first_at, held_start_at, held_length_at, before_at, flow_at, held_at, near, plus_number, numbered, renew_on, sum_from}
 use Rattle.program_turn.specs.Turn.{Gives, Says, plain_given, segment_given, given_of, passed_of, over_of, lines_from, again_word, again_text, last_turn}
-use Rattle.program_turn.specs.declared.Given as goal
+use Rattle.program_turn.specs.declared.Given as given
 
 -- a part that is put over a whole array
 pub taken : (S part : List ℕ) (at m r : ℕ) (left : List ℕ) → at + length part ≤ length S
@@ -152,7 +152,7 @@ gives-segment L S F H n m f fn g gm first place len start a b c bytes out ws Q J
     }
 
 -- by the kind of the line
-module _ (L S : List ℕ) (start : ℕ) (rest out ws T : List ℕ) (r : goal.Given) (k : ℕ) (e : k ≡ word_at S kind_at) where
+module _ (L S : List ℕ) (start : ℕ) (rest out ws T : List ℕ) (r : given.Given) (k : ℕ) (e : k ≡ word_at S kind_at) where
   pub by-plain : k ≡ 0 → Gives (plain_given L S rest out) r ws T → Gives (given_of L S start rest out) r ws T
   unfolding given_of
   by-plain z g = rw (eq-eqb (word_at S kind_at) 0 (sym e ∙ z)) g

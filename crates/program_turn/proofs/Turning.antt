@@ -11,7 +11,7 @@ use Rattle.program_text.specs.Text.{line_size, Puts}
 use Rattle.program_text.proofs.Texts.{puts-after, puts-front}
 use Rattle.program_turn.specs.State.{long_at, before_at, place_at, lines_at, flow_at, length_at, sum_at, kind_at, sum_of, plus_number, numbered, renew_on, is_state_of, fresh_state}
 use Rattle.program_turn.specs.Turn.{Given, Gives, Says, no_words, no_record, most_pairs, text_size, lines_from, again_text, turn_text, is_told, is_end, given_of, last_turn, lines_turn, feed_turn, turn_of, open_turn}
-use Rattle.program_turn.specs.declared.Given as goal
+use Rattle.program_turn.specs.declared.Given as given
 use Rattle.program_turn.specs.declared.Said as said
 
 -- ---- the list of a state
@@ -51,7 +51,7 @@ says-lines keeping n done moved again ws S start before k told buffer T U e f c 
 -- ---- a unit is fed
 
 module _ (keeping : Bool) (L S : List ℕ) (start : ℕ) (rest S₁ S₂ : List ℕ) (first : S₁ ≡ numbered start S) (renews : S₂ ≡ renew_on S₁)
-    (g : goal.Given) (ws T : List ℕ) (gives : Gives (given_of L S₂ start rest no_words) g ws T) (s : said.Said) (buffer X : List ℕ) where
+    (g : given.Given) (ws T : List ℕ) (gives : Gives (given_of L S₂ start rest no_words) g ws T) (s : said.Said) (buffer X : List ℕ) where
   abbrev G : Given
   G = given_of L (renew_on (numbered start S)) start rest no_words
 

@@ -1,6 +1,8 @@
 // One turn of a live line or of a recorded one. What is known of a line is its state, bytes of one size: what list it goes by, the flow's record, the held
 // place, and three counts of 64 bits: the bytes before the last renewal, the place in the line, and the lines' length.
 // A turn feeds what one read gave, or one segment, and makes the text of its lines; where a state is kept the next turn's text is the state behind them.
+#![tactic(auto)]
+
 ghost use Rattle.std.specs.Prelude.{◌≡◌, ◌+◌, ◌*◌, ◌%◌, ◌<◌, ◌≤◌, length, take, drop, replicate};
 ghost use Rattle.io.specs.Counts.{IsPrefixLen};
 ghost use Rattle.numbers.specs.Number.{placed};
@@ -62,7 +64,7 @@ pub const HEAD: usize = 6;
 
 // What feeding a unit gave: a refusal's number or 0, the pairs told, the bytes that are done with, how far the place in the line moves, and whether the segment has to
 // be sent again.
-#[derive(Drop)]
+#[derive(Clone, Copy)]
 struct Given {
     refusal: u32,
     pairs: usize,
@@ -72,7 +74,7 @@ struct Given {
 }
 
 // What a turn says: whether its text is the last, whether the state comes next, the bytes that are done with, and the length of the text.
-#[derive(Drop)]
+#[derive(Clone, Copy)]
 pub struct Said {
     pub last: bool,
     pub saving: bool,

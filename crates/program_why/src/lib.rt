@@ -2,8 +2,12 @@
 // question is asked of the piece in which the offset lies; why the run's first state is in the frontier there is asked of the piece before it, and so on back
 // to the opening. Then each piece is asked again, from the first on, and its states are written. So no more room than for one piece is needed.
 // Here it is shown that this is safe and ends; what a run is, `reasons` promises.
+#![tactic(auto)]
+
 ghost use Rattle.std.specs.Prelude.{◌≡◌, ◌≤◌, length};
 ghost use Rattle.io.specs.Counts.{IsPrefixLen};
+
+use std::fs::File;
 
 // Standard output.
 const OUT: i32 = 1;
@@ -23,7 +27,7 @@ const NOT_A_PLACE: u32 = 25;
 const TOO_LARGE: u64 = 4294967296;
 
 // What is asked of a piece: why the pair of a signature is due there, or why a state is in the frontier; and at which offset.
-#[derive(Drop)]
+#[derive(Clone, Copy)]
 struct Asked {
     pair: bool,
     number: u32,
@@ -55,11 +59,10 @@ fn start_of(k: usize) -> u64
 }
 
 // Reads piece k of a file; answers how many bytes came.
-fn read_piece(fd: i32, k: usize, piece: &mut [u8]) -> usize
+fn read_piece(file: &File, k: usize, piece: &mut [u8]) -> usize
     ensures { IsPrefixLen result piece.new }
 {
-    let got = libc::pread(fd, piece, start_of(k) as i64);
-    io::count(got, piece)
+    program_system::read_at(file, piece, start_of(k))
 }
 
 // Keeps the record before piece k, where there is room for it.
@@ -109,7 +112,7 @@ fn feed_piece(list: &[u8], flow: &mut [u8], start: u64, piece: &[u8], out: &mut 
 }
 
 // Keeps the record before each of so many pieces; answers the refusal of the opening, or 6 where a piece cannot be fed.
-fn keep_records(list: &[u8], fd: i32, pieces: usize, records: &mut [u8]) -> u32 {
+fn keep_records(list: &[u8], file: &File, pieces: usize, records: &mut [u8]) -> u32 {
     let mut flow = [0u8; list_flow::FLOW_SIZE];
     let mut piece = io::buffer();
     let mut out = [0u32; PAIR_WORDS];
@@ -117,13 +120,13 @@ fn keep_records(list: &[u8], fd: i32, pieces: usize, records: &mut [u8]) -> u32 
     if opened.refusal != rules::PASSED {
         return opened.refusal;
     }
-    keep_on(list, fd, pieces, records, &mut flow, &mut piece, &mut out)
+    keep_on(list, file, pieces, records, &mut flow, &mut piece, &mut out)
 }
 
 // Keeps the record before a piece, and feeds the piece.
 fn keep_next(
     list: &[u8],
-    fd: i32,
+    file: &File,
     k: usize,
     records: &mut [u8],
     flow: &mut [u8],
@@ -131,14 +134,14 @@ fn keep_next(
     out: &mut [u32],
 ) -> bool {
     keep(records, k, flow);
-    let n = read_piece(fd, k, piece);
+    let n = read_piece(file, k, piece);
     feed_piece(list, flow, start_of(k), &piece[..n], out)
 }
 
 // Keeps the records from an opened flow on.
 fn keep_on(
     list: &[u8],
-    fd: i32,
+    file: &File,
     pieces: usize,
     records: &mut [u8],
     flow: &mut [u8],
@@ -146,7 +149,7 @@ fn keep_on(
     out: &mut [u32],
 ) -> u32 {
     for k in 0..pieces {
-        if !keep_next(list, fd, k, records, flow, piece, out) {
+        if !keep_next(list, file, k, records, flow, piece, out) {
             return 6;
         }
     }
@@ -269,7 +272,7 @@ fn keep_end(ends: &mut [u16], k: usize, run: &[u16])
 // Asks of piece k, where its end is known, and keeps the end of the piece before it.
 fn ask_back(
     list: &[u8],
-    fd: i32,
+    file: &File,
     k: usize,
     asked: Asked,
     records: &[u8],
@@ -278,7 +281,7 @@ fn ask_back(
     work: &mut [u8],
 ) -> u32 {
     let mut piece = io::buffer();
-    let n = read_piece(fd, k, &mut piece);
+    let n = read_piece(file, k, &mut piece);
     let refusal = ask_piece(list, k, &piece[..n], records, asked, run, work);
     if refusal == rules::PASSED {
         keep_end(ends, k, run);
@@ -289,7 +292,7 @@ fn ask_back(
 // Asks backwards from piece `last` on: the state at the end of each piece is kept.
 fn ask_all(
     list: &[u8],
-    fd: i32,
+    file: &File,
     last: usize,
     signature: u32,
     offset: u64,
@@ -301,7 +304,7 @@ fn ask_all(
     let mut left = last;
     loop {
         let asked = asked_of(left, last, signature, offset, ends);
-        let refusal = ask_back(list, fd, left, asked, records, ends, run, work);
+        let refusal = ask_back(list, file, left, asked, records, ends, run, work);
         if refusal != rules::PASSED {
             return refusal;
         }
@@ -359,7 +362,7 @@ fn bytes_before(k: usize, offset: u64) -> usize
 // Asks of piece k again and writes its states.
 fn say_piece(
     list: &[u8],
-    fd: i32,
+    file: &File,
     k: usize,
     asked: Asked,
     offset: u64,
@@ -368,7 +371,7 @@ fn say_piece(
     work: &mut [u8],
 ) {
     let mut piece = io::buffer();
-    let n = read_piece(fd, k, &mut piece);
+    let n = read_piece(file, k, &mut piece);
     let refusal = ask_piece(list, k, &piece[..n], records, asked, run, work);
     if refusal != rules::PASSED {
         return;
@@ -384,7 +387,7 @@ fn say_piece(
 // Writes the states of all pieces up to piece `last`.
 fn say_all(
     list: &[u8],
-    fd: i32,
+    file: &File,
     last: usize,
     signature: u32,
     offset: u64,
@@ -395,10 +398,10 @@ fn say_all(
 ) {
     for k in 0..last {
         let asked = asked_of(k, last, signature, offset, ends);
-        say_piece(list, fd, k, asked, offset, records, run, work);
+        say_piece(list, file, k, asked, offset, records, run, work);
     }
     let asked = asked_of(last, last, signature, offset, ends);
-    say_piece(list, fd, last, asked, offset, records, run, work);
+    say_piece(list, file, last, asked, offset, records, run, work);
 }
 
 // The piece in which an offset lies.
@@ -426,7 +429,7 @@ fn end_line(refusal: u32) {
 }
 
 // Says why a pair is due in a flow that is open.
-fn explain(list: &[u8], fd: i32, signature: u32, offset: u64) -> u32 {
+fn explain(list: &[u8], file: &File, signature: u32, offset: u64) -> u32 {
     let last = piece_of(offset);
     if MOST_PIECES <= last {
         io::write_all(
@@ -436,7 +439,7 @@ fn explain(list: &[u8], fd: i32, signature: u32, offset: u64) -> u32 {
         return NOT_A_PLACE;
     }
     let mut records = records_buffer();
-    let kept = keep_records(list, fd, last + 1, &mut records);
+    let kept = keep_records(list, file, last + 1, &mut records);
     if kept != rules::PASSED {
         return kept;
     }
@@ -444,11 +447,11 @@ fn explain(list: &[u8], fd: i32, signature: u32, offset: u64) -> u32 {
     let mut run = [0u16; 4097];
     let mut work = work_buffer();
     let refusal = ask_all(
-        list, fd, last, signature, offset, &records, &mut ends, &mut run, &mut work,
+        list, file, last, signature, offset, &records, &mut ends, &mut run, &mut work,
     );
     if refusal == rules::PASSED {
         say_all(
-            list, fd, last, signature, offset, &records, &ends, &mut run, &mut work,
+            list, file, last, signature, offset, &records, &ends, &mut run, &mut work,
         );
     }
     refusal
@@ -481,7 +484,7 @@ fn number(word: &[u8]) -> u64 {
 }
 
 // `watch why DIR FLOW SIGNATURE OFFSET`, of the list at a path: a line for each offset from 0 on, the state there and the record that led to it.
-pub fn why(path: &[u8], flow: &[u8], signature: &[u8], offset: &[u8]) {
+pub fn why(rt: &HostRuntime, path: &[u8], flow: &[u8], signature: &[u8], offset: &[u8]) {
     let g = number(signature);
     let k = number(offset);
     if (TOO_LARGE <= g) | (TOO_LARGE <= k) {
@@ -492,15 +495,13 @@ pub fn why(path: &[u8], flow: &[u8], signature: &[u8], offset: &[u8]) {
         return;
     }
     let mut list = program_text::list_buffer();
-    let n = program_text::read_rules(path, &mut list);
-    let fd = os::open_read(flow);
-    if fd < 0 {
-        io::write_all(2, b"watch: the flow cannot be opened\n");
-        return;
+    let n = program_text::read_rules(rt, path, &mut list);
+    match program_system::open_read(rt, flow) {
+        Ok(file) => end_line(explain(&list[..n], &file, short(g), k)),
+        Err(_) => {
+            io::write_all(2, b"watch: the flow cannot be opened\n");
+        }
     }
-    let refusal = explain(&list[..n], fd, short(g), k);
-    libc::close(fd);
-    end_line(refusal);
 }
 
 // A number of 32 bits, 0 where it is larger.

@@ -38,70 +38,77 @@ fn is_flag(word: &[u8]) -> bool {
 }
 
 // `watch live DIR LINE STATE LINES`: the four words are the command's own arguments.
-fn live(segments: bool, folder: &[u8], line: &[u8], state: &[u8], lines: &[u8]) {
+fn live(rt: &HostRuntime, segments: bool, folder: &[u8], line: &[u8], state: &[u8], lines: &[u8]) {
     let mut path = io::buffer();
     let n = program_files::put_both(&mut path, folder, b"/rules.bin");
-    program_live::live(segments, &path[..n], line, state, lines);
+    program_live::live(rt, segments, &path[..n], line, state, lines);
 }
 
 // `watch live` without a flag.
-fn live_bytes() {
+fn live_bytes(rt: &HostRuntime) {
     let mut folder = io::buffer();
-    let a = os::arg(2, &mut folder);
+    let a = program_system::arg(rt, 2, &mut folder);
     let mut line = io::buffer();
-    let b = os::arg(3, &mut line);
+    let b = program_system::arg(rt, 3, &mut line);
     let mut state = io::buffer();
-    let c = os::arg(4, &mut state);
+    let c = program_system::arg(rt, 4, &mut state);
     let mut lines = io::buffer();
-    let d = os::arg(5, &mut lines);
-    live(false, &folder[..a], &line[..b], &state[..c], &lines[..d]);
+    let d = program_system::arg(rt, 5, &mut lines);
+    live(
+        rt,
+        false,
+        &folder[..a],
+        &line[..b],
+        &state[..c],
+        &lines[..d],
+    );
 }
 
 // `watch live --segments`.
-fn live_segments() {
+fn live_segments(rt: &HostRuntime) {
     let mut folder = io::buffer();
-    let a = os::arg(3, &mut folder);
+    let a = program_system::arg(rt, 3, &mut folder);
     let mut line = io::buffer();
-    let b = os::arg(4, &mut line);
+    let b = program_system::arg(rt, 4, &mut line);
     let mut state = io::buffer();
-    let c = os::arg(5, &mut state);
+    let c = program_system::arg(rt, 5, &mut state);
     let mut lines = io::buffer();
-    let d = os::arg(6, &mut lines);
-    live(true, &folder[..a], &line[..b], &state[..c], &lines[..d]);
+    let d = program_system::arg(rt, 6, &mut lines);
+    live(rt, true, &folder[..a], &line[..b], &state[..c], &lines[..d]);
 }
 
 // `watch segments DIR`: watches a recorded line of segments on standard input.
-fn segments() {
+fn segments(rt: &HostRuntime) {
     let mut folder = io::buffer();
-    let n = os::arg(2, &mut folder);
+    let n = program_system::arg(rt, 2, &mut folder);
     let mut path = io::buffer();
     let m = program_files::put_both(&mut path, &folder[..n], b"/rules.bin");
-    program_live::recorded(&path[..m]);
+    program_live::recorded(rt, &path[..m]);
 }
 
 // Whether the word behind the command is the flag.
-fn has_flag() -> bool {
+fn has_flag(rt: &HostRuntime) -> bool {
     let mut flag = io::buffer();
-    let n = os::arg(2, &mut flag);
+    let n = program_system::arg(rt, 2, &mut flag);
     is_flag(&flag[..n])
 }
 
 // Does what a word says, of so many words in all, where it is one of these; says whether it was.
-pub fn answer(word: &[u8], words: usize) -> bool {
+pub fn answer(rt: &HostRuntime, word: &[u8], words: usize) -> bool {
     if is_segments(word) {
         if words == 3 {
-            segments();
+            segments(rt);
             return true;
         }
     }
     if is_live(word) {
         if words == 6 {
-            live_bytes();
+            live_bytes(rt);
             return true;
         }
         if words == 7 {
-            if has_flag() {
-                live_segments();
+            if has_flag(rt) {
+                live_segments(rt);
                 return true;
             }
         }

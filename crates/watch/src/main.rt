@@ -1,4 +1,6 @@
 // The program: its first word says what it does, and the words behind it with what.
+#![tactic(auto)]
+
 mod live;
 
 // Whether a word is `run`.
@@ -44,45 +46,45 @@ fn is_compile(word: &[u8]) -> bool {
 }
 
 // `watch run DIR`: watches standard input by the list of a folder.
-fn run() {
+fn run(rt: &HostRuntime) {
     let mut folder = io::buffer();
-    let n = os::arg(2, &mut folder);
+    let n = program_system::arg(rt, 2, &mut folder);
     let mut path = io::buffer();
     let m = program_files::put_both(&mut path, &folder[..n], b"/rules.bin");
-    program_run::start(&path[..m]);
+    program_run::start(rt, &path[..m]);
 }
 
 // `watch check DIR [STATE]`: checks what the programs read of a box.
-fn check() {
+fn check(rt: &HostRuntime) {
     let mut folder = io::buffer();
-    let n = os::arg(2, &mut folder);
+    let n = program_system::arg(rt, 2, &mut folder);
     let mut state = io::buffer();
-    let m = os::arg(3, &mut state);
-    program_check::check_folder(&folder[..n], &state[..m]);
+    let m = program_system::arg(rt, 3, &mut state);
+    program_check::check_folder(rt, &folder[..n], &state[..m]);
 }
 
 // `watch compile FILE [OUT]`: compiles a file of texts.
-fn compile() {
+fn compile(rt: &HostRuntime) {
     let mut file = io::buffer();
-    let n = os::arg(2, &mut file);
+    let n = program_system::arg(rt, 2, &mut file);
     let mut out = io::buffer();
-    let m = os::arg(3, &mut out);
-    program_compile::compile_file(&file[..n], &out[..m]);
+    let m = program_system::arg(rt, 3, &mut out);
+    program_compile::compile_file(rt, &file[..n], &out[..m]);
 }
 
 // `watch why DIR FLOW SIGNATURE OFFSET`: says why a pair is told.
-fn why() {
+fn why(rt: &HostRuntime) {
     let mut folder = io::buffer();
-    let n = os::arg(2, &mut folder);
+    let n = program_system::arg(rt, 2, &mut folder);
     let mut flow = io::buffer();
-    let m = os::arg(3, &mut flow);
+    let m = program_system::arg(rt, 3, &mut flow);
     let mut signature = io::buffer();
-    let g = os::arg(4, &mut signature);
+    let g = program_system::arg(rt, 4, &mut signature);
     let mut offset = io::buffer();
-    let k = os::arg(5, &mut offset);
+    let k = program_system::arg(rt, 5, &mut offset);
     let mut path = io::buffer();
     let p = program_files::put_both(&mut path, &folder[..n], b"/rules.bin");
-    program_why::why(&path[..p], &flow[..m], &signature[..g], &offset[..k]);
+    program_why::why(rt, &path[..p], &flow[..m], &signature[..g], &offset[..k]);
 }
 
 // Says how the program is called.
@@ -95,37 +97,37 @@ fn usage() {
 }
 
 // Does what a word says, of so many words in all; where there is no such command it says how the program is called.
-fn answer(word: &[u8], words: usize) {
+fn answer(rt: &HostRuntime, word: &[u8], words: usize) {
     if words == 3 {
         if is_run(word) {
-            run();
+            run(rt);
             return;
         }
     }
     if (words == 3) | (words == 4) {
         if is_check(word) {
-            check();
+            check(rt);
             return;
         }
         if is_compile(word) {
-            compile();
+            compile(rt);
             return;
         }
     }
     if words == 6 {
         if is_why(word) {
-            why();
+            why(rt);
             return;
         }
     }
-    if live::answer(word, words) {
+    if live::answer(rt, word, words) {
         return;
     }
     usage();
 }
 
-fn main() {
+fn main(rt: HostRuntime) {
     let mut word = io::buffer();
-    let n = os::arg(1, &mut word);
-    answer(&word[..n], os::arg_count());
+    let n = program_system::arg(&rt, 1, &mut word);
+    answer(&rt, &word[..n], program_system::arg_count(&rt));
 }

@@ -1,4 +1,6 @@
 // The watch box's program: `abab` by the list of signature 7 after any "ab".
-fn main() {
-    program::start();
+#![tactic(auto)]
+
+fn main(rt: HostRuntime) {
+    program::start(&rt);
 }

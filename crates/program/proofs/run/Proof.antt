@@ -12,136 +12,136 @@ use Rattle.program.proofs.Handing.{front-most, held_next, all_handed, Running, r
 use Rattle.program.proofs.run.Statement.{statement}
 use Rattle.program.proofs.run.Tie as tie
 
-abbrev invariant-loop : tie.invariant-loop
+abbrev invariant-loop : tie.invariant-loop-said
 invariant-loop outside list flow₀ piece₀ text₀ input answers log₀ begun offset₀ n₀ i₀ end₀ flow piece text log offset n i end =
     (offset ≤ most_offset) × (i ≤ offset + 1) × (n ≤ piece_size) × (offset % piece_size ≤ n) × (end ≤ length log)
     × (length flow ≡ length flow₀) × (length piece ≡ length piece₀) × (length text ≡ length text₀) × (length log ≡ length log₀)
     × (outside ≡ false → 0 < offset % piece_size → Held input offset piece n)
     × (outside ≡ false → begun + length (all_handed list input answers flow₀ log₀ begun) ≤ length log₀ → Running list input answers flow₀ log₀ begun flow log offset i end)
 
-abbrev decreases-loop : tie.decreases-loop
+abbrev decreases-loop : tie.decreases-loop-said
 decreases-loop outside list flow₀ piece₀ text₀ input answers log₀ begun offset₀ n₀ i₀ end₀ flow piece text log offset n i end =
     most_offset + 1 - offset
 
-loop-holds : tie.Need-loop-init invariant-loop decreases-loop
+loop-holds : tie.Need-loop-said-init invariant-loop decreases-loop
 loop-holds c =
     (omega arith, omega arith, omega arith, omega arith, omega arith, search rules, search rules, search rules, search rules, λ f l. absurd (omega (arith, l)), λ f l. running _ _ _ _ _ _ (omega (arith, l)))
 
-read-piece-requires : tie.Need-read-piece-requires invariant-loop decreases-loop
+read-piece-requires : tie.Need-read_piece-n-requires invariant-loop decreases-loop
 read-piece-requires c κs = search rules
 
-rem-from : tie.Need-nonzero-rem-from invariant-loop decreases-loop
+rem-from : tie.Need-nonzero_rem-from invariant-loop decreases-loop
 rem-from c = search rules
 
-sub-turn : tie.Need-overflow-sub-turn invariant-loop decreases-loop
+sub-turn : tie.Need-slice_bounds-turn-count invariant-loop decreases-loop
 sub-turn c = search rules
 
-part-turn-start : tie.Need-slice-bounds-turn-start invariant-loop decreases-loop
+part-turn-start : tie.Need-slice_bounds-turn-start invariant-loop decreases-loop
 part-turn-start c = search rules
 
-part-turn-end : tie.Need-slice-bounds-turn-end invariant-loop decreases-loop
+part-turn-end : tie.Need-slice_bounds-turn-end invariant-loop decreases-loop
 part-turn-end c = search rules
 
-turn-requires : tie.Need-turn-requires invariant-loop decreases-loop
+turn-requires : tie.Need-turn-said-requires invariant-loop decreases-loop
 turn-requires c κs = search rules
 
-slice-reshare-prefix-hand : tie.Need-slice-reshare-prefix-hand invariant-loop decreases-loop
+slice-reshare-prefix-hand : tie.Need-slice_bounds-hand-end invariant-loop decreases-loop
 slice-reshare-prefix-hand c = search rules
 
-slice-aggregate-hand : tie.Need-slice-aggregate-hand invariant-loop decreases-loop
+slice-aggregate-hand : tie.Need-slice_bounds-hand-end-in-loop-said invariant-loop decreases-loop
 slice-aggregate-hand c = search rules
 
-hand-requires : tie.Need-hand-requires invariant-loop decreases-loop
+hand-requires : tie.Need-hand-taken-requires invariant-loop decreases-loop
 hand-requires c κs = search rules
 
-same_length : tie.Need-same-length invariant-loop decreases-loop
+same_length : tie.Need-shape_of-flow-then-said invariant-loop decreases-loop
 same_length c = search rules
 
-same-length-2 : tie.Need-same-length-2 invariant-loop decreases-loop
+same-length-2 : tie.Need-shape_of-piece-then-said invariant-loop decreases-loop
 same-length-2 c = search rules
 
-same-length-3 : tie.Need-same-length-3 invariant-loop decreases-loop
+same-length-3 : tie.Need-shape_of-text-then-said invariant-loop decreases-loop
 same-length-3 c = search rules
 
-same-length-4 : tie.Need-same-length-4 invariant-loop decreases-loop
+same-length-4 : tie.Need-shape_of-log-then-said invariant-loop decreases-loop
 same-length-4 c = search rules
 
-returns : tie.Need-returns invariant-loop decreases-loop
+returns : tie.Need-returns-then-said invariant-loop decreases-loop
 returns c =
-    let handing = c.before.before.before in
-    let turning = c.before.before.before.before.before.before.before.before.before.before in
-    let reading = c.before.before.before.before.before.before.before.before.before.before.before.before.before.before.before.before.before in
-    let here = c.before.before.before.before.before.before.before.before.before.before.before.before.before.before.before.before.before.before.before.loop in
+    let handing = c in
+    let turning = c in
+    let reading = c in
+    let here = c.loop-said in
     λ f fits.
     let r = here.invariant.10 f fits in
-    let held = reading.read-piece.ensures.1 f (here.invariant.9 f) in
-    let room = text-fits _ _ _ _ _ _ fits _ _ _ _ _ r _ held _ _ _ turning.turn.ensures in
-    over_last _ _ _ _ _ _ fits _ _ _ _ _ r _ held _ _ _ turning.turn.ensures _ _ (handing.hand.ensures.1 f room) c.if1.true
+    let held = reading.read_piece-n.ensures.1 f (here.invariant.9 f) in
+    let room = text-fits _ _ _ _ _ _ fits _ _ _ _ _ r _ held _ _ _ turning.turn-said.ensures in
+    over_last _ _ _ _ _ _ fits _ _ _ _ _ r _ held _ _ _ turning.turn-said.ensures _ _ (handing.hand-taken.ensures.1 f room) c.if-said.true
 
-same-length-5 : tie.Need-same-length-5 invariant-loop decreases-loop
+same-length-5 : tie.Need-shape_of-flow-then-taken invariant-loop decreases-loop
 same-length-5 c = search rules
 
-same-length-6 : tie.Need-same-length-6 invariant-loop decreases-loop
+same-length-6 : tie.Need-shape_of-piece-then-taken invariant-loop decreases-loop
 same-length-6 c = search rules
 
-same-length-7 : tie.Need-same-length-7 invariant-loop decreases-loop
+same-length-7 : tie.Need-shape_of-text-then-taken invariant-loop decreases-loop
 same-length-7 c = search rules
 
-same-length-8 : tie.Need-same-length-8 invariant-loop decreases-loop
+same-length-8 : tie.Need-shape_of-log-then-taken invariant-loop decreases-loop
 same-length-8 c = search rules
 
-returns-2 : tie.Need-returns-2 invariant-loop decreases-loop
+returns-2 : tie.Need-returns-then-taken invariant-loop decreases-loop
 returns-2 c =
-    let handing = c.before.before.before.before in
-    let turning = c.before.before.before.before.before.before.before.before.before.before.before in
-    let reading = c.before.before.before.before.before.before.before.before.before.before.before.before.before.before.before.before.before.before in
-    let here = c.before.before.before.before.before.before.before.before.before.before.before.before.before.before.before.before.before.before.before.before.loop in
+    let handing = c in
+    let turning = c in
+    let reading = c in
+    let here = c.loop-said in
     λ f fits.
     let r = here.invariant.10 f fits in
-    let held = reading.read-piece.ensures.1 f (here.invariant.9 f) in
-    let room = text-fits _ _ _ _ _ _ fits _ _ _ _ _ r _ held _ _ _ turning.turn.ensures in
-    over-cut _ _ _ _ _ _ fits _ _ _ _ _ r _ held _ _ _ turning.turn.ensures _ _ (handing.hand.ensures.1 f room) c.if2.true
+    let held = reading.read_piece-n.ensures.1 f (here.invariant.9 f) in
+    let room = text-fits _ _ _ _ _ _ fits _ _ _ _ _ r _ held _ _ _ turning.turn-said.ensures in
+    over-cut _ _ _ _ _ _ fits _ _ _ _ _ r _ held _ _ _ turning.turn-said.ensures _ _ (handing.hand-taken.ensures.1 f room) c.if-taken.true
 
-add-offset : tie.Need-overflow-add-offset invariant-loop decreases-loop
+add-offset : tie.Need-overflow_add-offset invariant-loop decreases-loop
 add-offset c =
-    let turning = c.before.before.before.before.before.before.before.before.before.before.before in
-    let m = turn-moves _ _ _ _ (sym turning.turn.ensures.last ∙ c.before.if1.false) in
-    omega (arith, m.short, turning.turn.ensures.bytes)
+    let turning = c in
+    let m = turn-moves _ _ _ _ (sym turning.turn-said.ensures.last ∙ c.if-said.false) in
+    omega (arith, m.short, turning.turn-said.ensures.bytes)
 
-add-i : tie.Need-overflow-add-i invariant-loop decreases-loop
+add-i : tie.Need-overflow_add-i invariant-loop decreases-loop
 add-i c = search rules
 
-loop-less : tie.Need-loop-smaller invariant-loop decreases-loop
+loop-less : tie.Need-loop-said-smaller invariant-loop decreases-loop
 loop-less c =
-    let turning = c.before.before.before.before.before.before.before.before.before.before.before in
-    let m = turn-moves _ _ _ _ (sym turning.turn.ensures.last ∙ c.before.if1.false) in
-    omega (arith, m.goes, m.short, turning.turn.ensures.bytes)
+    let turning = c in
+    let m = turn-moves _ _ _ _ (sym turning.turn-said.ensures.last ∙ c.if-said.false) in
+    omega (arith, m.goes, m.short, turning.turn-said.ensures.bytes)
 
-loop-again : tie.Need-loop-preserved invariant-loop decreases-loop
+loop-again : tie.Need-loop-said-preserved invariant-loop decreases-loop
 loop-again c =
-    let handing = c.before.before.before.before in
-    let turning = c.before.before.before.before.before.before.before.before.before.before.before in
-    let reading = c.before.before.before.before.before.before.before.before.before.before.before.before.before.before.before.before.before.before in
-    let here = c.before.before.before.before.before.before.before.before.before.before.before.before.before.before.before.before.before.before.before.before.loop in
-    let t = turning.turn.ensures in
-    let m = turn-moves _ _ _ _ (sym t.last ∙ c.before.if1.false) in
-    let n = reading.read-piece.ensures.0 in
+    let handing = c in
+    let turning = c in
+    let reading = c in
+    let here = c.loop-said in
+    let t = turning.turn-said.ensures in
+    let m = turn-moves _ _ _ _ (sym t.last ∙ c.if-said.false) in
+    let n = reading.read_piece-n.ensures.0 in
     let within = front-most _ _ _ _ _ n.1 t.bytes m.front in (
       omega (arith, m.short, t.bytes),
       omega (arith, m.goes, t.bytes, here.invariant.1),
       n.0,
       omega (arith, within, n.0),
-      handing.hand.ensures.0,
+      handing.hand-taken.ensures.0,
       search rules,
       search rules,
       search rules,
       search rules,
-      λ f. held_next _ _ _ _ _ n.0 within (reading.read-piece.ensures.1 f (here.invariant.9 f)),
+      λ f. held_next _ _ _ _ _ n.0 within (reading.read_piece-n.ensures.1 f (here.invariant.9 f)),
       λ f fits.
           let r = here.invariant.10 f fits in
-          let held = reading.read-piece.ensures.1 f (here.invariant.9 f) in
+          let held = reading.read_piece-n.ensures.1 f (here.invariant.9 f) in
           let room = text-fits _ _ _ _ _ _ fits _ _ _ _ _ r _ held _ _ _ t in
-          goes_on _ _ _ _ _ _ fits _ _ _ _ _ r _ held _ _ _ t _ _ (handing.hand.ensures.1 f room) c.before.if1.false c.if2.false,
+          goes_on _ _ _ _ _ _ fits _ _ _ _ _ r _ held _ _ _ t _ _ (handing.hand-taken.ensures.1 f room) c.if-said.false c.if-taken.false,
     )
 
 pub run_spec : {M : Type 1} → statement M

@@ -4,77 +4,77 @@ use Rattle.program.proofs.Handing.{begun-last, begun-cut, begun-then}
 use Rattle.program.proofs.watch.Statement.{statement}
 use Rattle.program.proofs.watch.Tie as tie
 
-buffer-requires : tie.Need-buffer-requires
+buffer-requires : tie.Need-buffer-piece-requires
 buffer-requires c κs = search rules
 
-large-buffer-requires : tie.Need-large-buffer-requires
+large-buffer-requires : tie.Need-large_buffer-text-requires
 large-buffer-requires c κs = search rules
 
-slice-aggregate-begin : tie.Need-slice-aggregate-begin
+slice-aggregate-begin : tie.Need-slice_bounds-begin-end
 slice-aggregate-begin c = search rules
 
-slice-aggregate-begin-2 : tie.Need-slice-aggregate-begin-2
+slice-aggregate-begin-2 : tie.Need-slice_bounds-begin-end-2
 slice-aggregate-begin-2 c = search rules
 
-begin-requires : tie.Need-begin-requires
+begin-requires : tie.Need-begin-said-requires
 begin-requires c κs = search rules
 
-array-share-prefix-text : tie.Need-array-share-prefix-text
+array-share-prefix-text : tie.Need-slice_bounds-text-end
 array-share-prefix-text c = search rules
 
-slice-aggregate-hand : tie.Need-slice-aggregate-hand
+slice-aggregate-hand : tie.Need-slice_bounds-hand-end
 slice-aggregate-hand c = search rules
 
-hand-requires : tie.Need-hand-requires
+hand-requires : tie.Need-hand-taken-requires
 hand-requires c κs = search rules
 
-same_length : tie.Need-same-length
+same_length : tie.Need-shape_of-log-then-said
 same_length c = search rules
 
-returns : tie.Need-returns
+returns : tie.Need-returns-then-said
 returns c =
     let handing = c.before.before.before in
     let opening = handing.before.before.before.before.before in
-    let a = opening.before.before.before.before.before.before.before.before.before.args in
-    λ f. begun-last a.list.now a.input.now a.answers.now a.log.now _ _ _ opening.begin.ensures _ _ (handing.hand.ensures.1 f) c.if1.true
+    let a = opening.args in
+    λ f. begun-last a.list.now a.input.now a.answers.now a.log.now _ _ _ opening.begin-said.ensures _ _ (handing.hand-taken.ensures.1 f) c.if-said.true
 
-same-length-2 : tie.Need-same-length-2
+same-length-2 : tie.Need-shape_of-log-then-taken
 same-length-2 c = search rules
 
-returns-2 : tie.Need-returns-2
+returns-2 : tie.Need-returns-then-taken
 returns-2 c =
     let handing = c.before.before.before.before in
     let opening = handing.before.before.before.before.before in
-    let a = opening.before.before.before.before.before.before.before.before.before.args in
-    λ f. begun-cut a.list.now a.input.now a.answers.now a.log.now _ _ _ opening.begin.ensures _ _ (handing.hand.ensures.1 f) c.if2.true
+    let a = opening.args in
+    λ f. begun-cut a.list.now a.input.now a.answers.now a.log.now _ _ _ opening.begin-said.ensures _ _ (handing.hand-taken.ensures.1 f) c.if-taken.true
 
-slice-aggregate-run : tie.Need-slice-aggregate-run
+slice-aggregate-run : tie.Need-slice_bounds-run-end
 slice-aggregate-run c = search rules
 
-slice-aggregate-run-2 : tie.Need-slice-aggregate-run-2
+slice-aggregate-run-2 : tie.Need-slice_bounds-run-end-2
 slice-aggregate-run-2 c = search rules
 
-slice-aggregate-run-3 : tie.Need-slice-aggregate-run-3
+slice-aggregate-run-3 : tie.Need-slice_bounds-run-end-3
 slice-aggregate-run-3 c = search rules
 
 run-requires : tie.Need-run-requires
 run-requires c κs = search rules
 
-same-length-3 : tie.Need-same-length-3
+same-length-3 : tie.Need-shape_of-log
 same-length-3 c = search rules
 
-returns-3 : tie.Need-returns-3
+returns-3 : tie.Need-returns
 returns-3 c =
     let running = c.before.before.before.before.before in
     let whole = running.before.before.before.before.before in
     let passed = whole.before in
     let handing = passed.before.before.before in
     let opening = handing.before.before.before.before.before in
-    let a = opening.before.before.before.before.before.before.before.before.before.args in
-    λ f. begun-then a.list.now a.input.now a.answers.now a.log.now _ _ _ opening.begin.ensures _ _ (handing.hand.ensures.1 f) passed.if1.false whole.if2.false _ _ (running.run.ensures f)
+    let a = opening.args in
+    λ f. begun-then a.list.now a.input.now a.answers.now a.log.now _ _ _ opening.begin-said.ensures _ _ (handing.hand-taken.ensures.1 f) passed.if-said.false whole.if-taken.false _ _ (running.run.ensures f)
 
-pub watch-spec : {M : Type 1} → statement M
-watch-spec =
+pub watch_spec : {M : Type 1} → statement M
+watch_spec =
     tie.close
     (tie.spec
     buffer-requires

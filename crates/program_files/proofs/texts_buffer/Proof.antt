@@ -11,5 +11,5 @@ zeros n = sym (length-replicate n 0)
 returns : tie.Need-returns
 returns c = zeros 1048577
 
-pub texts-buffer-spec : {M : Type 1} → statement M
-texts-buffer-spec = tie.close (tie.spec returns)
+pub texts_buffer_spec : {M : Type 1} → statement M
+texts_buffer_spec = tie.close (tie.spec returns)

@@ -4,37 +4,37 @@ use Rattle.program_live.proofs.next_unit.Statement.{statement}
 use Rattle.program_live.proofs.Units.{next-saving, next-left, next-read}
 use Rattle.program_live.proofs.next_unit.Tie as tie
 
-returns : tie.Need-returns
+returns : tie.Need-returns-then-saving
 returns c =
-    let p = c.before.before.before.before.requires in ((p.1, p.2), λ f g s. next-saving _ _ _ _ _ s c.if1.true)
+    let p = c.requires in ((p.1, p.2), λ f g s. next-saving _ _ _ _ _ s c.if-saving.true)
 
-returns-2 : tie.Need-returns-2
+returns-2 : tie.Need-returns-then-u
 returns-2 c =
-    let p = c.before.before.before.before.before.before.requires in ((p.1, p.2), λ f g s. next-left _ _ _ _ _ s c.before.before.if1.false c.if2.true)
+    let p = c.requires in ((p.1, p.2), λ f g s. next-left _ _ _ _ _ s c.if-saving.false c.if-u.true)
 
-read-unit-requires : tie.Need-read-unit-requires
+read-unit-requires : tie.Need-read_unit-requires
 read-unit-requires c κs = search rules
 
-same_length : tie.Need-same-length
+same_length : tie.Need-shape_of-bytes-then-ends
 same_length c = search rules
 
-returns-3 : tie.Need-returns-3
+returns-3 : tie.Need-returns-then-ends
 returns-3 c =
-    (c.before.before.read-unit.ensures, λ f g s. absurd (true≢false (sym c.before.before.before.before.before.if3.true ∙ f)))
+    (c.read_unit.ensures, λ f g s. absurd (true≢false (sym c.if-ends.true ∙ f)))
 
-recorded-unit-requires : tie.Need-recorded-unit-requires
+recorded-unit-requires : tie.Need-recorded_unit-requires
 recorded-unit-requires c κs = search rules
 
-same-length-2 : tie.Need-same-length-2
+same-length-2 : tie.Need-shape_of-bytes
 same-length-2 c = search rules
 
-returns-4 : tie.Need-returns-4
+returns-4 : tie.Need-returns
 returns-4 c =
-    let e = c.before.before.recorded-unit.ensures in
-    ((e.inside, e.short), λ f g s. next-read _ _ _ _ _ s c.before.before.before.before.before.before.before.if1.false (omega (arith, c.before.before.before.before.before.if2.false)) _ _ e)
+    let e = c.recorded_unit.ensures in
+    ((e.inside, e.short), λ f g s. next-read _ _ _ _ _ s c.if-saving.false (omega (arith, c.if-u.false)) _ _ e)
 
-pub next-unit-spec : {M : Type 1} → statement M
-next-unit-spec =
+pub next_unit_spec : {M : Type 1} → statement M
+next_unit_spec =
     tie.close
     (tie.spec
     returns

@@ -8,43 +8,43 @@ use Rattle.program_run.proofs.Readying.{unfilled, fills-front}
 use Rattle.program_run.proofs.fill_matrix.Statement.{statement}
 use Rattle.program_run.proofs.fill_matrix.Tie as tie
 
-state-count-requires : tie.Need-state-count-requires
+state-count-requires : tie.Need-state_count-m-requires
 state-count-requires c κs = search rules
 
-mul-m : tie.Need-overflow-mul-m
+mul-m : tie.Need-overflow_mul-m
 mul-m c = search rules
 
-returns : tie.Need-returns
+returns : tie.Need-returns-then-index-m
 returns c = (refl, omega arith, λ l. absurd (omega (arith, l)))
 
-slice-relend-prefix-fill : tie.Need-slice-relend-prefix-fill
+slice-relend-prefix-fill : tie.Need-slice_bounds-fill-end
 slice-relend-prefix-fill c = search rules
 
-slice-aggregate-fill : tie.Need-slice-aggregate-fill
-slice-aggregate-fill c = sym (length-take-le _ _ (omega (arith, c.before.if1.false)))
+slice-aggregate-fill : tie.Need-slice_bounds-fill-end-2
+slice-aggregate-fill c = sym (length-take-le _ _ (omega (arith, c.if-index-m.false)))
 
-fill-requires : tie.Need-fill-requires
+fill-requires : tie.Need-fill-refusal-requires
 fill-requires c κs = search rules
 
-same_length : tie.Need-same-length
+same_length : tie.Need-shape_of-index-then-refusal-ne-PASSED
 same_length c = search rules
 
-returns-2 : tie.Need-returns-2
+returns-2 : tie.Need-returns-then-refusal-ne-PASSED
 returns-2 c =
-    let fill = c.before.before.before.fill in
-    let e = unfilled _ c.before.before.before.before.before.before.before.before.before.args.index.now _ (32768 * c.before.before.before.before.before.before.state-count.result) _ (omega (arith, c.before.before.before.before.before.if1.false)) fill.ensures c.if2.true in
+    let fill = c.fill-refusal in
+    let e = unfilled _ c.args.index.now _ (32768 * c.state_count-m.result) _ (omega (arith, c.if-index-m.false)) fill.ensures c.if-refusal-ne-PASSED.true in
     (e, omega arith, λ l. absurd (omega (arith, l)))
 
-same-length-2 : tie.Need-same-length-2
+same-length-2 : tie.Need-shape_of-index
 same-length-2 c = search rules
 
-returns-3 : tie.Need-returns-3
+returns-3 : tie.Need-returns
 returns-3 c =
-    let fill = c.before.before.before.fill in
-    fills-front _ _ _ _ _ (omega (arith, c.before.before.before.before.before.if1.false)) fill.ensures c.if2.false
+    let fill = c.fill-refusal in
+    fills-front _ _ _ _ _ (omega (arith, c.if-index-m.false)) fill.ensures c.if-refusal-ne-PASSED.false
 
-pub fill-matrix-spec : {M : Type 1} → statement M
-fill-matrix-spec =
+pub fill_matrix_spec : {M : Type 1} → statement M
+fill_matrix_spec =
     tie.close
     (tie.spec
     state-count-requires

@@ -11,5 +11,5 @@ zeros n = sym (length-replicate n 0)
 returns : tie.Need-returns
 returns c = zeros 4456576
 
-pub index-buffer-spec : {M : Type 1} → statement M
-index-buffer-spec = tie.close (tie.spec returns)
+pub index_buffer_spec : {M : Type 1} → statement M
+index_buffer_spec = tie.close (tie.spec returns)

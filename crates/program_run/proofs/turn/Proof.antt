@@ -5,61 +5,61 @@ use Rattle.program_run.proofs.Turning.{spoken-end, spoken-fit, spoken-refused, s
 use Rattle.program_run.proofs.turn.Statement.{statement}
 use Rattle.program_run.proofs.turn.Tie as tie
 
-put-last-requires : tie.Need-put-last-requires
+put-last-requires : tie.Need-put_last-requires
 put-last-requires c κs = search rules
 
-same_length : tie.Need-same-length
+same_length : tie.Need-shape_of-text-then-rest-eq0
 same_length c = search rules
 
-returns : tie.Need-returns
+returns : tie.Need-returns-then-rest-eq0
 returns c =
-    let start = c.before.before.before.before.before.before.before.before.before.before.before in
-    let e = c.before.before.put_last.ensures in
-    λ R a. spoken-end _ _ _ _ start.requires.1 R _ a _ _ _ _ c.before.before.before.before.if1.true e.0 e.1
+    let start = c in
+    let e = c.put_last.ensures in
+    λ R a. spoken-end _ _ _ _ start.requires.1 R _ a _ _ _ _ c.if-rest-eq0.true e.0 e.1
 
-slice-aggregate-feed-by : tie.Need-slice-aggregate-feed-by
+slice-aggregate-feed-by : tie.Need-slice_bounds-feed_by-end
 slice-aggregate-feed-by c = search rules
 
-feed-by-requires : tie.Need-feed-by-requires
+feed-by-requires : tie.Need-feed_by-stood-requires
 feed-by-requires c κs = search rules
 
-put-last-requires-2 : tie.Need-put-last-requires-2
+put-last-requires-2 : tie.Need-put_last-requires-then-stood-ne-PASSED
 put-last-requires-2 c κs = search rules
 
-same-length-2 : tie.Need-same-length-2
+same-length-2 : tie.Need-shape_of-flow-then-stood-ne-PASSED
 same-length-2 c = search rules
 
-same-length-3 : tie.Need-same-length-3
+same-length-3 : tie.Need-shape_of-text-then-stood-ne-PASSED
 same-length-3 c = search rules
 
-returns-2 : tie.Need-returns-2
+returns-2 : tie.Need-returns-then-stood-ne-PASSED
 returns-2 c =
-    let feeding = c.before.before.before.before.before.before.before.before.before in
-    let start = c.before.before.before.before.before.before.before.before.before.before.before.before.before.before.before.before.before.before.before in
-    let e = c.before.before.put-last2.ensures in
-    λ R a. spoken-refused _ _ _ _ start.requires.1 R _ a _ _ (λ i. (c.before.before.before.before.before.before.before.before.before.before.before.before.before.before.shared-slice-known4.given i).fits) _ _ _ feeding.feed-by.ensures c.before.before.before.before.before.before.before.before.before.before.before.before.if1.false _ _ e.0 c.before.before.before.before.if2.true e.1
+    let feeding = c in
+    let start = c in
+    let e = c.put_last-then-stood-ne-PASSED.ensures in
+    λ R a. spoken-refused _ _ _ _ start.requires.1 R _ a _ _ (λ i. (c.shared_slice_known-4-1.given i).fits) _ _ _ feeding.feed_by-stood.ensures c.if-rest-eq0.false _ _ e.0 c.if-stood-ne-PASSED.true e.1
 
-slice-aggregate-put-pairs : tie.Need-slice-aggregate-put-pairs
+slice-aggregate-put-pairs : tie.Need-slice_bounds-put_pairs-end
 slice-aggregate-put-pairs c = search rules
 
-put-pairs-requires : tie.Need-put-pairs-requires
+put-pairs-requires : tie.Need-put_pairs-requires
 put-pairs-requires c κs =
-    let a = c.before.before.before.before.before.before.before.before.before.before.before.before.before.before.before.before.before.args in
-    let f = spoken-fit a.list.now a.splits.now a.index.now a.by a.flow.now a.offset a.rest.now _ _ _ c.before.before.before.before.before.before.before.feed-by.ensures in
-    (omega (arith, f), omega (arith, f, c.before.before.before.before.before.before.before.before.before.before.before.before.before.before.before.before.before.requires.0))
+    let a = c.args in
+    let f = spoken-fit a.list.now a.splits.now a.index.now a.by a.flow.now a.offset a.rest.now _ _ _ c.feed_by-stood.ensures in
+    (omega (arith, f), omega (arith, f, c.requires.0))
 
-same-length-4 : tie.Need-same-length-4
+same-length-4 : tie.Need-shape_of-flow
 same-length-4 c = search rules
 
-same-length-5 : tie.Need-same-length-5
+same-length-5 : tie.Need-shape_of-text
 same-length-5 c = search rules
 
-returns-3 : tie.Need-returns-3
+returns-3 : tie.Need-returns
 returns-3 c =
-    let feeding = c.before.before.before.before.before.before.before.before.before.before in
-    let start = c.before.before.before.before.before.before.before.before.before.before.before.before.before.before.before.before.before.before.before.before in
-    let e = c.before.before.put-pairs.ensures in
-    λ R a. spoken-lines _ _ _ _ start.requires.1 R _ a _ _ (λ i. (c.before.before.before.before.before.before.before.before.before.before.before.before.before.before.before.shared-slice-known4.given i).fits) _ _ _ feeding.feed-by.ensures c.before.before.before.before.before.before.before.before.before.before.before.before.before.if1.false _ _ e.0 c.before.before.before.before.before.if2.false e.1
+    let feeding = c in
+    let start = c in
+    let e = c.put_pairs.ensures in
+    λ R a. spoken-lines _ _ _ _ start.requires.1 R _ a _ _ (λ i. (c.shared_slice_known-4-1.given i).fits) _ _ _ feeding.feed_by-stood.ensures c.if-rest-eq0.false _ _ e.0 c.if-stood-ne-PASSED.false e.1
 
 pub turn_spec : {M : Type 1} → statement M
 turn_spec =

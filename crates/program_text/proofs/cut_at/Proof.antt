@@ -5,14 +5,14 @@ use lib.ListN.{get_or-eq_default}
 use Rattle.program_text.proofs.cut_at.Statement.{statement}
 use Rattle.program_text.proofs.cut_at.Tie as tie
 
-shared-slice-read-result : tie.Need-shared-slice-read-result
+shared-slice-read-result : tie.Need-bounds-answers-i
 shared-slice-read-result c = search rules
 
-returns : tie.Need-returns
+returns : tie.Need-returns-then-i-answers
 returns c = search rules
 
-returns-2 : tie.Need-returns-2
-returns-2 c = rw (get_or-eq_default c.before.args.answers.now 0 {n = c.before.args.i} (omega arith))
+returns-2 : tie.Need-returns-else-i-answers
+returns-2 c = rw (get_or-eq_default c.args.answers.now 0 {n = c.args.i} (omega arith))
 
-pub cut-at-spec : {M : Type 1} → statement M
-cut-at-spec = tie.close (tie.spec shared-slice-read-result returns returns-2)
+pub cut_at_spec : {M : Type 1} → statement M
+cut_at_spec = tie.close (tie.spec shared-slice-read-result returns returns-2)

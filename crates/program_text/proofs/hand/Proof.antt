@@ -6,36 +6,36 @@ use mathlib.Core.Bool.{true≢false}
 use Rattle.program_text.proofs.hand.Statement.{statement}
 use Rattle.program_text.proofs.hand.Tie as tie
 
-write-all-requires : tie.Need-write-all-requires
+write-all-requires : tie.Need-write_all-whole-requires
 write-all-requires c κs = search rules
 
-returns : tie.Need-returns
+returns : tie.Need-returns-then-outside
 returns c =
-    (search rules, λ f l. absurd (true≢false (sym c.before.if1.true ∙ f)))
+    (search rules, λ f l. absurd (true≢false (sym c.if-outside.true ∙ f)))
 
-sub-if2 : tie.Need-overflow-sub-if2
+sub-if2 : tie.Need-overflow_sub-log
 sub-if2 c = search rules
 
-returns-2 : tie.Need-returns-2
+returns-2 : tie.Need-returns-then-log-end
 returns-2 c =
-    (search rules, λ f l. absurd (omega (arith, l, c.if2.true)))
+    (search rules, λ f l. absurd (omega (arith, l, c.if-log-end.true)))
 
-cut-at-requires : tie.Need-cut-at-requires
+cut-at-requires : tie.Need-cut_at-requires
 cut-at-requires c κs = search rules
 
-put-bytes-requires : tie.Need-put-bytes-requires
+put-bytes-requires : tie.Need-put_bytes-requires
 put-bytes-requires c κs = search rules
 
-same_length : tie.Need-same-length
+same_length : tie.Need-shape_of-log
 same_length c = search rules
 
-returns-3 : tie.Need-returns-3
+returns-3 : tie.Need-returns
 returns-3 c =
-    let e = c.before.before.put-bytes.ensures in
-    (omega (arith, e.0, e.3, c.before.before.before.before.before.if2.false, c.before.before.before.before.before.before.before.before.before.before.requires), λ f l. record { cut = c.before.before.before.before.cut_at.ensures; puts = e })
+    let e = c.put_bytes.ensures in
+    (omega (arith, e.0, e.3, c.if-log-end.false, c.requires), λ f l. record { cut = c.cut_at.ensures; puts = e })
 
-pub hand-spec : {M : Type 1} → statement M
-hand-spec =
+pub hand_spec : {M : Type 1} → statement M
+hand_spec =
     tie.close
     (tie.spec
     write-all-requires

@@ -6,26 +6,26 @@ use Rattle.program_text.proofs.Texts.{puts-after, puts-front}
 use Rattle.program_text.proofs.put_ending.Statement.{statement}
 use Rattle.program_text.proofs.put_ending.Tie as tie
 
-put-bytes-requires : tie.Need-put-bytes-requires
+put-bytes-requires : tie.Need-put_bytes-a-requires
 put-bytes-requires c κs = search rules
 
-put-number-requires : tie.Need-put-number-requires
+put-number-requires : tie.Need-put_number-b-requires
 put-number-requires c κs = search rules
 
-put-byte-requires : tie.Need-put-byte-requires
+put-byte-requires : tie.Need-put_byte-requires
 put-byte-requires c κs = search rules
 
-same_length : tie.Need-same-length
+same_length : tie.Need-shape_of-text
 same_length c = search rules
 
 returns : tie.Need-returns
 returns c =
     let s = c.before.before.before.before.before.before.before.before.before.before.before.before.before.before in
-    let a = puts-after _ 20 _ _ _ _ _ _ _ _ (omega (arith, s.requires)) c.before.before.before.before.before.before.before.before.before.before.put-bytes.ensures c.before.before.before.before.before.before.put-number.ensures in
-    let b = puts-after _ 1 _ _ _ _ _ _ _ _ (omega (arith, s.requires)) a c.before.before.put_byte.ensures in
+    let a = puts-after _ 20 _ _ _ _ _ _ _ _ (omega (arith, s.requires)) c.put_bytes-a.ensures c.put_number-b.ensures in
+    let b = puts-after _ 1 _ _ _ _ _ _ _ _ (omega (arith, s.requires)) a c.put_byte.ensures in
     (prefix_len_of_le _ _ (omega (arith, s.requires, b.0, b.1, b.3)), puts-front _ _ _ _ _ (omega (arith, s.requires)) b)
 
-pub put-ending-spec : {M : Type 1} → statement M
-put-ending-spec =
+pub put_ending_spec : {M : Type 1} → statement M
+put_ending_spec =
     tie.close
     (tie.spec put-bytes-requires put-number-requires put-byte-requires same_length returns)

@@ -4,28 +4,28 @@ use Rattle.program_turn.proofs.fresh_state.Statement.{statement}
 use Rattle.program_turn.proofs.fresh_state.Tie as tie
 use Rattle.program_turn.proofs.Turning.{fresh-is}
 
-put-number-requires : tie.Need-put-number-requires
+put-number-requires : tie.Need-put_number-requires
 put-number-requires c κs = search rules
 
-sum-of-requires : tie.Need-sum-of-requires
+sum-of-requires : tie.Need-sum_of-requires
 sum-of-requires c κs = search rules
 
-put-number-requires-2 : tie.Need-put-number-requires-2
+put-number-requires-2 : tie.Need-put_number-requires-2
 put-number-requires-2 c κs = search rules
 
-put-number-requires-3 : tie.Need-put-number-requires-3
+put-number-requires-3 : tie.Need-put_number-requires-3
 put-number-requires-3 c κs = search rules
 
-same_length : tie.Need-same-length
+same_length : tie.Need-shape_of-state
 same_length c = search rules
 
 returns : tie.Need-returns
 returns c =
-    let a = c.before.before.before.before.before.before.before.before.before.before.before.before.before.before.before.args in
-    fresh-is a.list.now a.state.now a.kind _ _ _ _ c.before.before.before.before.before.before.before.before.before.before.before.put-number.ensures c.before.before.before.before.before.before.before.sum_of.ensures c.before.before.before.before.before.before.put-number2.ensures c.before.before.put-number3.ensures
+    let a = c.args in
+    fresh-is a.list.now a.state.now a.kind _ _ _ _ c.put_number.ensures c.sum_of.ensures c.put_number-2.ensures c.put_number-3.ensures
 
-pub fresh-state-spec : {M : Type 1} → statement M
-fresh-state-spec =
+pub fresh_state_spec : {M : Type 1} → statement M
+fresh_state_spec =
     tie.close
     (tie.spec
     put-number-requires

@@ -4,15 +4,15 @@ use Rattle.program_turn.specs.Turn.{is_told}
 use Rattle.program_turn.proofs.is_told.Statement.{statement}
 use Rattle.program_turn.proofs.is_told.Tie as tie
 
-returns : tie.Need-returns
+returns : tie.Need-returns-then-keeping
 unfolding is_told
 returns c =
     search rules
 
-returns-2 : tie.Need-returns-2
+returns-2 : tie.Need-returns
 unfolding is_told
 returns-2 c =
     search rules
 
-pub is-told-spec : {M : Type 1} → statement M
-is-told-spec = tie.close (tie.spec returns returns-2)
+pub is_told_spec : {M : Type 1} → statement M
+is_told_spec = tie.close (tie.spec returns returns-2)

@@ -4,20 +4,20 @@ use Rattle.program_turn.specs.Turn.{over_of}
 use Rattle.program_turn.proofs.over.Statement.{statement}
 use Rattle.program_turn.proofs.over.Tie as tie
 
-returns : tie.Need-returns
+returns : tie.Need-returns-then-all
 unfolding over_of
 returns c =
-    rw c.if1.true
+    rw c.if-all.true
 
-returns-2 : tie.Need-returns-2
+returns-2 : tie.Need-returns-then-refusal-eq-NOT_TAKEN
 unfolding over_of
 returns-2 c =
-    rw (c.before.if1.false, eq-eqb c.before.before.args.refusal 18 c.if2.true)
+    rw (c.if-all.false, eq-eqb c.args.refusal 18 c.if-refusal-eq-NOT_TAKEN.true)
 
-returns-3 : tie.Need-returns-3
+returns-3 : tie.Need-returns
 unfolding over_of
 returns-3 c =
-    rw (c.before.if1.false, ne_eqb c.before.before.args.refusal 18 c.if2.false)
+    rw (c.if-all.false, ne_eqb c.args.refusal 18 c.if-refusal-eq-NOT_TAKEN.false)
 
-pub over-spec : {M : Type 1} → statement M
-over-spec = tie.close (tie.spec returns returns-2 returns-3)
+pub over_spec : {M : Type 1} → statement M
+over_spec = tie.close (tie.spec returns returns-2 returns-3)

@@ -4,15 +4,15 @@ use Rattle.program_turn.specs.Turn.{passed_of}
 use Rattle.program_turn.proofs.passed.Statement.{statement}
 use Rattle.program_turn.proofs.passed.Tie as tie
 
-returns : tie.Need-returns
+returns : tie.Need-returns-then-refusal-eq-NOT_TAKEN
 unfolding passed_of
 returns c =
-    rw (eq-eqb c.before.args.refusal 18 c.if1.true)
+    rw (eq-eqb c.args.refusal 18 c.if-refusal-eq-NOT_TAKEN.true)
 
-returns-2 : tie.Need-returns-2
+returns-2 : tie.Need-returns-else-refusal-eq-NOT_TAKEN
 unfolding passed_of
 returns-2 c =
-    rw (ne_eqb c.before.args.refusal 18 c.if1.false)
+    rw (ne_eqb c.args.refusal 18 c.if-refusal-eq-NOT_TAKEN.false)
 
-pub passed-spec : {M : Type 1} → statement M
-passed-spec = tie.close (tie.spec returns returns-2)
+pub passed_spec : {M : Type 1} → statement M
+passed_spec = tie.close (tie.spec returns returns-2)

@@ -5,36 +5,32 @@ use Rattle.program_turn.proofs.put_again.Statement.{statement}
 use Rattle.program_turn.proofs.Laws.{again-none, again-line}
 use Rattle.program_turn.proofs.put_again.Tie as tie
 
-returns : tie.Need-returns
+returns : tie.Need-returns-then-not-told
 returns c =
-    let a = c.before.before.args in again-none a.text.now a.at a.start a.told (not-true _ c.if1.true) (omega (arith, c.before.before.requires))
+    let a = c.args in again-none a.text.now a.at a.start a.told (not-true _ c.if-not-told.true-raw) (omega (arith, c.requires))
 
-slice-aggregate-put-bytes : tie.Need-slice-aggregate-put-bytes
-slice-aggregate-put-bytes c = search rules
-
-put-bytes-requires : tie.Need-put-bytes-requires
+put-bytes-requires : tie.Need-put_bytes-a-requires
 put-bytes-requires c κs = search rules
 
-put-number-requires : tie.Need-put-number-requires
+put-number-requires : tie.Need-put_number-b-requires
 put-number-requires c κs = search rules
 
-put-byte-requires : tie.Need-put-byte-requires
+put-byte-requires : tie.Need-put_byte-requires
 put-byte-requires c κs = search rules
 
-same_length : tie.Need-same-length
+same_length : tie.Need-shape_of-text
 same_length c = search rules
 
-returns-2 : tie.Need-returns-2
+returns-2 : tie.Need-returns
 returns-2 c =
-    let a = c.before.before.before.before.before.before.before.before.before.before.before.before.before.before.before.args in
-    again-line a.text.now a.at a.start a.told _ _ _ _ _ _ _ (not-false _ c.before.before.before.before.before.before.before.before.before.before.before.before.before.if1.false) c.before.before.before.before.before.before.before.before.before.before.before.before.before.before.before.requires (omega arith) c.before.before.before.before.before.before.before.before.before.before.put-bytes.ensures c.before.before.before.before.before.before.put-number.ensures c.before.before.put_byte.ensures
+    let a = c.args in
+    again-line a.text.now a.at a.start a.told _ _ _ _ _ _ _ (not-false _ c.if-not-told.false-raw) c.requires (omega arith) c.put_bytes-a.ensures c.put_number-b.ensures c.put_byte.ensures
 
-pub put-again-spec : {M : Type 1} → statement M
-put-again-spec =
+pub put_again_spec : {M : Type 1} → statement M
+put_again_spec =
     tie.close
     (tie.spec
     returns
-    slice-aggregate-put-bytes
     put-bytes-requires
     put-number-requires
     put-byte-requires

@@ -3,58 +3,58 @@ use Rattle.std.proofs.Common.{◌≡◌, length, rules}
 use Rattle.program_why.proofs.ask_all.Statement.{statement}
 use Rattle.program_why.proofs.ask_all.Tie as tie
 
-abbrev invariant-loop : tie.invariant-loop
+abbrev invariant-loop : tie.invariant-loop-last
 invariant-loop list fd last signature offset records ends₀ run₀ work₀ left₀ ends run work left =
     (length ends ≡ length ends₀) × (length run ≡ length run₀) × (length work ≡ length work₀)
 
-abbrev decreases-loop : tie.decreases-loop
+abbrev decreases-loop : tie.decreases-loop-last
 decreases-loop list fd last signature offset records ends₀ run₀ work₀ left₀ ends run work left =
     left
 
-loop-holds : tie.Need-loop-init invariant-loop decreases-loop
+loop-holds : tie.Need-loop-last-init invariant-loop decreases-loop
 loop-holds c = search rules
 
-asked-of-requires : tie.Need-asked-of-requires invariant-loop decreases-loop
+asked-of-requires : tie.Need-asked_of-asked-requires invariant-loop decreases-loop
 asked-of-requires c κs = search rules
 
-ask-back-requires : tie.Need-ask-back-requires invariant-loop decreases-loop
+ask-back-requires : tie.Need-ask_back-refusal-requires invariant-loop decreases-loop
 ask-back-requires c κs = search rules
 
-same_length : tie.Need-same-length invariant-loop decreases-loop
+same_length : tie.Need-shape_of-ends-then-refusal-ne-PASSED invariant-loop decreases-loop
 same_length c = search rules
 
-same-length-2 : tie.Need-same-length-2 invariant-loop decreases-loop
+same-length-2 : tie.Need-shape_of-run-then-refusal-ne-PASSED invariant-loop decreases-loop
 same-length-2 c = search rules
 
-same-length-3 : tie.Need-same-length-3 invariant-loop decreases-loop
+same-length-3 : tie.Need-shape_of-work-then-refusal-ne-PASSED invariant-loop decreases-loop
 same-length-3 c = search rules
 
-returns : tie.Need-returns invariant-loop decreases-loop
+returns : tie.Need-returns-then-refusal-ne-PASSED invariant-loop decreases-loop
 returns c = search rules
 
-same-length-4 : tie.Need-same-length-4 invariant-loop decreases-loop
+same-length-4 : tie.Need-shape_of-ends-then-left-eq0 invariant-loop decreases-loop
 same-length-4 c = search rules
 
-same-length-5 : tie.Need-same-length-5 invariant-loop decreases-loop
+same-length-5 : tie.Need-shape_of-run-then-left-eq0 invariant-loop decreases-loop
 same-length-5 c = search rules
 
-same-length-6 : tie.Need-same-length-6 invariant-loop decreases-loop
+same-length-6 : tie.Need-shape_of-work-then-left-eq0 invariant-loop decreases-loop
 same-length-6 c = search rules
 
-returns-2 : tie.Need-returns-2 invariant-loop decreases-loop
+returns-2 : tie.Need-returns-then-left-eq0 invariant-loop decreases-loop
 returns-2 c = search rules
 
-sub-left : tie.Need-overflow-sub-left invariant-loop decreases-loop
+sub-left : tie.Need-overflow_sub-left invariant-loop decreases-loop
 sub-left c = search rules
 
-loop-less : tie.Need-loop-smaller invariant-loop decreases-loop
+loop-less : tie.Need-loop-last-smaller invariant-loop decreases-loop
 loop-less c = search rules
 
-loop-again : tie.Need-loop-preserved invariant-loop decreases-loop
+loop-again : tie.Need-loop-last-preserved invariant-loop decreases-loop
 loop-again c = search rules
 
-pub ask-all-spec : {M : Type 1} → statement M
-ask-all-spec =
+pub ask_all_spec : {M : Type 1} → statement M
+ask_all_spec =
     tie.close
     (tie.spec
     invariant-loop

@@ -3,73 +3,73 @@ use Rattle.std.proofs.Common.{◌≡◌, ◌-◌, ◌≤◌, length, rules}
 use Rattle.program_why.proofs.feed_piece.Statement.{statement}
 use Rattle.program_why.proofs.feed_piece.Tie as tie
 
-abbrev invariant-loop : tie.invariant-loop
+abbrev invariant-loop : tie.invariant-loop-at
 invariant-loop list flow₀ start piece out₀ at₀ flow out at =
     (at ≤ length piece) × (length flow ≡ length flow₀) × (length out ≡ length out₀)
 
-abbrev decreases-loop : tie.decreases-loop
+abbrev decreases-loop : tie.decreases-loop-at
 decreases-loop list flow₀ start piece out₀ at₀ flow out at =
     length piece - at
 
-loop-holds : tie.Need-loop-init invariant-loop decreases-loop
+loop-holds : tie.Need-loop-at-init invariant-loop decreases-loop
 loop-holds c = search rules
 
-wrapping-add-u64-requires : tie.Need-wrapping-add-u64-requires invariant-loop decreases-loop
+wrapping-add-u64-requires : tie.Need-wrapping_add_u64-requires invariant-loop decreases-loop
 wrapping-add-u64-requires c κs = search rules
 
-sub-feed-rest : tie.Need-overflow-sub-feed-rest invariant-loop decreases-loop
+sub-feed-rest : tie.Need-slice_bounds-feed_rest-count invariant-loop decreases-loop
 sub-feed-rest c = search rules
 
-part-feed-rest-start : tie.Need-slice-bounds-feed-rest-start invariant-loop decreases-loop
+part-feed-rest-start : tie.Need-slice_bounds-feed_rest-start invariant-loop decreases-loop
 part-feed-rest-start c = search rules
 
-part-feed-rest-end : tie.Need-slice-bounds-feed-rest-end invariant-loop decreases-loop
+part-feed-rest-end : tie.Need-slice_bounds-feed_rest-end invariant-loop decreases-loop
 part-feed-rest-end c = search rules
 
-feed-rest-requires : tie.Need-feed-rest-requires invariant-loop decreases-loop
+feed-rest-requires : tie.Need-feed_rest-n-requires invariant-loop decreases-loop
 feed-rest-requires c κs = search rules
 
-same_length : tie.Need-same-length invariant-loop decreases-loop
+same_length : tie.Need-shape_of-flow-then-n-eq0 invariant-loop decreases-loop
 same_length c = search rules
 
-same-length-2 : tie.Need-same-length-2 invariant-loop decreases-loop
+same-length-2 : tie.Need-shape_of-out-then-n-eq0 invariant-loop decreases-loop
 same-length-2 c = search rules
 
-returns : tie.Need-returns invariant-loop decreases-loop
+returns : tie.Need-returns-then-n-eq0 invariant-loop decreases-loop
 returns c = search rules
 
-sub-if2 : tie.Need-overflow-sub-if2 invariant-loop decreases-loop
+sub-if2 : tie.Need-overflow_sub-piece invariant-loop decreases-loop
 sub-if2 c = search rules
 
-same-length-3 : tie.Need-same-length-3 invariant-loop decreases-loop
+same-length-3 : tie.Need-shape_of-flow-then-piece-at invariant-loop decreases-loop
 same-length-3 c = search rules
 
-same-length-4 : tie.Need-same-length-4 invariant-loop decreases-loop
+same-length-4 : tie.Need-shape_of-out-then-piece-at invariant-loop decreases-loop
 same-length-4 c = search rules
 
-returns-2 : tie.Need-returns-2 invariant-loop decreases-loop
+returns-2 : tie.Need-returns-then-piece-at invariant-loop decreases-loop
 returns-2 c = search rules
 
-add_at : tie.Need-overflow-add-at invariant-loop decreases-loop
+add_at : tie.Need-overflow_add-at invariant-loop decreases-loop
 add_at c = search rules
 
-loop-less : tie.Need-loop-smaller invariant-loop decreases-loop
+loop-less : tie.Need-loop-at-smaller invariant-loop decreases-loop
 loop-less c = search rules
 
-loop-again : tie.Need-loop-preserved invariant-loop decreases-loop
+loop-again : tie.Need-loop-at-preserved invariant-loop decreases-loop
 loop-again c = search rules
 
-same-length-5 : tie.Need-same-length-5 invariant-loop decreases-loop
+same-length-5 : tie.Need-shape_of-flow invariant-loop decreases-loop
 same-length-5 c = search rules
 
-same-length-6 : tie.Need-same-length-6 invariant-loop decreases-loop
+same-length-6 : tie.Need-shape_of-out invariant-loop decreases-loop
 same-length-6 c = search rules
 
-returns-3 : tie.Need-returns-3 invariant-loop decreases-loop
+returns-3 : tie.Need-returns invariant-loop decreases-loop
 returns-3 c = search rules
 
-pub feed-piece-spec : {M : Type 1} → statement M
-feed-piece-spec =
+pub feed_piece_spec : {M : Type 1} → statement M
+feed_piece_spec =
     tie.close
     (tie.spec
     invariant-loop

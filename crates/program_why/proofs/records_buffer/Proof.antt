@@ -10,5 +10,5 @@ zeros n = sym (length-replicate n 0)
 returns : tie.Need-returns
 returns c = zeros 589824
 
-pub records-buffer-spec : {M : Type 1} → statement M
-records-buffer-spec = tie.close (tie.spec returns)
+pub records_buffer_spec : {M : Type 1} → statement M
+records_buffer_spec = tie.close (tie.spec returns)

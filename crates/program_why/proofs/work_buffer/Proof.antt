@@ -10,5 +10,5 @@ zeros n = sym (length-replicate n 0)
 returns : tie.Need-returns
 returns c = zeros 524416
 
-pub work-buffer-spec : {M : Type 1} → statement M
-work-buffer-spec = tie.close (tie.spec returns)
+pub work_buffer_spec : {M : Type 1} → statement M
+work_buffer_spec = tie.close (tie.spec returns)
