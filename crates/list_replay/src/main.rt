@@ -1,11 +1,13 @@
 // The program of the vectors: it replays the commands of standard input through the library, and writes a line for each that answers.
+#![tactic(auto)]
+
 ghost use Rattle.std.specs.Prelude.{◌≡◌, length};
 
 use replay::Call;
 use replay_tape::Table;
 
 // How many bytes of each buffer are in use, and whether commands are left.
-#[derive(Drop)]
+#[derive(Clone, Copy)]
 struct Sizes {
     more: bool,
     list: usize,

@@ -1,4 +1,6 @@
 // The program of the vectors for why: it replays the commands of standard input through the library, and writes a line for each question.
+#![tactic(auto)]
+
 ghost use Rattle.std.specs.Prelude.{◌≡◌, length};
 ghost use Rattle.io.specs.Counts.{IsPrefixLen};
 
@@ -8,7 +10,7 @@ const RUN: u16 = 40000;
 const WORK: u8 = 165;
 
 // How many bytes of each buffer are in use, and whether commands are left.
-#[derive(Drop)]
+#[derive(Clone, Copy)]
 struct Sizes {
     more: bool,
     list: usize,
@@ -17,7 +19,7 @@ struct Sizes {
 }
 
 // A question: whether it is of a state, the stated start, the signature or state, and the offset.
-#[derive(Drop)]
+#[derive(Clone, Copy)]
 struct Question {
     of_state: bool,
     start: u64,

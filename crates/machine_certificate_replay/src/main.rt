@@ -1,8 +1,10 @@
 // The program of the vectors for certificates: it replays the commands of standard input through the library, and writes a line for each check.
+#![tactic(auto)]
+
 ghost use Rattle.std.specs.Prelude.{◌≡◌, length};
 
 // How many bytes of each buffer are in use, and whether commands are left.
-#[derive(Drop)]
+#[derive(Clone, Copy)]
 struct Sizes {
     more: bool,
     list: usize,

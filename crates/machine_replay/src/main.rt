@@ -1,9 +1,11 @@
 // The program of the vectors for the automaton with bits and counters: it replays the commands of standard input through the library, and writes a line
 // for each that answers.
+#![tactic(auto)]
+
 ghost use Rattle.std.specs.Prelude.{◌≡◌, length};
 
 // How many bytes of each buffer are in use, and whether commands are left.
-#[derive(Drop)]
+#[derive(Clone, Copy)]
 struct Sizes {
     more: bool,
     moves: usize,

@@ -1,13 +1,15 @@
 // The calls that the programs `list_replay` and `segment_replay` replay: each function makes one call of the matcher, with the buffers in use and what its command says, and
 // writes the line of its answer. Here it is shown alone that the calls are safe and end, so that the programs above need to know nothing of what the matcher
 // promises.
+#![tactic(auto)]
+
 use feed::Fed;
 use replay_tape::Table;
 use segment_feed::Heard;
 use segment_index::HeardAt;
 
 // What a command says of its call: the letter, the bound, the hint of a split, the offset or number where the bytes start, and where each list of the table ends.
-#[derive(Drop)]
+#[derive(Clone, Copy)]
 pub struct Call {
     pub letter: u8,
     pub bound: u64,
@@ -17,7 +19,7 @@ pub struct Call {
 }
 
 // The number of a flow's first byte, and the held place.
-#[derive(Drop)]
+#[derive(Clone, Copy)]
 pub struct Place {
     pub first: u32,
     pub start: u32,

@@ -2,6 +2,8 @@
 // A command is a letter and what follows it: numbers, low byte first, and fields. A field is a length and its bytes in runs, each some zeros and some bytes
 // that are written out. A reader takes what it is asked for from standard input; where the input ends early it leaves zeros, and it never writes past its buffer.
 // A line is a letter and numbers; bytes and words stand in it by their digest. tools/second/README.md has the commands and the lines of each program.
+#![tactic(auto)]
+
 ghost use Rattle.std.specs.Prelude.{◌≡◌, ◌<◌, ◌≤◌, length};
 ghost use Rattle.io.specs.Counts.{IsPrefixLen};
 
@@ -22,7 +24,7 @@ const MODULUS: u64 = 4294967291;
 const FACTOR: u64 = 257;
 
 // Where each list of a table ends, in a buffer that has them one after the other.
-#[derive(Drop)]
+#[derive(Clone, Copy)]
 pub struct Table {
     pub classes: usize,
     pub parts: usize,

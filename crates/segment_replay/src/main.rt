@@ -1,11 +1,13 @@
 // The program of the vectors of resends and renewals: it replays the commands of standard input through the library, and writes a line for each that answers.
+#![tactic(auto)]
+
 ghost use Rattle.std.specs.Prelude.{◌≡◌, length};
 
 use replay::{Call, Place};
 use replay_tape::Table;
 
 // How many bytes of each buffer are in use, the number of the flow's first byte and the held place, and whether commands are left.
-#[derive(Drop)]
+#[derive(Clone, Copy)]
 struct Sizes {
     more: bool,
     list: usize,

@@ -1,4 +1,6 @@
 // The program of the vectors for the compiler: it replays the commands of standard input through the library, and writes a line for each that answers.
+#![tactic(auto)]
+
 ghost use Rattle.std.specs.Prelude.{◌≡◌, length};
 
 use feed::{Fed, Opened};
@@ -7,7 +9,7 @@ use feed::{Fed, Opened};
 const LENT: u8 = 165;
 
 // How many bytes of each buffer are in use, and whether commands are left.
-#[derive(Drop)]
+#[derive(Clone, Copy)]
 struct Sizes {
     more: bool,
     text: usize,

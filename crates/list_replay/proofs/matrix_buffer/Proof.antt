@@ -6,5 +6,5 @@ use Rattle.list_replay.proofs.matrix_buffer.Tie as tie
 returns : tie.Need-returns
 returns c = zeros 262400
 
-pub matrix-buffer-spec : {M : Type 1} → statement M
-matrix-buffer-spec = tie.close (tie.spec returns)
+pub matrix_buffer_spec : {M : Type 1} → statement M
+matrix_buffer_spec = tie.close (tie.spec returns)

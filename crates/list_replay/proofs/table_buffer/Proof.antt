@@ -6,5 +6,5 @@ use Rattle.list_replay.proofs.table_buffer.Tie as tie
 returns : tie.Need-returns
 returns c = zeros 1213696
 
-pub table-buffer-spec : {M : Type 1} → statement M
-table-buffer-spec = tie.close (tie.spec returns)
+pub table_buffer_spec : {M : Type 1} → statement M
+table_buffer_spec = tie.close (tie.spec returns)

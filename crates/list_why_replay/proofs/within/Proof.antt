@@ -4,11 +4,11 @@ use Rattle.std.proofs.Common.{arith}
 use Rattle.list_why_replay.proofs.within.Statement.{statement}
 use Rattle.list_why_replay.proofs.within.Tie as tie
 
-returns : tie.Need-returns
+returns : tie.Need-returns-then-n-run
 returns c = prefix_len_of_le _ _ (omega arith)
 
-returns-2 : tie.Need-returns-2
+returns-2 : tie.Need-returns-else-n-run
 returns-2 c = prefix_len_of_le _ _ (omega arith)
 
-pub within-spec : {M : Type 1} → statement M
-within-spec = tie.close (tie.spec returns returns-2)
+pub within_spec : {M : Type 1} → statement M
+within_spec = tie.close (tie.spec returns returns-2)

@@ -6,5 +6,5 @@ use Rattle.machine_certificate_replay.proofs.certificate_buffer.Tie as tie
 returns : tie.Need-returns
 returns c = zeros 104704
 
-pub certificate-buffer-spec : {M : Type 1} → statement M
-certificate-buffer-spec = tie.close (tie.spec returns)
+pub certificate_buffer_spec : {M : Type 1} → statement M
+certificate_buffer_spec = tie.close (tie.spec returns)

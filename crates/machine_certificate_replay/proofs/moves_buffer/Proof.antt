@@ -6,5 +6,5 @@ use Rattle.machine_certificate_replay.proofs.moves_buffer.Tie as tie
 returns : tie.Need-returns
 returns c = zeros 262400
 
-pub moves-buffer-spec : {M : Type 1} → statement M
-moves-buffer-spec = tie.close (tie.spec returns)
+pub moves_buffer_spec : {M : Type 1} → statement M
+moves_buffer_spec = tie.close (tie.spec returns)

@@ -3,35 +3,35 @@ use Rattle.std.proofs.Common.{◌≡◌, ◌-◌, ◌<◌, ◌≤◌, length, ru
 use Rattle.replay_tape.proofs.digest.Statement.{statement}
 use Rattle.replay_tape.proofs.digest.Tie as tie
 
-abbrev invariant-loop : tie.invariant-loop
+abbrev invariant-loop : tie.invariant-loop-i
 invariant-loop b h₀ i₀ i-end h i = (i ≤ i-end) × (i-end ≡ length b) × (h < 4294967291)
 
-abbrev decreases-loop : tie.decreases-loop
+abbrev decreases-loop : tie.decreases-loop-i
 decreases-loop b h₀ i₀ i-end h i = i-end - i
 
-loop-holds : tie.Need-loop-init invariant-loop decreases-loop
+loop-holds : tie.Need-loop-i-init invariant-loop decreases-loop
 loop-holds c = search rules
 
-shared-slice-read-digest-byte : tie.Need-shared-slice-read-digest-byte invariant-loop decreases-loop
+shared-slice-read-digest-byte : tie.Need-bounds-b-i invariant-loop decreases-loop
 shared-slice-read-digest-byte c = search rules
 
-digest-byte-requires : tie.Need-digest-byte-requires invariant-loop decreases-loop
+digest-byte-requires : tie.Need-digest_byte-h-requires invariant-loop decreases-loop
 digest-byte-requires c κs = search rules
 
-add-i : tie.Need-overflow-add-i invariant-loop decreases-loop
+add-i : tie.Need-overflow_step-i invariant-loop decreases-loop
 add-i c = search rules
 
-loop-less : tie.Need-loop-smaller invariant-loop decreases-loop
+loop-less : tie.Need-loop-i-smaller invariant-loop decreases-loop
 loop-less c = search rules
 
-loop-again : tie.Need-loop-preserved invariant-loop decreases-loop
+loop-again : tie.Need-loop-i-preserved invariant-loop decreases-loop
 loop-again c = search rules
 
 returns : tie.Need-returns invariant-loop decreases-loop
 returns c = search rules
 
-pub digest-spec : {M : Type 1} → statement M
-digest-spec =
+pub digest_spec : {M : Type 1} → statement M
+digest_spec =
     tie.close
     (tie.spec
     invariant-loop

@@ -12,16 +12,16 @@ decreases-loop b₀ at₀ counter₀ end b at counter = end - counter
 loop-holds : tie.Need-loop-init invariant-loop decreases-loop
 loop-holds c = search rules
 
-same_length : tie.Need-same-length invariant-loop decreases-loop
+same_length : tie.Need-shape_of-b-then-at-b invariant-loop decreases-loop
 same_length c = search rules
 
-returns : tie.Need-returns invariant-loop decreases-loop
+returns : tie.Need-returns-then-at-b invariant-loop decreases-loop
 returns c = search rules
 
-read-run-requires : tie.Need-read-run-requires invariant-loop decreases-loop
+read-run-requires : tie.Need-read_run-at-requires invariant-loop decreases-loop
 read-run-requires c κs = search rules
 
-add-counter : tie.Need-overflow-add-counter invariant-loop decreases-loop
+add-counter : tie.Need-overflow_step invariant-loop decreases-loop
 add-counter c = search rules
 
 loop-less : tie.Need-loop-smaller invariant-loop decreases-loop
@@ -30,14 +30,14 @@ loop-less c = search rules
 loop-again : tie.Need-loop-preserved invariant-loop decreases-loop
 loop-again c = search rules
 
-same-length-2 : tie.Need-same-length-2 invariant-loop decreases-loop
+same-length-2 : tie.Need-shape_of-b invariant-loop decreases-loop
 same-length-2 c = search rules
 
-returns-2 : tie.Need-returns-2 invariant-loop decreases-loop
+returns-2 : tie.Need-returns invariant-loop decreases-loop
 returns-2 c = search rules
 
-pub read-runs-spec : {M : Type 1} → statement M
-read-runs-spec =
+pub read_runs_spec : {M : Type 1} → statement M
+read_runs_spec =
     tie.close
     (tie.spec
     invariant-loop

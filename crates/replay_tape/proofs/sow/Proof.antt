@@ -3,47 +3,47 @@ use Rattle.std.proofs.Common.{◌≡◌, ◌-◌, ◌≤◌, length, rules}
 use Rattle.replay_tape.proofs.sow.Statement.{statement}
 use Rattle.replay_tape.proofs.sow.Tie as tie
 
-abbrev invariant-loop : tie.invariant-loop
+abbrev invariant-loop : tie.invariant-loop-i
 invariant-loop b₀ seed i₀ i-end b i = (i ≤ i-end) × (i-end ≡ length b) × (length b ≡ length b₀)
 
-abbrev decreases-loop : tie.decreases-loop
+abbrev decreases-loop : tie.decreases-loop-i
 decreases-loop b₀ seed i₀ i-end b i = i-end - i
 
-loop-holds : tie.Need-loop-init invariant-loop decreases-loop
+loop-holds : tie.Need-loop-i-init invariant-loop decreases-loop
 loop-holds c = search rules
 
-mul-b : tie.Need-overflow-mul-b invariant-loop decreases-loop
+mul-b : tie.Need-overflow_mul-b invariant-loop decreases-loop
 mul-b c = search rules
 
-add-b : tie.Need-overflow-add-b invariant-loop decreases-loop
+add-b : tie.Need-overflow_add-b invariant-loop decreases-loop
 add-b c = search rules
 
-add-b-2 : tie.Need-overflow-add-b-2 invariant-loop decreases-loop
+add-b-2 : tie.Need-overflow_add-b-in-loop-i invariant-loop decreases-loop
 add-b-2 c = search rules
 
-cast-b : tie.Need-overflow-cast-b invariant-loop decreases-loop
+cast-b : tie.Need-overflow_cast-b-in-loop-i invariant-loop decreases-loop
 cast-b c = search rules
 
-slice-write-b : tie.Need-slice-write-b invariant-loop decreases-loop
+slice-write-b : tie.Need-bounds-b-i invariant-loop decreases-loop
 slice-write-b c = search rules
 
-add-i : tie.Need-overflow-add-i invariant-loop decreases-loop
+add-i : tie.Need-overflow_step-i invariant-loop decreases-loop
 add-i c = search rules
 
-loop-less : tie.Need-loop-smaller invariant-loop decreases-loop
+loop-less : tie.Need-loop-i-smaller invariant-loop decreases-loop
 loop-less c = search rules
 
-loop-again : tie.Need-loop-preserved invariant-loop decreases-loop
+loop-again : tie.Need-loop-i-preserved invariant-loop decreases-loop
 loop-again c = search rules
 
-same_length : tie.Need-same-length invariant-loop decreases-loop
+same_length : tie.Need-shape_of-b invariant-loop decreases-loop
 same_length c = search rules
 
 returns : tie.Need-returns invariant-loop decreases-loop
 returns c = search rules
 
-pub sow-spec : {M : Type 1} → statement M
-sow-spec =
+pub sow_spec : {M : Type 1} → statement M
+sow_spec =
     tie.close
     (tie.spec
     invariant-loop

@@ -4,11 +4,11 @@ use Rattle.std.proofs.Common.{arith}
 use Rattle.replay_tape.proofs.within_words.Statement.{statement}
 use Rattle.replay_tape.proofs.within_words.Tie as tie
 
-returns : tie.Need-returns
+returns : tie.Need-returns-then-n-out
 returns c = prefix_len_of_le _ _ (omega arith)
 
-returns-2 : tie.Need-returns-2
+returns-2 : tie.Need-returns-else-n-out
 returns-2 c = prefix_len_of_le _ _ (omega arith)
 
-pub within-words-spec : {M : Type 1} → statement M
-within-words-spec = tie.close (tie.spec returns returns-2)
+pub within_words_spec : {M : Type 1} → statement M
+within_words_spec = tie.close (tie.spec returns returns-2)
