@@ -388,10 +388,10 @@ extern "C" {
 #define WATCH_VERSION 20
 
 /* Bytes of stack that a call takes at most, but for one of watch_compile. */
-#define WATCH_MOST_STACK 39232
+#define WATCH_MOST_STACK 39360
 
 /* Bytes of stack that a call of watch_compile takes at most. */
-#define WATCH_COMPILE_STACK 230592
+#define WATCH_COMPILE_STACK 243008
 
 /* States are the numbers below this one. */
 #define WATCH_STATES 1024

@@ -15,10 +15,18 @@ import command  # noqa: E402
 
 FUNCTION = re.compile(r'( *)(pub )?(extern "C" )?fn ')
 BROUGHT = re.compile(r"use \w+::[a-z]\w*;")
+TOGETHER = re.compile(r"^(use \w+::)\{([^}]*)\};\n", re.M)
+
+
+def types_alone(brought):
+    """A `use` of several names without those of functions."""
+    names = [name.strip() for name in brought[2].split(",") if name.strip() and not name.strip()[0].islower()]
+    return "%s{%s};\n" % (brought[1], ", ".join(names)) if names else ""
 
 
 def without_functions(text):
     """The source without its functions. In the layout of `rt fmt` one ends with a brace as far in as it begins."""
+    text = TOGETHER.sub(types_alone, text)
     kept, held, end = [], [], None
     for line in text.split("\n"):
         found = FUNCTION.match(line)

@@ -72,57 +72,84 @@ need_compiler() {
 # A crate and all that it stands on, in the order in which rt proves them.
 in_order() {
     awk -v wanted="$1" '
-        function visit(name,    words, many, k, deep) {
-            if (name in level) return
+        function visit(name,    words, many, k) {
+            if (name in seen) return
+            seen[name] = 1
             many = split(needs[name], words, " ")
-            deep = 0
             for (k = 1; k <= many; k++)
-                if (words[k] in needs) {
-                    visit(words[k])
-                    if (level[words[k]] >= deep) deep = level[words[k]] + 1
-                }
-            level[name] = deep
-            print deep ":" name
+                if (words[k] in needs) visit(words[k])
+            print name
         }
         { sub(/#.*/, "") }
         index($0, ":") {
-            name = substr($0, 1, index($0, ":") - 1)
-            gsub(/[ \t]/, "", name)
-            needs[name] = substr($0, index($0, ":") + 1)
+            split(substr($0, 1, index($0, ":") - 1), head, " ")
+            needs[head[1]] = substr($0, index($0, ":") + 1)
         }
-        END { visit(wanted) }' "$root/crates.txt" | sort -s -t: -n -k1,1 | cut -d: -f2
+        END { visit(wanted) }' "$root/crates.txt"
 }
 
-# steps NAME..: says which crate is proved now, by what rt writes, which goes to the log.
+# step NAME: says that this crate is proved now, where it is one of `names` and was not said last.
+step() {
+    case $names in *" $1 "*) [ "$1" != "$said" ] || return 0 ;; *) return 0 ;; esac
+    said=$1 at=0
+    for one in $names; do
+        at=$((at + 1))
+        [ "$one" != "$1" ] || break
+    done
+    say "proving $at of $many: $1"
+}
+
+# steps NAME..: says which crate is proved now, by what rt writes, which goes to the log. Of a crate that was proved
+# before rt writes nothing; then the next one of which it writes is said.
 steps() {
-    many=$# at=1
-    say "proving 1 of $many: $1"
+    names=" $* " many=$# said='' crate=''
+    step "$1"
     while IFS= read -r line; do
         case $line in
         "rt ended with "*) return "${line#rt ended with }" ;;
-        "rt: "*" proved ("*)
-            shift
-            at=$((at + 1))
-            [ $# -eq 0 ] || say "proving $at of $many: $1"
+        "fn "*::* | "struct "*::* | "enum "*::*)
+            crate=${line#* }
+            step "${crate%%::*}"
             ;;
-        "rt: "*" NOT PROVED"*) say "${line#rt: }" ;;
+        "crate "*": modules "*)
+            crate=${line#crate }
+            crate=${crate%%:*}
+            step "$crate"
+            ;;
+        "logic=proved "*)
+            after=${names#*" $crate "}
+            [ "$after" = "$names" ] || step "${after%% *}"
+            ;;
+        "logic=not-proved"*) say "$crate NOT PROVED" ;;
+        "rt: the library "*" did not build,"*) say "${line#rt: }" ;;
         esac
         printf '%s\n' "$line" >&3
     done 3>"$log"
     return 2
 }
 
-# prove CRATE WORDS..: has the kit do these words, with which it proves the crate and what that stands on. Says a
-# line for each step, and where it fails the name of the log that has the prover's text.
+# made CRATE VERB FILE: has rt do this in the crate's folder; the status is 0 where it makes out/FILE. Under run that is
+# the program, which rt then runs too, without words and input: how that ends says nothing.
+made() {
+    cd "$root/crates/$1" && rm -f "out/$3" "out/$3.stamp" || return 2
+    rt "$2" </dev/null 2>&1 || [ "$2" = run ] || return
+    [ -f "out/$3" ]
+}
+
+# prove CRATE lib|run FILE PLACE: has the kit prove the crate and what that stands on, and make of it the archive or the
+# program out/FILE, which is put at its place. Says a line for each step, and where it fails the name of the log that has
+# the prover's text.
 prove() {
     log=$root/target/log/$me.prover
-    mkdir -p "$root/target/log"
-    names=$(in_order "$1")
-    shift
-    # shellcheck disable=SC2086
-    { (cd "$root" && rt "$@" </dev/null 2>&1); echo "rt ended with $?"; } | steps $names ||
+    mkdir -p "$root/target/log" "$(dirname "$root/$4")"
+    # shellcheck disable=SC2046
+    { (made "$1" "$2" "$3"); echo "rt ended with $?"; } | steps $(in_order "$1") &&
+        cp "$root/crates/$1/out/$3" "$root/$4.$$" && mv -f "$root/$4.$$" "$root/$4" ||
         stop 2 "not proved and built; the prover's text is in $log"
 }
+
+# prove_program NAME: the same of a program, which is target/bin/NAME then.
+prove_program() { prove "$1" run "$1" "target/bin/$1"; }
 
 # Whether this is an installed package and no repository: there all is built.
 packaged() { [ ! -e "$root/crates.txt" ]; }
