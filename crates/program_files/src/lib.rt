@@ -8,9 +8,9 @@ ghost use Rattle.io.specs.Counts.{IsPrefixLen};
 use std::fs::File;
 
 // Standard output and standard error.
-pub const OUT: i32 = 1;
+pub const OUT: i32 = program_system::OUT;
 
-pub const SAYS: i32 = 2;
+pub const SAYS: i32 = program_system::SAYS;
 
 // The most bytes of a file of texts.
 pub const MOST_TEXTS: usize = 1048576;

@@ -128,7 +128,7 @@ pub fn sync_where_file(file: &File) -> Result<(), Error> {
     }
 }
 
-// Gives a file another name; says whether that was done.
+// Gives a file another name.
 pub fn rename(rt: &HostRuntime, from: &[u8], to: &[u8]) -> Result<(), Error> {
     fs::rename(rt, text_of(from)?, text_of(to)?)
 }
@@ -152,9 +152,7 @@ fn put_text(text: &[u8], bytes: &mut [u8]) -> usize
     if bytes.len() < text.len() {
         return 0;
     }
-    for i in 0..text.len() {
-        bytes[i] = text[i];
-    }
+    bytes[..text.len()].copy_from_slice(text);
     text.len()
 }
 

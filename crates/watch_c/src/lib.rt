@@ -1,4 +1,5 @@
 // The C face: the library's twenty-nine functions under names of their own, over numbers and slices, and the face's version. Nothing else is here.
+// The archive's exports, in watch_archive_c, hand on to them.
 #![tactic(auto)]
 
 ghost use Rattle.std.specs.Prelude.{◌≡◌, ◌≤◌, length};
