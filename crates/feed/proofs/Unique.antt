@@ -1,17 +1,17 @@
 -- Each promise of the public functions determines the outcome: two outcomes that meet it are equal. Assumes nothing.
-use mathlib.Core.Path.{◌≡◌, sym, ap, ◌∙◌}
+use mathlib.Core.Path.{◌≡◌, refl, sym, ap, ◌∙◌}
 use mathlib.Core.List.{List}
-use mathlib.Core.Bool.{Bool, cond}
-use Prim.Native.Nat.{ℕ, ◌+◌, ◌*◌}
+use mathlib.Core.Bool.{Bool, false≢true}
+use Prim.Native.Nat.{ℕ}
 use Rattle.numbers.specs.Number.{placed}
-use Rattle.sets.specs.Set.{signatures, size, members}
+use Rattle.sets.specs.Set.{signatures, members}
 use Rattle.rules.specs.Rules.{verdict}
 use Rattle.feed.specs.declared.Fed.{Fed}
 use Rattle.feed.specs.Engine.{Outcome, pairs_at}
 use Rattle.feed.specs.Piece.{piece_rules}
 use Rattle.feed.specs.inner.Tells.{Unfed, Ends}
 use Rattle.feed.specs.inner.Told.{TellsAll}
-use Rattle.feed.specs.declared.Told.{Told}
+use Rattle.std.specs.Prelude.{Option, Some, None}
 use Rattle.feed.specs.Fed.{Answers}
 use Rattle.feed.specs.Opening.{Opening, Opens}
 use Rattle.feed.specs.declared.Opened.{Opened}
@@ -64,10 +64,8 @@ pub unique-ended : (n i w len : ℕ) (f g : Fed) → Ends n i w len f → Ends n
 unique-ended n i w len f g a b = fed-one f g (a.refusal ∙ sym b.refusal) (a.bytes ∙ sym b.bytes) (a.pairs ∙ sym b.pairs) (a.all ∙ sym b.all)
 
 -- telling all or nothing leaves one answer and one list of words
-pub unique-tell-all : (G : ℕ) (out : List ℕ) (w k : ℕ) (t s : Told) (left end : List ℕ) → TellsAll G out w k t left → TellsAll G out w k s end → (t ≡ s) × (left ≡ end)
-unique-tell-all G out w k t s left end a b =
-    let f = a.fits ∙ sym b.fits in (
-      ap {B = Told} (λ (x : Bool). record { fits = x; words = t.words }) f
-          ∙ ap {B = Told} (λ (x : ℕ). record { fits = s.fits; words = x }) (a.words ∙ ap (λ (x : Bool). cond x (w + 2 * size signatures G) w) f ∙ sym b.words),
-      a.wrote ∙ ap (λ (x : Bool). cond x (placed out w (pairs_at k (members signatures G))) out) f ∙ sym b.wrote,
-    )
+pub unique-tell-all : (G : ℕ) (out : List ℕ) (w k : ℕ) (t s : Option ℕ) (left end : List ℕ) → TellsAll G out w k t left → TellsAll G out w k s end → (t ≡ s) × (left ≡ end)
+unique-tell-all G out w k None None left end a b = (refl, a.wrote ∙ sym b.wrote)
+unique-tell-all G out w k (Some n) (Some m) left end a b = (ap {B = Option ℕ} (λ (x : ℕ). Some x) (a.words ∙ sym b.words), a.wrote ∙ sym b.wrote)
+unique-tell-all G out w k None (Some m) left end a b = absurd (false≢true (a.fits ∙ sym b.fits))
+unique-tell-all G out w k (Some n) None left end a b = absurd (false≢true (b.fits ∙ sym a.fits))

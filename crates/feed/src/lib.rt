@@ -15,6 +15,7 @@ use sets::SigSet;
 pub const MOST_OFFSET: u64 = 4294967295;
 
 // What a feed answers: a refusal's number or 0, the bytes consumed, the pairs told, and whether all bytes were consumed.
+// C's struct has `all`, too; bytes and pairs hold either way.
 #[derive(Clone, Copy)]
 pub struct Fed {
     pub refusal: u32,
@@ -30,19 +31,12 @@ pub struct Opened {
     pub pairs: usize,
 }
 
-// What telling a byte's pairs leaves: whether they all fit, and how many words are written.
-#[derive(Clone, Copy)]
-pub struct Told {
-    pub fits: bool,
-    pub words: usize,
-}
-
 // The answer of a feed that a rule refuses.
 pub fn refused(refusal: u32) -> Fed
     ensures { Unfed refusal result }
 {
     Fed {
-        refusal: refusal,
+        refusal,
         bytes: 0,
         pairs: 0,
         all: false,
@@ -54,8 +48,8 @@ pub fn ended(refusal: u32, bytes: usize, words: usize, len: usize) -> Fed
     ensures { Ends refusal bytes words len result }
 {
     Fed {
-        refusal: refusal,
-        bytes: bytes,
+        refusal,
+        bytes,
         pairs: words / 2,
         all: bytes == len,
     }
@@ -81,10 +75,10 @@ pub fn piece_refusal(offset: u64, start: u64, piece: &[u8]) -> u32
     requires { offset ≤ most_offset }
     ensures { result ≡ verdict (piece_rules offset start piece.now) }
 {
-    if start != offset {
+    if other_start(offset, start) {
         return rules::OTHER_START;
     }
-    if piece.len() as u64 > MOST_OFFSET - offset {
+    if too_long(offset, piece) {
         return rules::TOO_LONG;
     }
     rules::PASSED
@@ -104,7 +98,7 @@ fn tell_one(pairs: &mut [u32], w: usize, bit: u64, s: usize, offset: u32) -> usi
     w
 }
 
-// Writes signature and offset for each bit of a word that is 1, from word `at` on; its lowest bit is signature `base`. Each is found by the zeros below it. Answers the word after.
+// Writes signature and offset for each bit of a word that is 1, from word `at` on; its lowest bit is signature `base`. Each is found by the zeros below it: so the loop goes by the bits that are left. Answers the word after.
 fn tell_word(pairs: &mut [u32], at: usize, word: u64, base: usize, offset: u32) -> usize
     requires { (word * 2 ^ base < 2 ^ signatures) × (at + 2 * size signatures (word * 2 ^ base) ≤ length pairs.old) }
     ensures { Tells (word * 2 ^ base) pairs.old at offset result pairs.new }
@@ -146,20 +140,14 @@ fn has_room(pairs: &[u32], words: usize, g: SigSet) -> bool
     g.count() as usize <= room
 }
 
-// Tells a set of signatures behind the words that are written: all of it, or nothing where it does not fit.
-pub fn tell_all(pairs: &mut [u32], words: usize, g: SigSet, offset: u32) -> Told
+// Tells a set of signatures behind the words that are written: all of it, and answers the word after; or nothing, where it does not fit.
+pub fn tell_all(pairs: &mut [u32], words: usize, g: SigSet, offset: u32) -> Option<usize>
     requires { words ≤ length pairs.old }
     ensures { TellsAll (sigs_of g) pairs.old words offset result pairs.new }
 {
     if has_room(pairs, words, g) {
         let end = tell(pairs, words, g, offset);
-        return Told {
-            fits: true,
-            words: end,
-        };
+        return Some(end);
     }
-    Told {
-        fits: false,
-        words: words,
-    }
+    None
 }

@@ -8,6 +8,8 @@ use native.Mathlib.Nat.{lt_of_not-le}
 use native.Mathlib.Decide.{dec_lt}
 use lib.Dec.{ltb, eqb}
 use borrow.Author.Tests.{ltb-true, ltb-false, lt-ltb, le-ltb, ne_eqb, eqb-true}
+use Rattle.std.proofs.Common.{Some, None}
+use Rattle.std.specs.declared.cmp.Ordering.TheVariants.{Less, Equal}
 use Rattle.numbers.specs.Number.{before, compare}
 use Rattle.sets.specs.Set.{set_bytes}
 use Rattle.numbers.proofs.Laws.{Small}
@@ -16,7 +18,7 @@ use Rattle.rules.specs.Scan.{every}
 use Rattle.rules.proofs.Scanning.{below_suc, choose, some-none, first-none}
 use Rattle.table.specs.Table.{split_count, split_set, split_of, in_order}
 use Rattle.table.proofs.Halving.{splits-rise, between-found}
-use Rattle.index.specs.Stand.{halved, sought_of}
+use Rattle.index.specs.Stand.{halved, sought_of, found_of}
 
 -- the set of the middle split is F; it comes before F
 abbrev pub here : List ℕ → ℕ → ℕ → ℕ → Bool
@@ -48,11 +50,11 @@ halved-end S F (suc n) lo hi l = rw (le-ltb lo hi l)
 -- ---- what a comparison says of it
 
 module _ (S : List ℕ) (F lo hi : ℕ) where
-  pub other-here : (compare (set_bytes (split_set S ((lo + hi) / 2))) (set_bytes F) ≡ 0 → ⊥) → here S F lo hi ≡ false
+  pub other-here : (compare (set_bytes (split_set S ((lo + hi) / 2))) (set_bytes F) ≡ Equal → ⊥) → here S F lo hi ≡ false
   unfolding compare
   other-here n = ne_eqb (split_set S ((lo + hi) / 2)) F (λ q. n (rw (q, before-irrefl (set_bytes F))))
 
-  pub not-less : (compare (set_bytes (split_set S ((lo + hi) / 2))) (set_bytes F) ≡ 1 → ⊥) → less S F lo hi ≡ false
+  pub not-less : (compare (set_bytes (split_set S ((lo + hi) / 2))) (set_bytes F) ≡ Less → ⊥) → less S F lo hi ≡ false
   unfolding compare
   not-less n = go (less S F lo hi) refl
     where
@@ -98,6 +100,13 @@ module _ (S : List ℕ) (F lo hi : ℕ) (k : Seeking S F lo hi) where
   -- at its end there is none
   pub seeking-none : hi ≤ lo → split_count S ≡ sought_of S F
   seeking-none e = sym (k.rest ∙ halved-end S F k.left lo hi e)
+
+-- what is found, where there is one
+pub found-some : (S : List ℕ) (F i : ℕ) → i < split_count S → i ≡ sought_of S F → Some i ≡ found_of S F
+found-some S F i l e = rw (← e, lt-ltb i (split_count S) l)
+
+pub found-none : (S : List ℕ) (F : ℕ) → split_count S ≡ sought_of S F → None ≡ found_of S F
+found-none S F e = rw (← e, le-ltb (split_count S) (split_count S) (omega arith))
 
 -- ---- on splits in order
 

@@ -1,5 +1,5 @@
 -- The feed by places: it stands at a place of an index, and each byte leads to the place that its word names. A call is handed the number of a split, which may be the one where the flow stands. What a call answers and leaves.
-use Rattle.std.specs.Prelude.{ℕ, zero, suc, ◌+◌, ◌/◌, Bool, ◌&&◌, not, cond, List, [], ◌∷◌, ◌++◌, take, leb, ltb, eqb}
+use Rattle.std.specs.Prelude.{ℕ, zero, suc, ◌+◌, ◌/◌, ◌<◌, Option, None, Some, length, Bool, ◌&&◌, not, cond, List, [], ◌∷◌, ◌++◌, take, leb, ltb, eqb}
 use Rattle.numbers.specs.Number.{before}
 use Rattle.sets.specs.Set.{set_bytes}
 use Rattle.rules.specs.Rules.{Rule, verdict}
@@ -23,6 +23,20 @@ halved S F (suc n) lo hi =
 -- the split that all halvings give; the number of splits where they give none. On splits in order it is the first with set F
 unfoldable pub sought_of : List ℕ → ℕ → ℕ
 sought_of S F = halved S F (split_count S) 0 (split_count S)
+
+-- the same, where they give one
+abbrev pub found_of : List ℕ → ℕ → Option ℕ
+found_of S F = cond (ltb (sought_of S F) (split_count S)) (Some (sought_of S F)) None
+
+-- the place of the entry of a split, where there is one; else behind the last entry
+abbrev pub place_from : List ℕ → Option ℕ → ℕ
+place_from X None = length X
+place_from X (Some i) = entry_place i
+
+-- and whole it is there
+abbrev pub IsEntry : List ℕ → Option ℕ → Type 0
+IsEntry X None = Unit {0}
+IsEntry X (Some i) = entry_place i < limit X
 
 -- ---- the hint
 

@@ -5,9 +5,10 @@ ghost use Rattle.std.specs.Prelude.{◌≡◌, ◌≤◌, ◌<◌};
 ghost use Rattle.sets.specs.Set.{set_of};
 ghost use Rattle.table.specs.Table.{most_splits, split_count};
 ghost use Rattle.index.specs.Entry.{entry_place, telling, known_in, wrong_index, bad_index};
-ghost use Rattle.index.specs.Stand.{sought_of};
+ghost use Rattle.index.specs.Stand.{found_of};
 
 use sets::StateSet;
+use std::cmp::Ordering;
 
 // The places of the signatures, of the cost and of the flag in an entry, and the bytes of an entry.
 pub const SIGS_PLACE: usize = 4 * table::BYTE_VALUES;
@@ -58,27 +59,22 @@ pub fn known(index: &[u8], f: StateSet) -> bool
         return true;
     }
     let named = StateSet::from_bytes(index, 0);
-    f.union(named).same(named)
+    named.covers(f)
 }
 
-// The split whose set is f, sought by halving; the number of splits where it is not found.
-pub fn find(splits: &[u8], f: StateSet) -> usize
-    ensures { result ≡ sought_of splits.now (set_of f) }
+// The split whose set is f, sought by halving: by hand, since the definition is this search, on splits in any order.
+pub fn find(splits: &[u8], f: StateSet) -> Option<usize>
+    ensures { result ≡ found_of splits.now (set_of f) }
 {
-    let n = table::split_count(splits);
     let mut lo = 0;
-    let mut hi = n;
+    let mut hi = table::split_count(splits);
     while lo < hi {
         let mid = (lo + hi) / 2;
-        let met = f.compare_whole(splits, table::SPLIT_SIZE * mid);
-        if met == numbers::SAME {
-            return mid;
-        }
-        if met == numbers::BEFORE {
-            lo = mid + 1;
-        } else {
-            hi = mid;
+        match f.compare_whole(splits, table::SPLIT_SIZE * mid) {
+            Ordering::Equal => return Some(mid),
+            Ordering::Less => lo = mid + 1,
+            Ordering::Greater => hi = mid,
         }
     }
-    n
+    None
 }

@@ -1,11 +1,19 @@
 -- The first byte met, and the hull of the bytes that leave. Assumes nothing.
 use Rattle.std.proofs.Common.{◌≡◌, ℕ, zero, suc, ◌+◌, ◌-◌, ◌%◌, ◌<◌, ◌≤◌, Bool, true, false, cond, not, ◌||◌, eqb, ltb, ◌⊎◌, List, sym, refl, ap, ◌∙◌, inl, inr, arith, ltb-false, ltb-true, eqb-true, leb-false}
+use Prim.Native.Nat.{min}
 use mathlib.Core.Bool.{false≢true}
 use Rattle.rules.proofs.Scanning.{below_suc, choose}
 use Rattle.index_blocks.specs.inner.Ranges.{block_size, none, inside, hot, least, met}
 use Rattle.index_blocks.specs.Block.{word_at}
 
 -- ---- least
+
+pub least-min : (x y r : ℕ) → r ≡ min x y → r ≡ least x y
+least-min x y r h = go (ltb x y) refl
+  where
+    go : (b : Bool) → ltb x y ≡ b → r ≡ cond b x y
+    go true e = omega (arith, h, ltb-true x y e)
+    go false e = omega (arith, h, ltb-false x y e)
 
 pub least-left : (x y : ℕ) → least x y ≤ x
 least-left x y = go (ltb x y) refl

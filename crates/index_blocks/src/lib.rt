@@ -2,14 +2,14 @@
 #![tactic(auto)]
 
 ghost use Rattle.std.specs.Prelude.{◌≡◌, ℕ, ◌+◌, ◌<◌, ◌≤◌, false, ◌⊎◌, length, if◌then◌else◌, slice_index};
-ghost use Rattle.index_blocks.specs.inner.Ranges.{block_size, above, inside, hot, least, met};
+ghost use Rattle.index_blocks.specs.inner.Ranges.{block_size, above, inside, hot, first_met};
 ghost use Rattle.index_blocks.specs.Block.{word4, word_at};
 
 // Bytes in a block.
 pub const BLOCK: usize = 32;
 
-// Where no byte of a block lies in the ranges.
-pub const NONE: u8 = 255;
+// Past the places of a block: where no byte of it lies in the ranges.
+const NONE: u8 = 255;
 
 // Two ranges of bytes: where each begins, and how many more bytes it has.
 #[derive(Clone, Copy)]
@@ -31,7 +31,7 @@ struct Hull {
 fn past(low: u8, x: u8) -> u8
     ensures { result ≡ above low x }
 {
-    std::num::wrapping_sub_u8(x, low)
+    x.wrapping_sub(low)
 }
 
 // Says whether x is one of the bytes from low on, so many more.
@@ -41,28 +41,17 @@ fn in_range(low: u8, more: u8, x: u8) -> bool
     past(low, x) <= more
 }
 
-fn lesser(x: u8, y: u8) -> u8
-    ensures { result ≡ least x y }
-{
-    if x < y { x } else { y }
-}
-
-fn larger(x: u8, y: u8) -> u8
-    ensures { (x ≤ result) × (y ≤ result) }
-{
-    if x < y { y } else { x }
-}
-
+// Written out: in the loops below it is one instruction.
 fn choose(hit: bool, x: u8, y: u8) -> u8
     ensures { result ≡ (if hit then x else y) }
 {
     if hit { x } else { y }
 }
 
-// Where the first byte of a block lies in the ranges; 255 where none does.
-pub fn first_in(piece: &[u8], at: usize, r: Ranges) -> u8
+// Where the first byte of a block lies that is in the ranges. It goes on behind one that is, so that the compiler tests all of them at once.
+pub fn first_in(piece: &[u8], at: usize, r: Ranges) -> Option<u8>
     requires { at + block_size ≤ length piece.now }
-    ensures { result ≡ met block_size (λ j. hot r.low r.lows r.high r.highs (slice_index piece.now (at + j))) }
+    ensures { result ≡ first_met block_size (λ j. hot r.low r.lows r.high r.highs (slice_index piece.now (at + j))) }
 {
     let a = r.low;
     let m = r.lows;
@@ -72,15 +61,9 @@ pub fn first_in(piece: &[u8], at: usize, r: Ranges) -> u8
     for i in 0..BLOCK {
         let x = piece[at + i];
         let hit = in_range(a, m, x) | in_range(b, n, x);
-        f = lesser(f, choose(hit, i as u8, NONE));
+        f = f.min(choose(hit, i as u8, NONE));
     }
-    f
-}
-
-fn wide(x: u8) -> u32
-    ensures { (result ≡ x) × (result < 256) }
-{
-    x as u32
+    if f == NONE { None } else { Some(f) }
 }
 
 // The number in four bytes.
@@ -88,11 +71,7 @@ fn word_of(index: &[u8], at: usize) -> u32
     requires { at + 4 ≤ length index.now }
     ensures { result ≡ word4 index.now at }
 {
-    let a = wide(index[at]);
-    let b = wide(index[at + 1]);
-    let c = wide(index[at + 2]);
-    let d = wide(index[at + 3]);
-    a + 256 * b + 65536 * c + 16777216 * d
+    u32::from_le_bytes([index[at], index[at + 1], index[at + 2], index[at + 3]])
 }
 
 // The lowest and the highest of the bytes from `from` to `to` whose word at a place is not w; 255 and 0 where there is none.
@@ -104,20 +83,17 @@ fn hull_of(index: &[u8], place: usize, w: u32, from: usize, to: usize) -> Hull
     let mut high = 0u8;
     for i in from..to {
         let leaves = word_of(index, place + 4 * i) != w;
-        low = lesser(low, choose(leaves, i as u8, NONE));
-        high = larger(high, choose(leaves, i as u8, 0));
+        low = low.min(choose(leaves, i as u8, NONE));
+        high = high.max(choose(leaves, i as u8, 0));
     }
-    Hull {
-        low: low,
-        high: high,
-    }
+    Hull { low, high }
 }
 
 // How many bytes more a hull has than its lowest.
 fn more_of(h: Hull) -> u8
     ensures { (c : ℕ) → h.low ≤ c → c ≤ h.high → c ≤ h.low + result }
 {
-    if h.high < h.low { 0 } else { h.high - h.low }
+    h.high.saturating_sub(h.low)
 }
 
 // Two ranges in which each byte lies whose word at a place is not w: one for the bytes below 64, one for the others.

@@ -5,8 +5,9 @@ use mathlib.Core.Bool.{Bool, true, false, ◌&&◌, ◌||◌, not, cond}
 use mathlib.Core.List.{List}
 use native.Mathlib.Omega.{arith}
 use lib.ListN.{length}
+use Rattle.std.proofs.Common.{Option, Some, None}
 use lib.Dec.{leb, ltb, eqb}
-use borrow.Author.Tests.{ne_eqb, eqb-true, eqb-false, ltb-true, not-false}
+use borrow.Author.Tests.{ne_eqb, eqb-true, eqb-false, ltb-true, ltb-false, not-false}
 use Rattle.numbers.specs.Number.{before}
 use Rattle.sets.specs.Set.{set_size, set_bytes}
 use Rattle.rules.specs.Rules.{verdict}
@@ -20,11 +21,11 @@ use Rattle.feed.proofs.Looping.{answers-fed}
 use Rattle.list_flow.specs.Flow.{frontier_of, offset_of, rows_of, flow_bytes}
 use Rattle.table.specs.Table.{most_splits, split_size, split_count, split_set, bad_count}
 use Rattle.index.specs.Entry.{entry_size, entry_place, limit, split_at, wrong_index, bad_index}
-use Rattle.index.proofs.Sizes.{lists-said}
+use Rattle.index.proofs.Sizes.{Lists-good, lists-said, entry-there}
 use Rattle.index.proofs.Hints.{holds-said}
-use Rattle.index.specs.Stand.{halved, sought_of, holds_at, began, stand_of, stands_at, indexed, stand_layout, stand_rules, stand_feed, stood_at}
+use Rattle.index.specs.Stand.{halved, sought_of, found_of, place_from, IsEntry, holds_at, began, stand_of, stands_at, indexed, stand_layout, stand_rules, stand_feed, stood_at}
 use Rattle.index_turns.specs.declared.Stands.{Stands}
-use Rattle.index_turns.specs.inner.Goes.{Strides}
+use Rattle.index_turns.specs.inner.Goes.{Strode}
 
 -- ---- where a call begins: at most behind the last split
 
@@ -40,18 +41,30 @@ halved-most S F (suc n) lo hi h = go (λ x y q. halved-most S F n x y q) (ltb lo
     go ih true e false true = ih ((lo + hi) / 2 + 1) hi h
     go ih true e false false = ih lo ((lo + hi) / 2) (omega (arith, ltb-true lo hi e))
 
-pub began-most : (S X : List ℕ) (h F : ℕ) → began S X h F ≤ split_count S
-unfolding began sought_of
-began-most S X h F = go (holds_at S X h F) refl
-  where
-    go : (t : Bool) → holds_at S X h F ≡ t → cond t h (halved S F (split_count S) 0 (split_count S)) ≤ split_count S
-    go true e = omega (arith, (holds-said S X h F e).1)
-    go false e = halved-most S F (split_count S) 0 (split_count S) (omega arith)
+sought-most : (S : List ℕ) (F : ℕ) → sought_of S F ≤ split_count S
+unfolding sought_of
+sought-most S F = halved-most S F (split_count S) 0 (split_count S) (omega arith)
 
--- it begins where the code does
-pub begins : (S X : List ℕ) (h F : ℕ) (held : Bool) (first : ℕ) → held ≡ holds_at S X h F → first ≡ cond held h (sought_of S F) → first ≡ began S X h F
+-- it begins where the code does, and a whole entry is there, where the code has a split
+pub begins : (S X : List ℕ) (h F : ℕ) (held : Bool) (first : Option ℕ) → held ≡ holds_at S X h F → first ≡ cond held (Some h) (found_of S F) → bad_index S X ≡ false
+    → (place_from X first ≡ entry_place (began S X h F)) × IsEntry X first
 unfolding began
-begins S X h F held first e q = rw (← e) q
+begins S X h F held first e q b = rw (q, e) (go (holds_at S X h F) refl)
+  where
+    g : Lists-good S X
+    g = lists-said S X b
+
+    seek : (t : Bool) → ltb (sought_of S F) (split_count S) ≡ t
+        → (place_from X (cond t (Some (sought_of S F)) None) ≡ entry_place (sought_of S F)) × IsEntry X (cond t (Some (sought_of S F)) None)
+    seek true z = (refl, entry-there S X g (sought_of S F) (ltb-true (sought_of S F) (split_count S) z))
+    seek false z =
+        let m = sought-most S F in
+        let n = ltb-false (sought_of S F) (split_count S) z in
+        (g.long ∙ ap entry_place (let y : split_count S ≡ sought_of S F = omega (arith, m, n) in y), tt)
+
+    go : (t : Bool) → holds_at S X h F ≡ t → (place_from X (cond t (Some h) (found_of S F)) ≡ entry_place (cond t h (sought_of S F))) × IsEntry X (cond t (Some h) (found_of S F))
+    go true z = (refl, entry-there S X g h (holds-said S X h F z).1)
+    go false z = seek (ltb (sought_of S F) (split_count S)) refl
 
 -- where rule 8 does not refuse, there is a split, so that the index has an entry
 pub some-entry : (S X : List ℕ) → bad_index S X ≡ false → entry_size ≤ length X
@@ -74,10 +87,10 @@ pub at_place : (S X : List ℕ) (n p i : ℕ) → n ≡ split_count S → i ≡ 
 unfolding split_at
 at_place S X n p i e q = q ∙ ap (λ (m : ℕ). cond (ltb p (limit X)) ((p - set_size) / entry_size) m) e
 
-module _ (S X : List ℕ) (h : ℕ) (R : List ℕ) (at : ℕ) (piece out₀ : List ℕ) (q : at ≡ offset_of R) (first : ℕ) (e : first ≡ began S X h (frontier_of R)) (r : Stands) (out : List ℕ)
-    (s₀ : Strides X piece at 0 (entry_place first) out₀ 0 (length piece) r out) where
+module _ (S X : List ℕ) (h : ℕ) (R : List ℕ) (at : ℕ) (piece out₀ : List ℕ) (q : at ≡ offset_of R) (first : ℕ) (e : first ≡ began S X h (frontier_of R)) (b : Bool) (r : Stands) (out : List ℕ)
+    (s₀ : Strode X piece at 0 (entry_place first) out₀ 0 (length piece) b r out) where
   -- the run began at the flow's offset
-  s : Strides X piece (offset_of R) 0 (entry_place first) out₀ 0 (length piece) r out
+  s : Strode X piece (offset_of R) 0 (entry_place first) out₀ 0 (length piece) b r out
   s = rw q at s₀
 
   -- the loop's end, from where the call begins
@@ -90,9 +103,9 @@ module _ (S X : List ℕ) (h : ℕ) (R : List ℕ) (at : ℕ) (piece out₀ : Li
 
   -- it stops where the definition does
   pub longest : consumed (indexed S X) (stand_of S X h (frontier_of R)) (room out₀) piece ≡ r.bytes
-  longest = go r.on refl
+  longest = go b refl
     where
-      go : (b : Bool) → r.on ≡ b → consumed (indexed S X) (stand_of S X h (frontier_of R)) (room out₀) piece ≡ r.bytes
+      go : (t : Bool) → b ≡ t → consumed (indexed S X) (stand_of S X h (frontier_of R)) (room out₀) piece ≡ r.bytes
       go true q = finish going (s.on q).1
       go false q = (s.off q).ends S (frontier_of R) (stand_of S X h (frontier_of R)) out₀ r.rows going
 

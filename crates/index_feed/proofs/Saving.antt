@@ -1,18 +1,18 @@
 -- The frontier of a record in place: compared with a set byte by byte, left as it is, and written over. Assumes nothing.
-use Prim.Native.Nat.{ℕ, suc, ◌+◌, ◌≤◌, ◌<◌}
+use Prim.Native.Nat.{ℕ, ◌+◌, ◌≤◌, ◌<◌}
 use mathlib.Core.Path.{◌≡◌, refl, sym, ap, ◌∙◌}
 use mathlib.Core.Bool.{Bool, true, false, ◌&&◌, not, cond}
-use mathlib.Core.List.{List, [], ◌∷◌, ◌++◌}
+use mathlib.Core.List.{List, ◌++◌}
 use native.Mathlib.Omega.{arith}
-use lib.ListN.{length, get_or, set, take, drop, length-append, length-drop, take-append-drop}
-use lib.Seq.{take-suc, get_or-take, get_or-drop, drop_at, length-take-le, ext_get_or}
+use lib.ListN.{length, get_or, take, drop, length-append, length-drop, take-append-drop}
+use lib.Seq.{get_or-take, get_or-drop, drop_at, length-take-le, ext_get_or}
 use lib.Dec.{eqb}
 use borrow.Author.Tests.{eq-eqb, ne_eqb, eqb-true}
 use Rattle.numbers.specs.Number.{num, digits, placed}
-use Rattle.sets.specs.Set.{set_size, set_bytes, bytes_at, set_at}
+use Rattle.sets.specs.Set.{set_size, set_bytes, bytes_at, set_at, read_at}
 use Rattle.numbers.proofs.Laws.{Small, small-take, small-drop, num-inj, length_digits}
 use Rattle.sets.proofs.Words.{Alike}
-use Rattle.numbers.proofs.Placing.{placed-fits, placed_one}
+use Rattle.numbers.proofs.Placing.{placed-fits}
 use Rattle.rules.specs.Rules.{verdict}
 use Rattle.rules.proofs.Rules.{stop}
 use Rattle.list_flow.specs.Flow.{flow_size, frontier_of, flow_bytes, bad_flow}
@@ -39,7 +39,7 @@ module _ (S R : List ℕ) (at : ℕ) (hs : Small 8 S) (hr : Small 8 R) (l : at +
   front j k = let z : 0 + j ≡ j = omega arith in rw z at (byte-of R 0 j k)
 
   pub set-alike : (all : Bool) → Alike (λ j. get_or S (at + j) 0) (λ j. get_or R j 0) set_size all → all ≡ eqb (set_at S at) (set_at R 0)
-  unfolding set_at
+  unfolding read_at
   set-alike true h =
       sym (eq-eqb (num 8 (bytes_at S at)) (num 8 (bytes_at R 0)) (ap (num 8) (ext_get_or 0 (bytes_at S at) (bytes_at R 0) same-long (λ j k.
       let q : j < set_size = omega (arith, k, long S at l) in
@@ -50,19 +50,6 @@ module _ (S R : List ℕ) (at : ℕ) (hs : Small 8 S) (hr : Small 8 R) (l : at +
       ∙ ap (λ (x : List ℕ). get_or x w.0 0)
       (num-inj 8 (bytes_at S at) (bytes_at R 0) (small-take 8 set_size (drop at S) (small-drop 8 at S hs)) (small-take 8 set_size (drop 0 R) (small-drop 8 0 R hr)) same-long e)
       ∙ front w.0 w.1)))
-
--- one byte more of a set, written over a record
-pub put-more : (S R : List ℕ) (at k : ℕ) (b : List ℕ) → at + k < length S → k < length R → b ≡ placed R 0 (take k (drop at S)) → set b k (get_or S (at + k) 0) ≡ placed R 0 (take (k + 1) (drop at S))
-put-more S R at k b l m e =
-    let n : k < length (drop at S) = simp length-drop (omega arith) in
-    let t : length (take k (drop at S)) ≡ k = length-take-le k (drop at S) (omega arith) in
-    let s : k + 1 ≡ suc k = omega arith in
-    let q : take (k + 1) (drop at S) ≡ take k (drop at S) ++ (get_or S (at + k) 0 ∷ []) =
-    ap (λ (j : ℕ). take j (drop at S)) s ∙ take-suc (drop at S) k 0 n ∙ ap (λ (x : ℕ). take k (drop at S) ++ (x ∷ [])) (get_or-drop at S k 0) in
-    let z : 0 + length (take k (drop at S)) ≡ k = omega (arith, t) in
-    let p : set (placed R 0 (take k (drop at S))) k (get_or S (at + k) 0) ≡ placed R 0 (take k (drop at S) ++ (get_or S (at + k) 0 ∷ [])) =
-    rw z at (placed_one R 0 (take k (drop at S)) (get_or S (at + k) 0) (omega (arith, t))) in
-    ap (λ (x : List ℕ). set x k (get_or S (at + k) 0)) e ∙ p ∙ ap (placed R 0) (sym q)
 
 -- all of it
 pub put_all : (S R : List ℕ) (at : ℕ) → Small 8 S → at + set_size ≤ length S → placed R 0 (take set_size (drop at S)) ≡ placed R 0 (set_bytes (set_at S at))

@@ -9,14 +9,15 @@ ghost use Rattle.feed.specs.Engine.{most_offset};
 ghost use Rattle.feed.specs.Fed.{Answers};
 ghost use Rattle.feed.specs.inner.Tells.{Unfed};
 ghost use Rattle.list_flow.specs.Flow.{flow_size, frontier_of, rows_of, flow_bytes, flow_rules};
-ghost use Rattle.table.specs.Table.{most_splits, split_count, split_set};
+ghost use Rattle.table.specs.Table.{split_count, split_set};
 ghost use Rattle.index.specs.Entry.{entry_size, entry_place, telling, limit, flag_at, known_in, bad_index};
-ghost use Rattle.index.specs.Stand.{sought_of, holds_at, stand_rules, stand_feed, stood_at};
+ghost use Rattle.index.specs.Stand.{found_of, place_from, IsEntry, holds_at, stand_rules, stand_feed, stood_at};
 ghost use Rattle.index_turns.specs.inner.Goes.{Strides};
 
 use feed::Fed;
-use index_turns::Stands;
+use index_turns::{Stands, Strode};
 use sets::StateSet;
+use std::ops::ControlFlow;
 
 // A piece of fewer bytes than these is first tried byte by byte.
 const SHORT: usize = 16;
@@ -28,14 +29,15 @@ pub struct Stood {
     pub split: usize,
 }
 
-// Says whether the set that stands at a place of the splits is the one that a record begins with, where the bytes of both are all there.
+// Says whether the set that stands at a place of the splits is the one that a record begins with, where the bytes of both are all there. It goes on behind a
+// byte that differs, so that the compiler compares several at once.
 fn same_set(splits: &[u8], at: usize, flow: &[u8]) -> bool
     requires { (at + set_size ≤ length splits.now) × (set_size ≤ length flow.now) }
     ensures { result ≡ eqb (set_at splits.now at) (frontier_of flow.now) }
 {
     let mut all = true;
     for k in 0..sets::BYTES {
-        all = all & (splits[at + k] == flow[k]);
+        all &= splits[at + k] == flow[k];
     }
     all
 }
@@ -62,11 +64,7 @@ fn holds_at(splits: &[u8], index: &[u8], hint: usize, flow: &[u8]) -> bool
     requires { set_size ≤ length flow.now }
     ensures { result ≡ holds_at splits.now index.now hint (frontier_of flow.now) }
 {
-    let found = there(splits, index, hint);
-    if found {
-        return same_set(splits, table::SPLIT_SIZE * hint, flow);
-    }
-    false
+    there(splits, index, hint) && same_set(splits, table::SPLIT_SIZE * hint, flow)
 }
 
 // Says whether the entry of split `hint` has its flag, where it is there.
@@ -77,15 +75,16 @@ fn flag_at(index: &[u8], hint: usize) -> bool
     index[index::entry_place(hint) + index::FLAG_PLACE] != 0
 }
 
-// Where a call begins, where it is known whether the hint holds.
-fn begin(splits: &[u8], hint: usize, flow: &[u8], held: bool) -> usize
+// The split where a call begins, where it is known whether the hint holds.
+fn begin(splits: &[u8], hint: usize, flow: &[u8], held: bool) -> Option<usize>
     requires { set_size ≤ length flow.now }
-    ensures { result ≡ cond held hint (sought_of splits.now (frontier_of flow.now)) }
+    ensures { result ≡ cond held (Some hint) (found_of splits.now (frontier_of flow.now)) }
 {
     if held {
-        return hint;
+        Some(hint)
+    } else {
+        index::find(splits, StateSet::from_bytes(flow, 0))
     }
-    index::find(splits, StateSet::from_bytes(flow, 0))
 }
 
 // The check of a call whose hint holds: the number of the first of the rules 4 to 6 that refuses it, 0 where none does. 8 does not.
@@ -133,50 +132,48 @@ pub fn refusal(
 }
 
 // Runs from a place with a whole entry: byte by byte where the piece is short and no byte of it tells, else by turns.
-fn run_at(index: &[u8], place: usize, offset: u64, piece: &[u8], pairs: &mut [u32]) -> Stands
+fn run_at(index: &[u8], place: usize, offset: u64, piece: &[u8], pairs: &mut [u32]) -> Strode
     requires { (place < limit index.now) × (length index.now < telling) × (offset + length piece.now ≤ most_offset) }
     ensures { Strides index.now piece.now offset 0 place pairs.old 0 (length piece.now) result pairs.new }
 {
     if piece.len() < SHORT {
         let led = index_quiet::few(index, piece, place);
         if led.bytes == piece.len() {
-            return Stands {
-                on: true,
+            return ControlFlow::Continue(Stands {
                 place: led.place,
                 bytes: led.bytes,
                 words: 0,
                 rows: led.rows,
-            };
+            });
         }
     }
     index_turns::run(index, piece, offset, place, pairs)
 }
 
-// Runs from split `first` of n, where there is such a split; behind the last one it stands and does nothing.
+// Runs from a split, where there is one; else it stands behind the last entry and does nothing.
 fn run_from(
     index: &[u8],
-    n: usize,
-    first: usize,
+    first: Option<usize>,
     offset: u64,
     piece: &[u8],
     pairs: &mut [u32],
-) -> Stands
-    requires { (offset + length piece.now ≤ most_offset) × (n ≤ most_splits) × (length index.now ≡ entry_place n) × (first ≤ n) }
-    ensures { Strides index.now piece.now offset 0 (entry_place first) pairs.old 0 (length piece.now) result pairs.new }
+) -> Strode
+    requires { (offset + length piece.now ≤ most_offset) × (length index.now < telling) × IsEntry index.now first }
+    ensures { Strides index.now piece.now offset 0 (place_from index.now first) pairs.old 0 (length piece.now) result pairs.new }
 {
-    if n <= first {
-        return Stands {
-            on: false,
+    match first {
+        Some(i) => run_at(index, index::entry_place(i), offset, piece, pairs),
+        None => ControlFlow::Break(Stands {
             place: index.len(),
             bytes: 0,
             words: 0,
             rows: 0,
-        };
+        }),
     }
-    run_at(index, index::entry_place(first), offset, piece, pairs)
 }
 
 // The split whose entry stands at a place, of n splits; n where no whole entry does.
+// A number, as C has it, which hands it in again as the hint.
 fn split_at(index: &[u8], n: usize, place: usize) -> usize
     requires { entry_size ≤ length index.now }
     ensures { result ≡ cond (ltb place (limit index.now)) ((place - set_size) / entry_size) n }
@@ -209,9 +206,7 @@ fn put_set(splits: &[u8], at: usize, flow: &mut [u8])
     requires { (at + set_size ≤ length splits.now) × (set_size ≤ length flow.old) }
     ensures { flow.new ≡ placed flow.old 0 (set_bytes (set_at splits.now at)) }
 {
-    for k in 0..sets::BYTES {
-        flow[k] = splits[at + k];
-    }
+    flow[..sets::BYTES].copy_from_slice(&splits[at..at + sets::BYTES]);
 }
 
 // Writes the set of split i in front of a record, where there are n splits at least.
@@ -299,7 +294,8 @@ fn go(
 {
     let n = table::split_count(splits);
     let first = begin(splits, hint, flow, held);
-    let stands = run_from(index, n, first, start, piece, pairs);
+    let strode = run_from(index, first, start, piece, pairs);
+    let stands = index_turns::stands_of(strode);
     let split = split_at(index, n, stands.place);
     let bytes = stands.bytes;
     let moved = moves(held, hint, split, bytes);
@@ -314,23 +310,19 @@ fn go(
     );
     let fed = Fed {
         refusal: halted(index, stands.place, bytes, piece.len()),
-        bytes: bytes,
+        bytes,
         pairs: stands.words / 2,
         all: bytes == piece.len(),
     };
-    Stood {
-        fed: fed,
-        split: split,
-    }
+    Stood { fed, split }
 }
 
 // The answer of a call that a rule refuses: its number, and the hint.
 fn refused(refusal: u32, hint: usize) -> Stood
     ensures { Unfed refusal result.fed × (result.split ≡ hint) }
 {
-    let fed = feed::refused(refusal);
     Stood {
-        fed: fed,
+        fed: feed::refused(refusal),
         split: hint,
     }
 }

@@ -10,7 +10,7 @@ use lib.Dec.{eqb}
 use lib.Bits.{or_lt}
 use borrow.Author.Tests.{le-ltb}
 use Rattle.numbers.specs.Number.{num, digits}
-use Rattle.sets.specs.Set.{states, signatures, join, set_size, sig_size, set_bytes, set_at, sig_bytes, sigs_at, within}
+use Rattle.sets.specs.Set.{states, signatures, join, set_size, sig_size, set_bytes, sig_bytes, sigs_at, within, read_at}
 use Rattle.numbers.proofs.Laws.{length_digits, digits-at, num-digits}
 use Rattle.rules.specs.Scan.{some, first, stack}
 use Rattle.rules.proofs.Scanning.{gather-lt, first_found, first-none}
@@ -77,7 +77,7 @@ module _ (L : List ℕ) (m : ℕ) (S : List ℕ) where
 
   -- the states that the list names
   pub known_read : (n F : ℕ) → known_in (index_of L m S n) F ≡ within F (named L)
-  unfolding known_in set_at index_of
+  unfolding known_in read_at index_of
   known_read n F =
       let e : num 8 (take set_size (index_of L m S n)) ≡ named L =
       ap (num 8) (take_at (set_bytes (named L)) (stack (entry_of L m S) n) set_size (length_digits 8 set_size (named L))) ∙ num-digits 8 set_size (named L) (named-lt L) in
@@ -151,7 +151,7 @@ module _ (L : List ℕ) (m : ℕ) (S : List ℕ) where
             rw e
 
     pub sigs-read : sigs_at (index_of L m S n) (entry_place i + sigs_place) ≡ accepted L (split_set S i)
-    unfolding sigs_at index_of
+    unfolding read_at index_of
     sigs-read =
         let e : entry_place i + sigs_place ≡ set_size + (entry_size * i + sigs_place) = omega arith in
         ap (λ (x : ℕ). num 8 (take sig_size (drop x (index_of L m S n)))) e

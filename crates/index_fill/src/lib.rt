@@ -1,9 +1,10 @@
 // The filler of an index by places: for each split of splits in order, where each byte leads by the list's step, what is told there, what a byte at it costs, and whether its states are all named.
+// Loops go by index where a byte or the place of a split is an argument.
 #![tactic(auto)]
 
-ghost use Rattle.std.specs.Prelude.{◌≡◌, true, not, cond, ℕ, ◌+◌, ◌*◌, ◌^◌, ◌≤◌, ◌<◌, length, get_or, take, drop, eqb};
+ghost use Rattle.std.specs.Prelude.{◌≡◌, true, not, ℕ, ◌+◌, ◌*◌, ◌^◌, ◌≤◌, ◌<◌, length, get_or, take, drop, eqb};
 ghost use Rattle.numbers.specs.Number.{num, digits, placed};
-ghost use Rattle.sets.specs.Set.{states, set_size, set_of, sigs_of, within};
+ghost use Rattle.sets.specs.Set.{states, set_size, set_of, sigs_of};
 ghost use Rattle.rules.specs.Scan.{every};
 ghost use Rattle.list.specs.Automaton.{step, accepted, accepting, named};
 ghost use Rattle.table.specs.Table.{table, byte_values, most_splits, part, split_count, split_set, slots, taken_slots, in_order};
@@ -24,18 +25,16 @@ fn tells(list: &[u8], accepts: StateSet, f: StateSet) -> bool
     requires { (set_of accepts ≡ accepting list.now) × (set_of f < 2 ^ states) }
     ensures { result ≡ not (eqb (accepted list.now (set_of f)) 0) }
 {
-    if !f.meets(accepts) {
-        return false;
-    }
-    !list::accepted(list, f).same(SigSet::EMPTY)
+    f.meets(accepts) && !list::accepted(list, f).is_empty()
 }
 
-// The word of a byte that leads to f.
+// The word of a byte that leads to f; where no split has that set, it names the place behind the last.
 fn word_of(list: &[u8], accepts: StateSet, splits: &[u8], f: StateSet) -> u64
     requires { (set_of accepts ≡ accepting list.now) × (split_count splits.now ≤ most_splits) × (every (split_count splits.now) (in_order splits.now) ≡ true) × (set_of f < 2 ^ states) }
     ensures { result ≡ word_of list.now splits.now (set_of f) }
 {
-    let at = index::entry_place(table::find_sorted(splits, f)) as u64;
+    let n = table::split_count(splits);
+    let at = index::entry_place(table::find_sorted(splits, f).unwrap_or(n)) as u64;
     if tells(list, accepts, f) {
         return at + TELLS;
     }
@@ -107,28 +106,14 @@ fn taken(splits: &[u8], i: usize) -> u64
     table::SLOTS as u64
 }
 
-// 1 where it is known, 0 where not.
-fn flag_of(known: bool) -> u64
-    ensures { result ≡ cond known 1 0 }
-{
-    if known { 1 } else { 0 }
-}
-
 // The note of a split that costs n rows, as a number in the bytes of a set of signatures.
 fn note(n: u64, known: bool) -> SigSet
     requires { n < 256 }
     ensures { sigs_of result ≡ note_of n known }
 {
     let mut w = [0u64; sets::SIG_WORDS];
-    w[0] = n + 256 * flag_of(known);
+    w[0] = n + 256 * u64::from(known);
     SigSet::of_words(w)
-}
-
-// Says whether every state of f is in `names`.
-fn named_all(f: StateSet, names: StateSet) -> bool
-    ensures { result ≡ within (set_of f) (set_of names) }
-{
-    f.union(names).same(names)
 }
 
 // Writes the entry of split i, at which a byte costs m rows more than its slots; `work` holds the steps of its set.
@@ -155,7 +140,7 @@ fn fill_entry(
     table_classes::fill_steps(list, f, work);
     fill_words(list, accepts, lows, splits, work, at, index);
     list::accepted(list, f).store(index, set_at);
-    note(m + taken(splits, i), named_all(f, names)).store(index, note_at);
+    note(m + taken(splits, i), names.covers(f)).store(index, note_at);
 }
 
 // Gives each byte the lowest of its class.
@@ -248,6 +233,7 @@ pub fn fill(
     if refusal != rules::PASSED {
         return refusal;
     }
+    // On the stack: the library has no heap.
     let mut work = [0u8; WORK];
     fill_entries(list, classes, splits, 0, &mut work, index);
     rules::PASSED

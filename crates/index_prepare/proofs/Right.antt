@@ -9,8 +9,8 @@ use lib.ListN.{length, get_or, take, drop, replicate, length-append, length-repl
 use lib.Seq.{take_at, get_or-append-add}
 use lib.Dec.{eqb, lit<}
 use borrow.Author.Tests.{eq-eqb, ne_eqb, le-ltb}
-use Rattle.numbers.specs.Number.{num}
-use Rattle.sets.specs.Set.{states, set_size, set_bytes, bytes_at, set_at}
+use Rattle.numbers.specs.Number.{num, digits}
+use Rattle.sets.specs.Set.{states, set_size, set_bytes, bytes_at, read_at}
 use Rattle.numbers.proofs.Laws.{num-digits, length_digits, small-digits}
 use Rattle.rules.specs.Scan.{stack}
 use Rattle.rules.proofs.Scanning.{some-intro}
@@ -47,6 +47,11 @@ stack-bytes f h (suc n) = bytes-append (stack f n) (f n) (stack-bytes f h n) (h 
 
 pub bare-size : (S : ℕ) → length (bare_split S) ≡ split_size
 bare-size S = length-append (set_bytes S) (replicate 8 255) ∙ omega (arith, length_digits 8 set_size S, length-replicate {A = ℕ} 8 255)
+
+-- four unused slots, as a number
+pub unused : digits 8 8 18446744073709551615 ≡ replicate 8 255
+unfolding digits
+unused = refl
 
 module _ (xs : List ℕ) where
   abbrev split_bytes : ℕ → List ℕ
@@ -92,7 +97,7 @@ module _ (xs : List ℕ) where
       rw (a, b)
 
   split_at : ((i : ℕ) → i < length xs → get_or xs i 0 < 2 ^ states) → (i : ℕ) → i < length xs → split_set (splits_of xs) i ≡ get_or xs i 0
-  unfolding split_set set_at
+  unfolding split_set read_at
   split_at small i h = ap (num 8) (split-bytes i h) ∙ num-digits 8 set_size (get_or xs i 0) (small i h)
 
   count-good : 0 < length xs → length xs ≤ most_splits → bad_count split_size most_splits (splits_of xs) ≡ false

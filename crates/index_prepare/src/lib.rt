@@ -1,19 +1,18 @@
 // Splits and an index straight from a list: the sets that can be reached, found by a search, each as a split, and their index.
+// Loops go by index where a byte or the place of a set is an argument; the search has no end that is known before.
 #![tactic(auto)]
 
-ghost use Rattle.std.specs.Prelude.{◌≡◌, ◌||◌, List, ℕ, ◌+◌, ◌*◌, ◌^◌, ◌<◌, ◌≤◌, length, get_or, ltb};
-ghost use Rattle.numbers.specs.Number.{placed};
-ghost use Rattle.sets.specs.Set.{states, set_size, set_of};
+ghost use Rattle.std.specs.Prelude.{◌≡◌, ◌||◌, List, ℕ, ◌+◌, ◌*◌, ◌^◌, ◌<◌, ◌≤◌, length, get_or, ltb, is_none, unwrap_or};
+ghost use Rattle.sets.specs.Set.{states, set_size};
 ghost use Rattle.list.specs.Automaton.{step};
 ghost use Rattle.table.specs.Table.{byte_values, most_splits, split_size, part};
 ghost use Rattle.table_build.specs.Build.{Reach, Reached, over};
-ghost use Rattle.table_build.specs.inner.Loops.{Rising, Among, Room, Known, Added, Grown, Searched, Laid, sets_of};
+ghost use Rattle.table_build.specs.inner.Loops.{Rising, Among, Room, Known, Added, Grown, Searched, sets_of};
 ghost use Rattle.index.specs.Entry.{entry_place};
-ghost use Rattle.index_prepare.specs.Prepare.{bare_split, splits_of, made_index, Prepares};
+ghost use Rattle.index_prepare.specs.Prepare.{splits_of, made_index, Prepares};
 ghost use Rattle.index_prepare.specs.inner.Loops.{Leads, Seeks};
 
 use sets::StateSet;
-use table_build::Found;
 
 // The bytes that each of the two lent lists has to have.
 pub const PREPARE_SPLITS: usize = table::SPLIT_SIZE * table::MOST_SPLITS;
@@ -31,7 +30,8 @@ pub struct Made {
     pub index: usize,
 }
 
-// Adds the set that byte c leads to, set c of `work`; where a lower byte leads there too, it is there.
+// Adds the set that byte c leads to, set c of `work`; where a lower byte leads there too, it is there. Answers how many there are then; none where that
+// is too many.
 fn add_set(
     lows: &[u8],
     work: &[u8],
@@ -39,17 +39,17 @@ fn add_set(
     parts: &mut [u8],
     n: usize,
     c: usize,
-) -> Found
+) -> Option<usize>
     requires { (byte_values ≤ length lows.now) × (set_size * byte_values ≤ length work.now) × (c < byte_values) × Room most_splits queue.old × Room most_splits parts.old
         × (n ≤ most_splits) × Rising parts.old n × (part work.now c < 2 ^ states) }
     ensures { (length queue.new ≡ length queue.old) × (length parts.new ≡ length parts.old)
         × ((l : List ℕ) → Known most_splits l queue.old parts.old n → Reach l (part work.now c)
         → (get_or lows.now c 0 < c → Among parts.old n (part work.now c))
-        → Added most_splits l queue.old parts.old queue.new parts.new n result.n (part work.now c) result.full) }
+        → Added most_splits l queue.old parts.old queue.new parts.new n (unwrap_or result n) (part work.now c) (is_none result)) }
 {
     let low = lows[c] as usize;
     if low < c {
-        return Found { full: false, n: n };
+        return Some(n);
     }
     table_build::add(
         queue,
@@ -60,7 +60,7 @@ fn add_set(
     )
 }
 
-// Adds the sets that the bytes lead to from set i; `work` holds them.
+// Adds the sets that the bytes lead to from set i; `work` holds them. Answers as `add_set` does.
 fn steps_of(
     list: &[u8],
     lows: &[u8],
@@ -69,30 +69,32 @@ fn steps_of(
     parts: &mut [u8],
     n: usize,
     i: usize,
-) -> Found
+) -> Option<usize>
     requires { (byte_values ≤ length lows.now) × (set_size * byte_values ≤ length work.old) × Room most_splits queue.old × Room most_splits parts.old
         × Known most_splits list.now queue.old parts.old n × (i < n) × Leads list.now lows.now }
     ensures { (length work.new ≡ length work.old)
-        × Grown most_splits (step list.now) list.now queue.old parts.old queue.new parts.new n result.n i byte_values result.full }
+        × Grown most_splits (step list.now) list.now queue.old parts.old queue.new parts.new n (unwrap_or result n) i byte_values (is_none result) }
 {
     table_classes::fill_steps(list, StateSet::from_bytes(queue, sets::BYTES * i), work);
     let mut m = n;
     for c in 0..table::BYTE_VALUES {
-        let g = add_set(lows, work, queue, parts, m, c);
-        m = g.n;
-        if g.full {
-            return Found { full: true, n: m };
-        }
+        m = add_set(lows, work, queue, parts, m, c)?;
     }
-    Found { full: false, n: m }
+    Some(m)
 }
 
-// All sets that can be reached: in the queue as they are found, in the parts in rising order; or that there are too many.
-fn search(list: &[u8], lows: &[u8], work: &mut [u8], queue: &mut [u8], parts: &mut [u8]) -> Found
+// All sets that can be reached: in the queue as they are found, in the parts in rising order. Answers as `add_set` does.
+fn search(
+    list: &[u8],
+    lows: &[u8],
+    work: &mut [u8],
+    queue: &mut [u8],
+    parts: &mut [u8],
+) -> Option<usize>
     requires { (byte_values ≤ length lows.now) × (set_size * byte_values ≤ length work.old) × Room most_splits queue.old × Room most_splits parts.old
         × Leads list.now lows.now }
     ensures { (length work.new ≡ length work.old)
-        × Searched most_splits (step list.now) list.now queue.old parts.old queue.new parts.new result.n byte_values result.full }
+        × Searched most_splits (step list.now) list.now queue.old parts.old queue.new parts.new (unwrap_or result 0) byte_values (is_none result) }
 {
     let s = list::start_set(list);
     s.store(queue, 0);
@@ -100,34 +102,10 @@ fn search(list: &[u8], lows: &[u8], work: &mut [u8], queue: &mut [u8], parts: &m
     let mut n = 1;
     let mut i = 0;
     while i < n {
-        let g = steps_of(list, lows, work, queue, parts, n, i);
-        n = g.n;
-        if g.full {
-            return Found { full: true, n: n };
-        }
-        i = i + 1;
+        n = steps_of(list, lows, work, queue, parts, n, i)?;
+        i += 1;
     }
-    Found { full: false, n: n }
-}
-
-// Writes split i: a set, and no slot that is used.
-fn put_split(splits: &mut [u8], i: usize, f: StateSet)
-    requires { split_size * i + split_size ≤ length splits.old }
-    ensures { splits.new ≡ placed splits.old (split_size * i) (bare_split (set_of f)) }
-{
-    let at = table::SPLIT_SIZE * i;
-    f.store(splits, at);
-    numbers::put_number(splits, at + sets::BYTES, 8, NO_SLOTS);
-}
-
-// Writes a split for each of the first n parts.
-fn fill_splits(parts: &[u8], n: usize, splits: &mut [u8])
-    requires { (set_size * n ≤ length parts.now) × (n ≤ most_splits) × (split_size * most_splits ≤ length splits.old) }
-    ensures { (length splits.new ≡ length splits.old) × Laid (λ i. bare_split (part parts.now i)) split_size n splits.new }
-{
-    for i in 0..n {
-        put_split(splits, i, StateSet::from_bytes(parts, sets::BYTES * i));
-    }
+    Some(n)
 }
 
 // Writes the splits of the n sets that the index begins with, the index over them, and zeros behind both.
@@ -138,19 +116,25 @@ fn finish(list: &[u8], lows: &[u8], work: &mut [u8], splits: &mut [u8], index: &
     ensures { (length work.new ≡ length work.old) × (splits.new ≡ over (splits_of (sets_of index.old n)) splits.old)
         × (index.new ≡ over (made_index list.now (sets_of index.old n)) index.old) }
 {
-    fill_splits(index, n, splits);
+    table_build::fill_splits(index, n, splits, |_| NO_SLOTS);
     let end = table::SPLIT_SIZE * n;
     table_classes::clear(splits, end);
     index_fill::fill_all(list, lows, &splits[..end], 1, work, index);
     table_classes::clear(index, index::entry_place(n));
 }
 
-// Lower bytes on which the list steps alike, and the sets that can be reached, rising, at the front of the index; or that they are too many.
+// Lower bytes on which the list steps alike, and the sets that can be reached, rising, at the front of the index; none where they are too many.
 // The splits hold them as they are found.
-fn seek(list: &[u8], lows: &mut [u8], work: &mut [u8], splits: &mut [u8], index: &mut [u8]) -> Found
+fn seek(
+    list: &[u8],
+    lows: &mut [u8],
+    work: &mut [u8],
+    splits: &mut [u8],
+    index: &mut [u8],
+) -> Option<usize>
     requires { (byte_values ≤ length lows.old) × (set_size * byte_values ≤ length work.old) × Room most_splits splits.old × Room most_splits index.old }
     ensures { (length lows.new ≡ length lows.old) × (length work.new ≡ length work.old)
-        × Seeks list.now splits.old index.old lows.new splits.new index.new result.n result.full }
+        × Seeks list.now splits.old index.old lows.new splits.new index.new (unwrap_or result 0) (is_none result) }
 {
     let mut keys = [0u64; table::BYTE_VALUES];
     list_alike::fill_alikes(list, &mut keys, lows);
@@ -164,38 +148,36 @@ fn too_short(splits: usize, index: usize) -> bool
     (splits < PREPARE_SPLITS) | (index < PREPARE_INDEX)
 }
 
+// What is answered where nothing is prepared.
+fn refused(refusal: u32) -> Made
+    ensures { result ≡ record { refusal = refusal; splits = 0; index = 0 } }
+{
+    Made {
+        refusal,
+        splits: 0,
+        index: 0,
+    }
+}
+
 // Prepares a list: the sets that can be reached, as splits, and their index. A refusal 1 to 3 or 17 changes nothing; 16 fills both lists with zeros.
 pub fn prepare(list: &[u8], splits: &mut [u8], index: &mut [u8]) -> Made
     ensures { Prepares list.now splits.old index.old (record { refusal = result.refusal; splits = result.splits; index = result.index; made = splits.new; indexed = index.new }) }
 {
     let listed = list::check_list(list);
     if listed != rules::PASSED {
-        return Made {
-            refusal: listed,
-            splits: 0,
-            index: 0,
-        };
+        return refused(listed);
     }
     if too_short(splits.len(), index.len()) {
-        return Made {
-            refusal: rules::LENT_LISTS,
-            splits: 0,
-            index: 0,
-        };
+        return refused(rules::LENT_LISTS);
     }
     let mut lows = [0u8; table::BYTE_VALUES];
+    // On the stack: the library has no heap.
     let mut work = [0u8; index_fill::WORK];
-    let g = seek(list, &mut lows, &mut work, splits, index);
-    if g.full {
+    let Some(n) = seek(list, &mut lows, &mut work, splits, index) else {
         table_classes::clear(splits, 0);
         table_classes::clear(index, 0);
-        return Made {
-            refusal: rules::TOO_MANY,
-            splits: 0,
-            index: 0,
-        };
-    }
-    let n = g.n;
+        return refused(rules::TOO_MANY);
+    };
     finish(list, &lows, &mut work, splits, index, n);
     Made {
         refusal: rules::PASSED,

@@ -1,4 +1,6 @@
 // Quiet bytes: the loops of a feed by places over bytes that tell nothing. Turns of four bytes, bytes one by one, and blocks of bytes skipped where the feed stays at a place. No definition mentions turns or blocks.
+// A `while` stands where a step takes four bytes, a block, or as many bytes as stay.
+// What `few` and `turns` ask of the lengths, `turn` asks again: they take slices, of which no type says it.
 #![tactic(auto)]
 
 ghost use Rattle.std.specs.Prelude.{◌≡◌, false, ℕ, ◌+◌, ◌*◌, ◌≤◌, ◌<◌, length};
@@ -25,29 +27,14 @@ pub struct Led {
     pub rows: u64,
 }
 
-fn wide(x: u8) -> usize
-    ensures { (result ≡ x) × (result < 256) }
-{
-    x as usize
-}
-
-fn wide64(x: u8) -> u64
-    ensures { (result ≡ x) × (result < 256) }
-{
-    x as u64
-}
-
 // The word of byte c at a place.
 pub fn word_at(index: &[u8], place: usize, c: u8) -> usize
     requires { place + entry_size ≤ length index.now }
     ensures { result ≡ word_at index.now place c }
 {
-    let at = place + 4 * wide(c);
-    let a = wide(index[at]);
-    let b = wide(index[at + 1]);
-    let d = wide(index[at + 2]);
-    let e = wide(index[at + 3]);
-    a + 256 * b + 65536 * d + 16777216 * e
+    let at = place + 4 * usize::from(c);
+    let bytes = [index[at], index[at + 1], index[at + 2], index[at + 3]];
+    u32::from_le_bytes(bytes) as usize
 }
 
 // What a byte at a place costs.
@@ -55,7 +42,7 @@ pub fn cost_at(index: &[u8], place: usize) -> u64
     requires { place + entry_size ≤ length index.now }
     ensures { (result ≡ cost_at index.now place) × (result < 256) }
 {
-    wide64(index[place + index::COST_PLACE])
+    u64::from(index[place + index::COST_PLACE])
 }
 
 // A turn: goes on by four bytes, where there are so many before `stop`, while words name places and tell nothing.
@@ -131,7 +118,7 @@ pub fn turns(index: &[u8], piece: &[u8], from: usize, place: usize, stop: usize)
             return Led {
                 bytes: led.bytes,
                 place: at,
-                rows: rows,
+                rows,
             };
         }
         i = led.bytes;
@@ -139,7 +126,7 @@ pub fn turns(index: &[u8], piece: &[u8], from: usize, place: usize, stop: usize)
     Led {
         bytes: i,
         place: at,
-        rows: rows,
+        rows,
     }
 }
 
@@ -150,26 +137,24 @@ pub fn few(index: &[u8], piece: &[u8], place: usize) -> Led
         × Moves index.now piece.now 0 place result.bytes result.place result.rows }
 {
     let end = index.len() - index::REST;
-    let mut i = 0;
     let mut at = place;
     let mut rows = 0u64;
-    while i < piece.len() {
-        let w = word_at(index, at, piece[i]);
+    for (i, c) in piece.iter().enumerate() {
+        let w = word_at(index, at, *c);
         if end <= w {
             return Led {
                 bytes: i,
                 place: at,
-                rows: rows,
+                rows,
             };
         }
-        rows = rows + cost_at(index, at);
+        rows += cost_at(index, at);
         at = w;
-        i = i + 1;
     }
     Led {
-        bytes: i,
+        bytes: piece.len(),
         place: at,
-        rows: rows,
+        rows,
     }
 }
 
@@ -181,11 +166,10 @@ fn skip(index: &[u8], piece: &[u8], from: usize, place: usize, r: Ranges) -> usi
 {
     let mut n = 0;
     while index_blocks::BLOCK <= piece.len() - from - n {
-        let f = index_blocks::first_in(piece, from + n, r);
-        if f != index_blocks::NONE {
-            return n + wide(f);
+        match index_blocks::first_in(piece, from + n, r) {
+            Some(f) => return n + usize::from(f),
+            None => n += index_blocks::BLOCK,
         }
-        n = n + index_blocks::BLOCK;
     }
     n
 }
@@ -203,9 +187,10 @@ fn tries(left: usize, got: usize) -> usize
     ensures { result ≤ left + 4 }
 {
     if LITTLE <= got {
-        return TRIES;
+        TRIES
+    } else {
+        left.saturating_sub(1)
     }
-    if left == 0 { 0 } else { left - 1 }
 }
 
 // From a place with its ranges: skips blocks, and where a byte leaves and the next one comes back, goes on.
@@ -228,30 +213,30 @@ pub fn calm(index: &[u8], piece: &[u8], from: usize, place: usize, r: Ranges) ->
         if left == 0 {
             return Led {
                 bytes: i,
-                place: place,
-                rows: rows,
+                place,
+                rows,
             };
         }
         if piece.len() - i < 2 {
             return Led {
                 bytes: i,
-                place: place,
-                rows: rows,
+                place,
+                rows,
             };
         }
         let x = word_at(index, place, piece[i]);
         if end <= x {
             return Led {
                 bytes: i,
-                place: place,
-                rows: rows,
+                place,
+                rows,
             };
         }
         if word_at(index, x, piece[i + 1]) != place {
             return Led {
                 bytes: i,
-                place: place,
-                rows: rows,
+                place,
+                rows,
             };
         }
         rows = rows + cost + cost_at(index, x);
@@ -259,8 +244,8 @@ pub fn calm(index: &[u8], piece: &[u8], from: usize, place: usize, r: Ranges) ->
     }
     Led {
         bytes: i,
-        place: place,
-        rows: rows,
+        place,
+        rows,
     }
 }
 

@@ -14,7 +14,7 @@ use Rattle.sets.specs.Set.{signatures, size, members}
 use Rattle.numbers.proofs.Placing.{length-placed}
 use Rattle.feed.specs.Engine.{pairs_at}
 use Rattle.feed.proofs.Going.{stop, finish}
-use Rattle.feed.specs.declared.Told.{Told}
+use Rattle.std.specs.Prelude.{Option, Some, None, is_some}
 use Rattle.feed.specs.inner.Told.{TellsAll}
 use Rattle.feed.proofs.Fitting.{all_none, goes_on, stops}
 use Rattle.index_blocks.specs.Block.{word_at}
@@ -45,42 +45,38 @@ led-to {X} {P} {k} {i} {p} {out} {w} {j} {q} {left} {v} {n} g r e = subst (λ (x
 
 -- ---- what telling leaves of the words
 
-module _ {G : ℕ} {out : List ℕ} {w k : ℕ} {t : Told} {left : List ℕ} (told : TellsAll G out w k t left) where
-  pub not-told : t.fits ≡ false → left ≡ out
+module _ {G : ℕ} {out : List ℕ} {w k : ℕ} {t : Option ℕ} {left : List ℕ} (told : TellsAll G out w k t left) where
+  pub not-told : t ≡ None → left ≡ out
   not-told f = told.wrote ∙ rw f
 
   pub told-many : length left ≡ length out
-  told-many = go t.fits refl
+  told-many = go (is_some t) refl
     where
-      go : (b : Bool) → t.fits ≡ b → length left ≡ length out
+      go : (b : Bool) → is_some t ≡ b → length left ≡ length out
       go true f = rw (told.wrote, f) (length-placed out w (pairs_at k (members signatures G)))
       go false f = rw (told.wrote, f)
 
-  pub told-within : w ≤ length out → t.words ≤ length left
-  told-within h = go t.fits refl
-    where
-      go : (b : Bool) → t.fits ≡ b → t.words ≤ length left
-      go true f =
-          let a : t.words ≡ w + 2 * size signatures G = rw f at told.words in
-          let l = leb-true (size signatures G) ((length out - w) / 2) (sym told.fits ∙ f) in
-          omega (arith, told-many)
-      go false f = let a : t.words ≡ w = rw f at told.words in omega (arith, told-many)
+  pub told-within : w ≤ length out → (m : ℕ) → t ≡ Some m → m ≤ length left
+  told-within h m f =
+      let a : m ≡ w + 2 * size signatures G = rw f at told.words in
+      let l = leb-true (size signatures G) ((length out - w) / 2) (sym told.fits ∙ ap is_some f) in
+      omega (arith, told-many)
 
 -- ---- a byte whose word is followed
 
-module _ (X P : List ℕ) (k i p : ℕ) {out : List ℕ} {w : ℕ} (l : i < length P) (h : p < limit X) (word : ℕ) (e : word ≡ word_at X p (get_or P i 0)) {t : Told} {left : List ℕ}
+module _ (X P : List ℕ) (k i p : ℕ) {out : List ℕ} {w : ℕ} (l : i < length P) (h : p < limit X) (word : ℕ) (e : word ≡ word_at X p (get_or P i 0)) {t : Option ℕ} {left : List ℕ}
     (told : TellsAll (told_of X word) out w (k + i + 1) t left) where
   -- its pairs fit
-  pub followed : t.fits ≡ true → (q : ℕ) → q ≡ place_of word → (r : ℕ) → r ≡ cost_at X p → Goes X P k i p out w (i + 1) q left t.words r
-  followed f q eq r er =
+  pub followed : (v : ℕ) → t ≡ Some v → (q : ℕ) → q ≡ place_of word → (r : ℕ) → r ≡ cost_at X p → Goes X P k i p out w (i + 1) q left v r
+  followed v f q eq r er =
       record {
         going = λ S F x₀ out₀ m g.
             let z : eqb (i + 1) 0 ≡ false = ne_eqb (i + 1) 0 (λ y. omega arith) in
-            goes_on g l told (ap (told_of X) e) f (lt-leb (limit X) p h) (stands_at S X F (i + 1) q) (rw z (ap (stand_at S X) (eq ∙ ap place_of e))) r er;
+            goes_on g l told (ap (told_of X) e) v f (lt-leb (limit X) p h) (stands_at S X F (i + 1) q) (rw z (ap (stand_at S X) (eq ∙ ap place_of e))) r er;
       }
 
   -- they do not
-  pub full : t.fits ≡ false → Stops X P k i p left w
+  pub full : t ≡ None → Stops X P k i p left w
   full f =
       record {
         ends = λ S F x₀ out₀ m g. (stops (rw (not-told told f) at g) l told (ap (told_of X) e) f).0;
@@ -98,5 +94,5 @@ lost X P k j q out w h =
     }
 
 -- a word below 2^31, and one whose place has no whole entry, tell nothing
-pub none_told : (X : List ℕ) (word : ℕ) → told_of X word ≡ 0 → (out : List ℕ) (w k : ℕ) → TellsAll (told_of X word) out w k (record { fits = true; words = w }) out
-none_told X word z out w k = all_none (told_of X word) out w k (record { fits = true; words = w }) z refl refl
+pub none_told : (X : List ℕ) (word : ℕ) → told_of X word ≡ 0 → (out : List ℕ) (w k : ℕ) → TellsAll (told_of X word) out w k (Some w) out
+none_told X word z out w k = all_none (told_of X word) out w k z

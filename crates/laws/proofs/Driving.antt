@@ -1,14 +1,12 @@
 -- From the promises of the functions that the driver calls to the demands that it promises: the feeds made so far are the witness. Assumes nothing.
-use Prim.Native.Nat.{ℕ, zero, suc, ◌+◌, ◌-◌, ◌*◌, ◌≤◌}
+use Prim.Native.Nat.{ℕ, suc, ◌+◌, ◌-◌, ◌*◌, ◌≤◌}
 use mathlib.Core.Path.{◌≡◌, refl, sym, ap, ◌∙◌}
-use mathlib.Core.Bool.{Bool, true, false, cond}
 use mathlib.Core.List.{List, [], ◌∷◌, ◌++◌, append-nil, append_assoc}
 use native.Mathlib.Omega.{arith}
 use native.Mathlib.Nat.{zero-add}
 use native.Mathlib.Decide.{ℕ_discrete}
 use lib.ListN.{length, get_or, set, take, drop, length-append}
 use lib.Seq.{length-take-le, take-append-add, take-append-le, take-take, take-add, take_at, get_or-drop}
-use lib.Dec.{eqb}
 use borrow.Rule.Slice.PartMut.{mid_of, post_of, put_mid, same_len_mid, mid_len}
 use Rattle.numbers.specs.Number.{placed}
 use Rattle.numbers.proofs.Placing.{placed-fits, placed-none, placed_one}
@@ -35,7 +33,9 @@ use Rattle.matrix.specs.Matrix.{filled, Fills}
 use Rattle.matrix.proofs.Exact.{filled-left}
 use Rattle.index_fill.specs.Filled.{filled_index, FillsIndex}
 use Rattle.index_fill.proofs.Made.{filled-checked}
-use Rattle.laws.specs.Calls.{Via, by_list, by_table, by_matrix, by_index, by_slots, Checked, Call, way_of}
+use Rattle.laws.specs.declared.Kind.{Kind}
+use Rattle.laws.specs.declared.Kind.TheVariants.{Plain, Split, Matrix, Prepared}
+use Rattle.laws.specs.Calls.{Via, Checked, Call, way_of}
 use Rattle.laws.specs.Demands.{Swaps, Swapped, Due}
 use Rattle.laws.specs.Drivers.{via_by, call_of, piece_of, does, nearest, Plan, planned, Turn, Meant, AsMeant, answer, answers, Came, Driven}
 use Rattle.laws.proofs.Demand1.{demand-1}
@@ -45,17 +45,11 @@ use Rattle.laws.proofs.Swapping.{swapped}
 pub open-fits : (L R out : List ℕ) (f : Opened) (vs sv : List ℕ) → Opens (open_flow L R out) f vs sv → 2 * f.pairs ≤ length vs
 open-fits L R out f vs sv o = let d = demand-1.opens L R out in rw (o.pairs, o.words) (omega (arith, d.pairs-fit, d.words-many))
 
--- past the end of a list stands 0
-pub get_d_past : (xs : List ℕ) (i : ℕ) → length xs ≤ i → get_or xs i 0 ≡ 0
-get_d_past [] i h = refl
-get_d_past (x ∷ xs) zero h = absurd (omega arith)
-get_d_past (x ∷ xs) (suc i) h = get_d_past xs i (omega arith)
-
 -- ---- one feed more
 
 -- the planned call, by equal numbers
-pub planned-so : (L : List ℕ) (b : ℕ) (T : Table) (X Y kinds starts cuts rooms stream : List ℕ) (room k n w kind start cut most e v : ℕ) (out : List ℕ)
-    → kind ≡ get_or kinds k 0 → start ≡ get_or starts k 0 → e ≡ nearest n cut (length stream) → cut ≡ get_or cuts k 0 → v ≡ nearest w most room → most ≡ get_or rooms k 0
+pub planned-so : (L : List ℕ) (b : ℕ) (T : Table) (X Y : List ℕ) (kinds : List Kind) (starts cuts rooms stream : List ℕ) (room k n w : ℕ) (kind : Kind) (start cut most e v : ℕ) (out : List ℕ)
+    → kind ≡ get_or kinds k Plain → start ≡ get_or starts k 0 → e ≡ nearest n cut (length stream) → cut ≡ get_or cuts k 0 → v ≡ nearest w most room → most ≡ get_or rooms k 0
     → length out ≡ v - w → Meant L (planned b T X Y kinds starts cuts rooms stream room) k n w (call_of L (via_by b T X Y kind) start (take (e - n) (drop n stream)) out)
 planned-so L b T X Y kinds starts cuts rooms stream room k n w kind start cut most e v out hk hs he hc hv hm ho =
     record {
@@ -163,15 +157,12 @@ turned L via at R stream n e out w v f ys Q he hw hv hn hb hl a =
 due-as : (L bs cs ws vs : List ℕ) → bs ≡ cs → ws ≡ vs → Due L bs ws → Due L cs vs
 due-as L bs cs ws vs p q h = rw (p, q) at h
 
--- by the list, an accepted table, and what the fillers wrote: whatever the number says, what a feed goes by is checked
-pub checked-by : (L : List ℕ) (b : ℕ) (T : Table) (X Y : List ℕ) → table_refusal L b T ≡ 0 → X ≡ filled L → Y ≡ filled_index L T → Bytes T.splits → (k : ℕ) → Checked L (via_by b T X Y k)
-checked-by L b T X Y ok x y h k = go (eqb k 0) (eqb k 1) (eqb k 2)
-  where
-    go : (p q r : Bool) → Checked L (cond p by_list (cond q (by_table b T) (cond r (by_matrix X) (by_index b (by_slots T) T.splits Y (k - 3)))))
-    go true q r = tt
-    go false true r = ok
-    go false false true = x
-    go false false false = rw y (filled-checked L b T ok h (k - 3))
+-- by the list, an accepted table, and what the fillers wrote: of whatever kind a feed is, what it goes by is checked
+pub checked-by : (L : List ℕ) (b : ℕ) (T : Table) (X Y : List ℕ) → table_refusal L b T ≡ 0 → X ≡ filled L → Y ≡ filled_index L T → Bytes T.splits → (k : Kind) → Checked L (via_by b T X Y k)
+checked-by L b T X Y ok x y h Plain = tt
+checked-by L b T X Y ok x y h Split = ok
+checked-by L b T X Y ok x y h Matrix = x
+checked-by L b T X Y ok x y h (Prepared split) = rw y (filled-checked L b T ok h split)
 
 -- so the calls change between what is checked
 meant-swaps : (L : List ℕ) (P : Plan) → ((i : ℕ) → Checked L (P.via i)) → (R : List ℕ) (k n w : ℕ) (ms : List (Made Call)) (e v : ℕ) → AsMeant L P k n w ms e v → Along (asked way_of) (Swaps L) R (calls_of ms)
@@ -179,7 +170,7 @@ meant-swaps L P ok R k n w [] e v h = tt
 meant-swaps L P ok R k n w (m ∷ ms) e v h =
     (λ z. (h.0.list, rw h.0.via (ok k)), meant-swaps L P ok (outcome way_of R m.call).saved (suc k) (n + m.fed.bytes) (w + 2 * m.fed.pairs) ms e v h.1)
 
-module _ (L : List ℕ) (b : ℕ) (T : Table) (R out X₀ X Y₀ Y kinds starts cuts rooms stream : List ℕ) (many listed checked written indexed : ℕ) (f : Opened) (vs B : List ℕ) (n w : ℕ) (ws notes Q : List ℕ)
+module _ (L : List ℕ) (b : ℕ) (T : Table) (R out X₀ X Y₀ Y : List ℕ) (kinds : List Kind) (starts cuts rooms stream : List ℕ) (many listed checked written indexed : ℕ) (f : Opened) (vs B : List ℕ) (n w : ℕ) (ws notes Q : List ℕ)
     (lists : listed ≡ list_refusal L) (tables : checked ≡ table_refusal L b T) (matrices : Fills L X₀ written X) (indexes : FillsIndex L b T Y₀ indexed Y)
     (opens : Opens (open_flow L R out) f vs B) (bytes : Bytes T.splits)
     (came : Came L (planned b T X Y kinds starts cuts rooms stream (length vs)) many B (2 * f.pairs) (take (2 * f.pairs) vs) n w ws notes Q) where
@@ -193,7 +184,7 @@ module _ (L : List ℕ) (b : ℕ) (T : Table) (R out X₀ X Y₀ Y kinds starts 
   swaps : f.refusal ≡ 0 → checked ≡ 0 → written ≡ 0 → indexed ≡ 0 → Swapped L (open_flow L R out) (calls_of came-so.feeds)
   swaps z y x u =
       swapped L R out (sym opens.refusal ∙ z) (calls_of came-so.feeds) (pieces-calls piece_of does came-so.feeds came-so.in_bytes)
-      (meant-swaps L plan (λ i. checked-by L b T X Y (sym tables ∙ y) (filled-left L X₀ written X matrices x) (demand-1.indexes-passes L b T Y₀ indexed Y indexes u).1 bytes (get_or kinds i 0))
+      (meant-swaps L plan (λ i. checked-by L b T X Y (sym tables ∙ y) (filled-left L X₀ written X matrices x) (demand-1.indexes-passes L b T Y₀ indexed Y indexes u).1 bytes (get_or kinds i Plain))
       (open_flow L R out).saved 0 0 (2 * (open_flow L R out).pairs) came-so.feeds n w came-so.meant)
 
   eaten : AsDefined piece_of does (open_flow L R out).saved came-so.feeds → all_bytes (asked way_of) (open_flow L R out).saved (calls_of came-so.feeds) ≡ take n stream

@@ -1,5 +1,5 @@
 -- What the drivers promise: the demands said of the numbers that the code answered and the buffers that it left.
-use Rattle.std.specs.Prelude.{ℕ, suc, ◌+◌, ◌-◌, ◌*◌, ◌≤◌, cond, List, [], ◌∷◌, ◌++◌, ◌≡◌, length, get_or, take, drop, eqb, ltb}
+use Rattle.std.specs.Prelude.{ℕ, suc, ◌+◌, ◌-◌, ◌*◌, ◌≤◌, cond, List, [], ◌∷◌, ◌++◌, ◌≡◌, length, get_or, take, drop, ltb}
 use Rattle.list.specs.List.{list_refusal}
 use Rattle.list.specs.Automaton.{start}
 use Rattle.feed.specs.Engine.{Outcome, run}
@@ -20,14 +20,19 @@ use Rattle.table_build.specs.Words.{Tabled, fronts, unbuilt, ZerosBehind}
 use Rattle.table_build.specs.Build.{Building}
 use Rattle.rules.specs.Words.{InWords}
 use Rattle.laws.specs.Words.{build_words}
+use Rattle.laws.specs.declared.Kind.{Kind}
+use Rattle.laws.specs.declared.Kind.TheVariants.{Plain, Split, Matrix, Prepared}
 use Rattle.laws.specs.Calls.{Via, by_list, by_table, by_matrix, by_index, by_slots, Call, way_of}
 use Rattle.laws.specs.Demands.{Due, Swapped}
 
 -- ---- any number of feeds of any kind
 
--- by what a feed goes, as a number says: 0 the list, 1 the table T at b, 2 the matrix X, 3 and more the index Y of T, from the split that is so many more
-abbrev pub via_by : ℕ → Table → List ℕ → List ℕ → ℕ → Via
-via_by b T X Y k = cond (eqb k 0) by_list (cond (eqb k 1) (by_table b T) (cond (eqb k 2) (by_matrix X) (by_index b (by_slots T) T.splits Y (k - 3))))
+-- by what a feed goes: the list alone, the table T at b, the matrix X, or the index Y of T from a split
+abbrev pub via_by : ℕ → Table → List ℕ → List ℕ → Kind → Via
+via_by b T X Y Plain = by_list
+via_by b T X Y Split = by_table b T
+via_by b T X Y Matrix = by_matrix X
+via_by b T X Y (Prepared split) = by_index b (by_slots T) T.splits Y split
 
 abbrev pub call_of : List ℕ → Via → ℕ → List ℕ → List ℕ → Call
 call_of L via at piece out = record { by = record { list = L; via = via }; at = at; piece = piece; out = out }
@@ -51,11 +56,11 @@ pub record Plan : Type 0 where
   pub stream : List ℕ
   pub words : ℕ
 
--- as lent lists say; past their ends stands 0
-abbrev pub planned : ℕ → Table → List ℕ → List ℕ → List ℕ → List ℕ → List ℕ → List ℕ → List ℕ → ℕ → Plan
+-- as lent lists say; past their ends stands 0, and the list alone
+abbrev pub planned : ℕ → Table → List ℕ → List ℕ → List Kind → List ℕ → List ℕ → List ℕ → List ℕ → ℕ → Plan
 planned b T X Y kinds starts cuts rooms stream words =
     record {
-      via = λ i. via_by b T X Y (get_or kinds i 0);
+      via = λ i. via_by b T X Y (get_or kinds i Plain);
       at = λ i. get_or starts i 0;
       cut = λ i. get_or cuts i 0;
       room = λ i. get_or rooms i 0;
@@ -110,7 +115,7 @@ pub record Came (L : List ℕ) (P : Plan) (many : ℕ) (B : List ℕ) (w₀ : �
 
 -- the checks of L and of T at b, filling the matrix and the index, and opening on the record R with all of the words `out` answered so, and left the matrix X and the index Y;
 -- then so many feeds as the lent lists plan
-pub record Driven (L : List ℕ) (b : ℕ) (T : Table) (R out X₀ X Y₀ Y kinds starts cuts rooms stream : List ℕ) (many listed checked filled indexed : ℕ) (opened : Opened) (n w : ℕ) (ws notes Q : List ℕ) : Type 0 where
+pub record Driven (L : List ℕ) (b : ℕ) (T : Table) (R out X₀ X Y₀ Y : List ℕ) (kinds : List Kind) (starts cuts rooms stream : List ℕ) (many listed checked filled indexed : ℕ) (opened : Opened) (n w : ℕ) (ws notes Q : List ℕ) : Type 0 where
   pub lists : listed ≡ list_refusal L
   pub tables : checked ≡ table_refusal L b T
   pub matrices : Fills L X₀ filled X

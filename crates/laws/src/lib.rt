@@ -1,7 +1,7 @@
 // The drivers: code for no user. Each calls the entry points as a caller would, and promises a demand of what they answered and left.
 #![tactic(auto)]
 
-ghost use Rattle.std.specs.Prelude.{◌≤◌, ◌+◌, ◌*◌, ◌/◌, cond, ◌≡◌, length, get_or, take};
+ghost use Rattle.std.specs.Prelude.{◌≤◌, ◌+◌, ◌*◌, ◌/◌, ◌≡◌, length, get_or, take};
 ghost use Rattle.numbers.specs.Number.{placed};
 ghost use Rattle.table.specs.Table.{table};
 ghost use Rattle.feed.specs.Fed.{Answers};
@@ -12,11 +12,20 @@ ghost use Rattle.laws.specs.Drivers.{via_by, call_of, nearest, planned, answer, 
 use feed::{Fed, Opened};
 use table_build::Built;
 
-// The number at a place; past the end that is 0.
-fn number_at(numbers: &[usize], i: usize) -> usize
-    ensures { result ≡ get_or numbers.now i 0 }
+// By what a flow is fed: the list alone, the split table, the matrix, or the index from a split.
+#[derive(Clone, Copy, PartialEq, Eq, Debug)]
+pub enum Kind {
+    Plain,
+    Split,
+    Matrix,
+    Prepared(usize),
+}
+
+// What a list says at a place; past its end that is the default.
+fn at_or<T: Copy>(list: &[T], i: usize, default: T) -> T
+    ensures { result ≡ get_or list.now i default }
 {
-    if i < numbers.len() { numbers[i] } else { 0 }
+    if i < list.len() { list[i] } else { default }
 }
 
 // The number, or the nearest to it of those from `low` to `high`.
@@ -25,20 +34,7 @@ fn within(low: usize, x: usize, high: usize) -> usize
     ensures between { (low ≤ result) × (result ≤ high) }
     ensures nearest { result ≡ nearest low x high }
 {
-    if x < low {
-        return low;
-    }
-    if high < x {
-        return high;
-    }
-    x
-}
-
-// 1 for true.
-fn flag(b: bool) -> usize
-    ensures { result ≡ cond b 1 0 }
-{
-    if b { 1 } else { 0 }
+    x.clamp(low, high)
 }
 
 // Writes what feed i answered, four numbers for each feed: the refusal, the bytes, the pairs, and 1 where all was consumed.
@@ -50,10 +46,10 @@ fn note(notes: &mut [usize], i: usize, fed: Fed)
     notes[at] = fed.refusal as usize;
     notes[at + 1] = fed.bytes;
     notes[at + 2] = fed.pairs;
-    notes[at + 3] = flag(fed.all);
+    notes[at + 3] = usize::from(fed.all);
 }
 
-// Feeds a piece by what the number says: 0 the list, 1 the table, 2 the matrix, 3 and more the index, from the split that is so many more.
+// Feeds a piece by what is said.
 pub fn feed_by(
     list: &[u8],
     bound: u64,
@@ -63,7 +59,7 @@ pub fn feed_by(
     splits: &[u8],
     matrix: &[u8],
     index: &[u8],
-    kind: usize,
+    kind: Kind,
     flow: &mut [u8],
     start: u64,
     piece: &[u8],
@@ -74,19 +70,16 @@ pub fn feed_by(
         matrix.now index.now kind)
         start piece.now pairs.old)) result pairs.new flow.new }
 {
-    if kind == 0 {
-        return list_feed::feed(list, flow, start, piece, pairs);
-    }
-    if kind == 1 {
-        return table_feed::feed(
+    match kind {
+        Kind::Plain => list_feed::feed(list, flow, start, piece, pairs),
+        Kind::Split => table_feed::feed(
             list, bound, classes, parts, rows, splits, flow, start, piece, pairs,
-        );
+        ),
+        Kind::Matrix => matrix::feed(list, matrix, flow, start, piece, pairs),
+        Kind::Prepared(split) => {
+            index_feed::feed(splits, index, split, flow, start, piece, pairs).fed
+        }
     }
-    if kind == 2 {
-        return matrix::feed(list, matrix, flow, start, piece, pairs);
-    }
-    let stood = index_feed::feed(splits, index, kind - 3, flow, start, piece, pairs);
-    stood.fed
 }
 
 // Feeds bytes n to e of a stream, with words w to v.
@@ -99,7 +92,7 @@ fn feed_part(
     splits: &[u8],
     matrix: &[u8],
     index: &[u8],
-    kind: usize,
+    kind: Kind,
     flow: &mut [u8],
     start: u64,
     stream: &[u8],
@@ -139,7 +132,7 @@ struct FedAll {
     words: usize,
 }
 
-// Feeds a stream by as many feeds as there are notes for, behind the words told so far: each goes by what a list of numbers says, states the start that a list of
+// Feeds a stream by as many feeds as there are notes for, behind the words told so far: each goes by what a list says, states the start that a list of
 // starts says, ends at the byte that a list of cuts says, and has words up to where a list of rooms says. What each answered is noted.
 // One that is refused consumes nothing, and the next goes on from the same byte.
 fn feed_all(
@@ -152,7 +145,7 @@ fn feed_all(
     matrix: &[u8],
     index: &[u8],
     flow: &mut [u8],
-    kinds: &[usize],
+    kinds: &[Kind],
     starts: &[usize],
     cuts: &[usize],
     rooms: &[usize],
@@ -171,18 +164,19 @@ fn feed_all(
     let mut n = 0usize;
     let mut w = told;
     let many = notes.len() / 4;
+    // By index: each list says what it says of feed i at place i.
     for i in 0..many {
-        let e = within(n, number_at(cuts, i), stream.len());
-        let v = within(w, number_at(rooms, i), pairs.len());
-        let kind = number_at(kinds, i);
-        let start = number_at(starts, i) as u64;
+        let e = within(n, at_or(cuts, i, 0), stream.len());
+        let v = within(w, at_or(rooms, i, 0), pairs.len());
+        let kind = at_or(kinds, i, Kind::Plain);
+        let start = at_or(starts, i, 0) as u64;
         let fed = feed_part(
             list, bound, classes, parts, rows, splits, matrix, index, kind, flow, start, stream, n,
             e, pairs, w, v,
         );
         note(notes, i, fed);
-        n = n + fed.bytes;
-        w = w + 2 * fed.pairs;
+        n += fed.bytes;
+        w += 2 * fed.pairs;
     }
     FedAll { bytes: n, words: w }
 }
@@ -211,7 +205,7 @@ fn drive(
     matrix: &mut [u8],
     index: &mut [u8],
     flow: &mut [u8],
-    kinds: &[usize],
+    kinds: &[Kind],
     starts: &[usize],
     cuts: &[usize],
     rooms: &[usize],
@@ -251,11 +245,11 @@ fn drive(
         told,
     );
     Drove {
-        listed: listed,
-        checked: checked,
-        filled: filled,
-        indexed: indexed,
-        opened: opened,
+        listed,
+        checked,
+        filled,
+        indexed,
+        opened,
         bytes: fed.bytes,
         words: fed.words,
     }
@@ -294,6 +288,6 @@ fn drive_build(
     );
     DroveBuild {
         built: made,
-        checked: checked,
+        checked,
     }
 }

@@ -6,7 +6,7 @@ use mathlib.Core.List.{List, [], ◌∷◌, ◌++◌}
 use lib.Count.{ones_in}
 use lib.Dec.{T, eqb, eqb→eq}
 use Rattle.numbers.specs.Number.{num, digits, before}
-use Rattle.sets.specs.Set.{holds, join, within, insert, size, members, set_at, sigs_at}
+use Rattle.sets.specs.Set.{holds, join, within, insert, size, members, read_at}
 use Rattle.rules.specs.Scan.{some, every, first, gather, rising, stack}
 use Rattle.rules.specs.Rules.{verdict}
 use Rattle.list.specs.List.{good_record, bad_length, bad_record, no_start}
@@ -60,7 +60,7 @@ agree-append (r ∷ rs) qs p q = (p.0, agree-append rs qs p.1 q)
 
 -- what the rows compute with: a line that names one of these opens all that its own line names
 unfoldable pub steps : ℕ
-unfolding num digits holds join within insert size ones_in members set_at before some every first gather verdict good_record bad_length bad_record no_start start step accepted named_by
+unfolding num digits holds join within insert size ones_in members read_at before some every first gather verdict good_record bad_length bad_record no_start start step accepted named_by
 steps = 0
 
 checks : ℕ
@@ -114,7 +114,7 @@ orders-hold = tt
 
 -- what the index's rows compute with, beside those
 indexing : ℕ
-unfolding sigs_at stack told_of split_at known_in bad_index halved sought_of holds_at began named_from stood_at word_of words_of cost_of entry_of index_of
+unfolding read_at stack told_of split_at known_in bad_index halved sought_of holds_at began named_from stood_at word_of words_of cost_of entry_of index_of
 indexing = 0
 
 index-holds : T (same index_row.0 index_row.1)

@@ -1,13 +1,13 @@
 -- A record that is another with other numbers at bytes 4 to 7: it is of the same kind, the same bytes take it, and its numbers are the new ones. Assumes nothing.
 use Prim.Native.Nat.{ℕ, zero, suc, ◌+◌, ◌*◌, ◌/◌, ◌%◌, ◌<◌, ◌≤◌}
-use mathlib.Core.Path.{◌≡◌, refl, sym, ap, ◌∙◌}
+use mathlib.Core.Path.{◌≡◌, refl, ap, ◌∙◌}
 use mathlib.Core.List.{List, [], ◌∷◌, ◌++◌}
 use native.Mathlib.Omega.{arith}
 use lib.ListN.{length, get_or, take, drop, length-append, length-drop}
 use lib.Seq.{drop-cons, length-take-le}
 use lib.Dec.{eqb}
-use Rattle.numbers.specs.Number.{num, digits, placed}
-use Rattle.numbers.proofs.Laws.{Small, small-take, small-drop, length_digits, digits-num}
+use Rattle.numbers.specs.Number.{digits, placed}
+use Rattle.numbers.proofs.Laws.{length_digits}
 use Rattle.numbers.proofs.Placing.{placed-after}
 use Rattle.list.specs.List.{records, byte_of, is_edge, is_start, is_accept, from, target, record_with}
 use Rattle.list.specs.Automaton.{edge}
@@ -70,23 +70,19 @@ four L at h =
       drop-cons L (suc (suc (suc at))) 0 (omega arith),
     )
 
-four-again : (L : List ℕ) (at : ℕ) → Small 8 L → at + 4 ≤ length L → digits 8 4 (num 8 (take 4 (drop at L))) ≡ take 4 (drop at L)
-four-again L at s h =
-    let m : 4 ≤ length (drop at L) = simp length-drop (omega arith) in
-    ap (λ (k : ℕ). digits 8 k (num 8 (take 4 (drop at L)))) (sym (length-take-le 4 (drop at L) m)) ∙ digits-num 8 (take 4 (drop at L)) (small-take 8 4 (drop at L) (small-drop 8 at L s))
-
 made : (L : List ℕ) (i f t : ℕ) → ((get_or L (8 * i) 0 ∷ get_or L (8 * i + 1) 0 ∷ get_or L (8 * i + 2) 0 ∷ get_or L (8 * i + 3) 0 ∷ []) ++ digits 8 2 f) ++ digits 8 2 t ≡ record_with L i f t
 unfolding record_with digits
 made L i f t = let z : 8 * i + 0 ≡ 8 * i = omega arith in rw z
 
-pub copied_at : (b L : List ℕ) (at i f t : ℕ) → Small 8 L → i < records L → at + 8 ≤ length b
-    → placed (placed (placed b at (digits 8 4 (num 8 (take 4 (drop (8 * i) L))))) (at + 4) (digits 8 2 f)) (at + 6) (digits 8 2 t) ≡ placed b at (record_with L i f t)
-copied_at b L at i f t s h l =
-    let D = digits 8 4 (num 8 (take 4 (drop (8 * i) L))) in
-    let d = length_digits 8 4 (num 8 (take 4 (drop (8 * i) L))) in
+pub copied_at : (b L : List ℕ) (at i f t : ℕ) → i < records L → at + 8 ≤ length b
+    → placed (placed (placed b at (take 4 (drop (8 * i) L))) (at + 4) (digits 8 2 f)) (at + 6) (digits 8 2 t) ≡ placed b at (record_with L i f t)
+copied_at b L at i f t h l =
+    let D = take 4 (drop (8 * i) L) in
+    let m : 4 ≤ length (drop (8 * i) L) = simp length-drop (omega arith) in
+    let d : length D ≡ 4 = length-take-le 4 (drop (8 * i) L) m in
     let p = length_digits 8 2 f in
     let q = length_digits 8 2 t in
     let e : length (D ++ digits 8 2 f) ≡ 6 = length-append D (digits 8 2 f) ∙ omega (arith, d, p) in
     ap (λ z. placed z (at + 6) (digits 8 2 t)) (placed-after b at D (digits 8 2 f) (at + 4) (omega (arith, d)) (omega (arith, p)))
     ∙ placed-after b at (D ++ digits 8 2 f) (digits 8 2 t) (at + 6) (omega (arith, e)) (omega (arith, q))
-    ∙ ap (placed b at) (ap (λ z. (z ++ digits 8 2 f) ++ digits 8 2 t) (four-again L (8 * i) s (omega arith) ∙ four L (8 * i) (omega arith)) ∙ made L i f t)
+    ∙ ap (placed b at) (ap (λ z. (z ++ digits 8 2 f) ++ digits 8 2 t) (four L (8 * i) (omega arith)) ∙ made L i f t)

@@ -64,6 +64,9 @@ pub good-other : (L : List ℕ) (i : ℕ) → is_edge L i ≡ false → is_start
 unfolding good_record
 good-other L i e s = rw (e, s)
 
+pub good-none : (L : List ℕ) (i : ℕ) → is_edge L i ≡ false → is_start L i ≡ false → is_accept L i ≡ false → good_record L i ≡ false
+good-none L i e s a = good-other L i e s ∙ rw a
+
 -- and each kind in words. Bytes 1 to n are zero
 zeros-exactly : (L : List ℕ) (i n : ℕ) → zeros L i n ≡ true ↔ ((k : ℕ) → 1 ≤ k → k ≤ n → byte_of L i k ≡ 0)
 zeros-exactly L i n = (there, back)

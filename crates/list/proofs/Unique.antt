@@ -4,8 +4,7 @@ use mathlib.Core.Path.{◌≡◌, sym, ap, ◌∙◌}
 use mathlib.Core.Bool.{Bool}
 use mathlib.Core.List.{List}
 use lib.ListN.{get_or}
-use Rattle.sets.specs.declared.StateSet.{StateSet}
-use Rattle.sets.specs.declared.SigSet.{SigSet}
+use Rattle.sets.specs.declared.Set.{Set}
 use Rattle.sets.specs.Set.{set_words, sig_words, set_of, sigs_of}
 use Rattle.sets.proofs.Sets.{Words, set-one, sigs-one}
 use Rattle.list.specs.List.{list_refusal}
@@ -28,7 +27,7 @@ pub unique-state-count : (L : List ℕ) (x y : ℕ) → x ≡ suc (highest L) �
 unique-state-count L x y p q = p ∙ sym q
 
 -- sets that own as many words as their kind has, each of 64 bits
-module _ (x y : StateSet) (vx : Words set_words x.words) (vy : Words set_words y.words) where
+module _ (x y : Set set_words) (vx : Words set_words x.words) (vy : Words set_words y.words) where
   pub unique-start-set : (L : List ℕ) → set_of x ≡ start L → set_of y ≡ start L → x ≡ y
   unique-start-set L p q = set-one x y vx vy (p ∙ sym q)
 
@@ -41,6 +40,6 @@ module _ (x y : StateSet) (vx : Words set_words x.words) (vy : Words set_words y
   pub unique-step : (L : List ℕ) (F c : ℕ) → set_of x ≡ step L F c → set_of y ≡ step L F c → x ≡ y
   unique-step L F c p q = set-one x y vx vy (p ∙ sym q)
 
-pub unique-accepted : (L : List ℕ) (F : ℕ) (x y : SigSet) → Words sig_words x.words → Words sig_words y.words
+pub unique-accepted : (L : List ℕ) (F : ℕ) (x y : Set sig_words) → Words sig_words x.words → Words sig_words y.words
     → sigs_of x ≡ accepted L F → sigs_of y ≡ accepted L F → x ≡ y
 unique-accepted L F x y vx vy p q = sigs-one x y vx vy (p ∙ sym q)

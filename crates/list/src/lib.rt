@@ -1,7 +1,8 @@
 // The signature list: the reads of its records, its check, and the automaton that it writes down.
+// A record is the list and its place: what reads one asks that it is there, as `byte_of` does.
 #![tactic(auto)]
 
-ghost use Rattle.std.specs.Prelude.{◌≡◌, true, ◌&&◌, ◌||◌, cond, ℕ, suc, max, ◌+◌, ◌-◌, ◌*◌, ◌%◌, ◌<◌, ◌≤◌, length, get_or, leb};
+ghost use Rattle.std.specs.Prelude.{◌≡◌, true, ◌&&◌, ◌||◌, cond, ℕ, suc, ◌+◌, ◌-◌, ◌*◌, ◌%◌, ◌<◌, ◌≤◌, length, get_or, leb};
 ghost use Rattle.numbers.specs.Number.{num, placed};
 ghost use Rattle.sets.specs.Set.{set_words, set_size, set_of, sigs_of, holds, insert, set_at};
 ghost use Rattle.rules.specs.Scan.{some, every};
@@ -9,6 +10,7 @@ ghost use Rattle.list.specs.List.{record_size, records, byte_of, word_of, is_edg
 ghost use Rattle.list.specs.List.{target, zeros, good_edge, good_start, good_accept, good_record, bad_length, bad_record, no_start, list_refusal};
 ghost use Rattle.list.specs.Automaton.{exchanged, between, edge, leaves, start, step, accepted, accepting, with_named, named_by, named, higher, highest};
 ghost use Rattle.list.specs.inner.Survey.{Surveys};
+ghost use Rattle.list.specs.Kinds.{KindIs};
 
 use sets::{SigSet, StateSet};
 
@@ -35,6 +37,14 @@ const EITHER_CASE: u8 = 1;
 const FROM: usize = 4;
 
 pub const TARGET: usize = 6;
+
+// What a record says: an edge from a state to one, a start state, or a state that accepts a signature.
+#[derive(Clone, Copy, PartialEq, Eq, Debug)]
+pub enum Kind {
+    Edge,
+    Start,
+    Accept,
+}
 
 // The list check's answer and, where it passes, whether the list names every state of a set.
 #[derive(Clone, Copy)]
@@ -73,6 +83,8 @@ fn word_of(list: &[u8], i: usize, k: usize) -> usize
     numbers::whole_number(list, RECORD_SIZE * i + k, 2) as usize
 }
 
+// A function each, and not one that takes a kind: the step and the check test one byte, and each is its definition.
+
 // Says whether record i is an edge.
 pub fn is_edge(list: &[u8], i: usize) -> bool
     requires { i < records list.now }
@@ -95,6 +107,19 @@ pub fn is_accept(list: &[u8], i: usize) -> bool
     ensures { result ≡ is_accept list.now i }
 {
     byte_of(list, i, 0) == ACCEPT
+}
+
+// The kind of record i, where it is one.
+pub fn kind_of(list: &[u8], i: usize) -> Option<Kind>
+    requires { i < records list.now }
+    ensures { KindIs list.now i result }
+{
+    match byte_of(list, i, 0) {
+        EDGE => Some(Kind::Edge),
+        START => Some(Kind::Start),
+        ACCEPT => Some(Kind::Accept),
+        _ => None,
+    }
 }
 
 // The state that record i leaves or names.
@@ -120,7 +145,7 @@ fn zeros(list: &[u8], i: usize, n: usize) -> bool
 {
     let mut all = true;
     for k in 0..n {
-        all = all & (byte_of(list, i, k + 1) == 0);
+        all &= byte_of(list, i, k + 1) == 0;
     }
     all
 }
@@ -161,13 +186,12 @@ pub fn good_record(list: &[u8], i: usize) -> bool
     requires { i < records list.now }
     ensures { result ≡ good_record list.now i }
 {
-    if is_edge(list, i) {
-        return good_edge(list, i);
+    match kind_of(list, i) {
+        Some(Kind::Edge) => good_edge(list, i),
+        Some(Kind::Start) => good_start(list, i),
+        Some(Kind::Accept) => good_accept(list, i),
+        None => false,
     }
-    if is_start(list, i) {
-        return good_start(list, i);
-    }
-    good_accept(list, i)
 }
 
 // Says whether rule 1 refuses the list.
@@ -253,13 +277,11 @@ pub fn start_set(list: &[u8]) -> StateSet
 pub fn exchanged(c: u8) -> u8
     ensures { result ≡ exchanged c }
 {
-    if (65 <= c) & (c <= 90) {
-        return c + 32;
+    match c {
+        b'A'..=b'Z' => c + 32,
+        b'a'..=b'z' => c - 32,
+        _ => c,
     }
-    if (97 <= c) & (c <= 122) {
-        return c - 32;
-    }
-    c
 }
 
 // How far byte c is above low of record i, where 0 follows 255.
@@ -320,8 +342,8 @@ fn places(w: &[u64]) -> u64
     ensures { (j : ℕ) → holds result j ≡ some (length w.now) (λ i. holds (get_or w.now i 0) j) }
 {
     let mut all = 0u64;
-    for i in 0..w.len() {
-        all = all | w[i];
+    for x in w {
+        all |= *x;
     }
     all
 }
@@ -411,26 +433,22 @@ fn put_good(list: &[u8], i: usize, w: &mut [u64]) -> bool
     ensures { (result ≡ good_record list.now i)
         × (num 64 w.new ≡ cond result (with_named (64 * length w.old) list.now i (num 64 w.old)) (num 64 w.old)) }
 {
-    if is_edge(list, i) {
-        if !good_edge(list, i) {
-            return false;
+    match kind_of(list, i) {
+        Some(Kind::Edge) if good_edge(list, i) => {
+            sets::put_bit(w, from(list, i));
+            sets::put_bit(w, target(list, i));
+            true
         }
-        sets::put_bit(w, from(list, i));
-        sets::put_bit(w, target(list, i));
-        return true;
-    }
-    if is_start(list, i) {
-        if !good_start(list, i) {
-            return false;
+        Some(Kind::Start) if good_start(list, i) => {
+            sets::put_bit(w, target(list, i));
+            true
         }
-        sets::put_bit(w, target(list, i));
-        return true;
+        Some(Kind::Accept) if good_accept(list, i) => {
+            sets::put_bit(w, from(list, i));
+            true
+        }
+        _ => false,
     }
-    if !good_accept(list, i) {
-        return false;
-    }
-    sets::put_bit(w, from(list, i));
-    true
 }
 
 // Goes through the records from `from` to `end`, and puts the states that they name into the words of a set; says whether they are all good. The words
@@ -498,7 +516,7 @@ pub fn survey_list(list: &[u8], flow: &[u8]) -> Survey
     }
     Survey {
         refusal: rules::PASSED,
-        known: known,
+        known,
     }
 }
 
@@ -525,28 +543,17 @@ pub fn names(list: &[u8]) -> StateSet
     StateSet::of_words(w)
 }
 
-// The larger of two numbers.
-fn larger(x: usize, y: usize) -> usize
-    ensures { result ≡ max x y }
-{
-    if x < y { y } else { x }
-}
-
 // The higher of n and the states that record i names.
 pub fn higher(list: &[u8], i: usize, n: usize) -> usize
     requires { i < records list.now }
     ensures { result ≡ higher list.now i n }
 {
-    let linked = is_edge(list, i);
-    let mut x = 0usize;
-    if linked | is_accept(list, i) {
-        x = from(list, i);
+    match kind_of(list, i) {
+        Some(Kind::Edge) => n.max(from(list, i)).max(target(list, i)),
+        Some(Kind::Start) => n.max(target(list, i)),
+        Some(Kind::Accept) => n.max(from(list, i)),
+        None => n,
     }
-    let mut y = 0usize;
-    if linked | is_start(list, i) {
-        y = target(list, i);
-    }
-    larger(larger(n, x), y)
 }
 
 // How many numbers the states of a list take: 0 to the highest that a record names.
@@ -566,12 +573,8 @@ pub fn copy_record(list: &mut [u8], at: usize, from: &[u8], i: usize, f: usize, 
     requires { (i < records from.now) × (at + record_size ≤ length list.old) }
     ensures { list.new ≡ placed list.old at (record_with from.now i f t) }
 {
-    numbers::put_number(
-        list,
-        at,
-        FROM,
-        numbers::whole_number(from, RECORD_SIZE * i, FROM),
-    );
+    let start = RECORD_SIZE * i;
+    list[at..at + FROM].copy_from_slice(&from[start..start + FROM]);
     numbers::put_number(list, at + FROM, 2, f as u64);
     numbers::put_number(list, at + TARGET, 2, t as u64);
 }

@@ -14,27 +14,27 @@ const PLACES: usize = 257;
 
 // The key at a place; 0 where there is none.
 fn key_at(keys: &[u64], at: usize) -> u64 {
-    if at < keys.len() { keys[at] } else { 0 }
+    keys.get(at).copied().unwrap_or(0)
 }
 
 // Adds a number to the key at a place, where there is one; the sum goes round.
 fn add_key(keys: &mut [u64], at: usize, x: u64) {
-    if at < keys.len() {
-        keys[at] = std::num::wrapping_add_u64(keys[at], x);
+    if let Some(key) = keys.get_mut(at) {
+        *key = key.wrapping_add(x);
     }
 }
 
 // Takes a number from the key at a place, where there is one; the difference goes round.
 fn take_key(keys: &mut [u64], at: usize, x: u64) {
-    if at < keys.len() {
-        keys[at] = std::num::wrapping_sub_u64(keys[at], x);
+    if let Some(key) = keys.get_mut(at) {
+        *key = key.wrapping_sub(x);
     }
 }
 
 // Mixes a number into the key at a place, where there is one: keys that were mixed alike stay the same.
 pub fn mix_key(keys: &mut [u64], at: usize, x: u64) {
-    if at < keys.len() {
-        keys[at] = keys[at] % 4294967296 * 65599 + x % 4294967296;
+    if let Some(key) = keys.get_mut(at) {
+        *key = *key % 4294967296 * 65599 + x % 4294967296;
     }
 }
 
@@ -50,7 +50,7 @@ fn weight_if(test: bool, weight: u64) -> u64 {
 
 // Adds a weight to the key of each letter that is outside the range from low to high and inside it with its case exchanged.
 fn add_letters(low: u8, high: u8, weight: u64, keys: &mut [u64]) {
-    for c in 65..91u8 {
+    for c in b'A'..=b'Z' {
         let d = c + 32;
         let capital = (low <= c) & (c <= high);
         let small = (low <= d) & (d <= high);
@@ -87,9 +87,9 @@ fn mark_edges(list: &[u8], marks: &mut [u64], keys: &mut [u64]) {
 // Adds to each key the marks up to its byte: the weights of the edges that begin there or below, and do not end below.
 fn add_marks(marks: &[u64], keys: &mut [u64]) {
     let mut all = 0u64;
-    for c in 0..BYTE_VALUES {
-        all = std::num::wrapping_add_u64(all, key_at(marks, c));
-        add_key(keys, c, all);
+    for (key, mark) in keys.iter_mut().zip(marks) {
+        all = all.wrapping_add(*mark);
+        *key = key.wrapping_add(all);
     }
 }
 
@@ -100,14 +100,24 @@ fn add_edges(list: &[u8], keys: &mut [u64]) {
     add_marks(&marks, keys);
 }
 
-// The place at which a byte with the key of byte c stands, or one at which 0 stands.
-fn place_of(keys: &[u64], places: &[u8], c: u8) -> usize {
+// The byte that stands at a place, where there is one.
+fn byte_on(places: &[Option<u8>], at: usize) -> Option<u8> {
+    places.get(at).copied().flatten()
+}
+
+// Says whether a byte has the key of byte c.
+fn same_key(keys: &[u64], d: u8, c: u8) -> bool {
+    key_at(keys, d as usize) == key_at(keys, c as usize)
+}
+
+// The place at which a byte with the key of byte c stands, or a free one. The places are tried in turn, from the key's own, round the end.
+fn place_of(keys: &[u64], places: &[Option<u8>], c: u8) -> usize {
     let key = key_at(keys, c as usize);
     for j in 0..PLACES {
         let at = ((key % 257) as usize + j) % PLACES;
-        let d = list::byte_at(places, at);
-        if (d == 0) | (key_at(keys, d as usize) == key) {
-            return at;
+        match byte_on(places, at) {
+            Some(d) if !same_key(keys, d, c) => {}
+            _ => return at,
         }
     }
     0
@@ -115,8 +125,8 @@ fn place_of(keys: &[u64], places: &[u8], c: u8) -> usize {
 
 // Puts byte c at a place, where there is one.
 pub fn put_byte(places: &mut [u8], at: usize, c: u8) {
-    if at < places.len() {
-        places[at] = c;
+    if let Some(place) = places.get_mut(at) {
+        *place = c;
     }
 }
 
@@ -127,7 +137,7 @@ fn alike_at(list: &[u8], c: u8, d: u8, i: usize) -> bool
 {
     let one = list::edge(list, c, list::exchanged(c), i);
     let other = list::edge(list, d, list::exchanged(d), i);
-    (one & other) | (!one & !other)
+    one == other
 }
 
 // Says whether every edge of the list goes alike on both bytes.
@@ -144,19 +154,19 @@ fn edges_alike(list: &[u8], c: u8, d: u8) -> bool
 }
 
 // A byte on which the list steps as on c: the one with its key that stands at a place, where every edge goes alike on both, or c.
-fn alike_to(list: &[u8], keys: &[u64], places: &mut [u8], c: u8) -> u8
+fn alike_to(list: &[u8], keys: &[u64], places: &mut [Option<u8>], c: u8) -> u8
     ensures { Alike list.now result c }
 {
     let at = place_of(keys, places, c);
-    let d = list::byte_at(places, at);
-    if (d < c) & (key_at(keys, d as usize) == key_at(keys, c as usize)) {
-        if edges_alike(list, d, c) {
-            return d;
+    match byte_on(places, at) {
+        Some(d) if same_key(keys, d, c) => if edges_alike(list, d, c) { d } else { c },
+        _ => {
+            if let Some(place) = places.get_mut(at) {
+                *place = Some(c);
+            }
+            c
         }
-        return c;
     }
-    put_byte(places, at, c);
-    c
 }
 
 // Gives each byte one on which the list steps as on it. Bytes of one key, with what is added of the edges, are compared with the lowest of them.
@@ -165,7 +175,8 @@ pub fn fill_alikes(list: &[u8], keys: &mut [u64], alikes: &mut [u8])
     ensures { Alikes list.now alikes.new }
 {
     add_edges(list, keys);
-    let mut places = [0u8; PLACES];
+    // A table in an array: the library has no heap.
+    let mut places = [None; PLACES];
     for c in 0..BYTE_VALUES {
         alikes[c] = alike_to(list, keys, &mut places, c as u8);
     }

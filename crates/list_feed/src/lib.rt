@@ -8,7 +8,7 @@ ghost use Rattle.feed.specs.Fed.{Answers};
 ghost use Rattle.list_flow.specs.inner.Leaves.{Leaves};
 ghost use Rattle.list_feed.specs.Plain.{plain, plain_feed};
 
-use feed::{Fed, Told};
+use feed::Fed;
 use list_flow::Ran;
 use sets::StateSet;
 
@@ -24,33 +24,30 @@ fn feed_bytes(list: &[u8], first: StateSet, offset: u64, piece: &[u8], pairs: &m
     for i in 0..piece.len() {
         let next = list::step(list, f, piece[i]);
         let at = (offset + i as u64 + 1) as u32;
-        let mut told = Told {
-            fits: true,
-            words: words,
+        let told = if next.meets(accepting) {
+            list_flow::tell_accepted(list, next, pairs, words, at)
+        } else {
+            Some(words)
         };
-        if next.meets(accepting) {
-            told = list_flow::tell_accepted(list, next, pairs, words, at);
-        }
-        let fits = told.fits;
-        if !fits {
+        let Some(end) = told else {
             return Ran {
                 refusal: rules::PASSED,
                 frontier: f,
                 bytes: i,
-                words: words,
-                rows: rows,
+                words,
+                rows,
             };
-        }
-        words = told.words;
-        rows = rows + f.count() as u64;
+        };
+        words = end;
+        rows += f.count() as u64;
         f = next;
     }
     Ran {
         refusal: rules::PASSED,
         frontier: f,
         bytes: piece.len(),
-        words: words,
-        rows: rows,
+        words,
+        rows,
     }
 }
 

@@ -1,7 +1,7 @@
 -- Opening by the code: which rule refuses it, and that it tells and saves what the definition does; and the room that always suffices. Assumes nothing.
-use Prim.Native.Nat.{ℕ, ◌*◌, ◌-◌, ◌/◌, ◌≤◌}
+use Prim.Native.Nat.{ℕ, ◌+◌, ◌*◌, ◌-◌, ◌/◌, ◌≤◌}
 use mathlib.Core.Path.{◌≡◌, refl, sym, ap, ◌∙◌}
-use mathlib.Core.Bool.{true, false, cond}
+use mathlib.Core.Bool.{cond}
 use mathlib.Core.List.{List, [], ◌∷◌}
 use native.Mathlib.Omega.{arith}
 use lib.ListN.{length}
@@ -18,7 +18,7 @@ use Rattle.feed.specs.Engine.{room}
 use Rattle.feed.specs.Opening.{no_room, Opens}
 use Rattle.feed.proofs.Runs.{pairs_at-length}
 use Rattle.feed.proofs.Opening.{opening-refusal, opening-fits, opens-told, opens-refused}
-use Rattle.feed.specs.declared.Told.{Told}
+use Rattle.std.specs.Prelude.{Option, Some, None, is_some}
 use Rattle.feed.specs.inner.Told.{TellsAll}
 use Rattle.list_flow.specs.Flow.{flow_size, flow_bytes, wrong_size}
 use Rattle.list_flow.specs.Opening.{open_pairs, first_rules, open_rules, open_flow, opened}
@@ -74,23 +74,23 @@ module _ (L R out : List ℕ) where
       let e = verdict-refused (first_rules L R) ((15, no_room (open_pairs L) out) ∷ []) v in
       opens-refused (open_rules L R out) (open_pairs L) (opened L) R out (λ z. v (sym e ∙ z)) f (n ∙ sym e) p
 
-  module _ (F : ℕ) (first : F ≡ start L) (t : Told) (left : List ℕ) (told : TellsAll (accepted L F) out 0 0 t left) (v : verdict (first_rules L R) ≡ 0) where
+  module _ (F : ℕ) (first : F ≡ start L) (t : Option ℕ) (left : List ℕ) (told : TellsAll (accepted L F) out 0 0 t left) (v : verdict (first_rules L R) ≡ 0) where
     many : size signatures (accepted L F) ≡ length (open_pairs L) / 2
     many = rw first (omega (arith, open_pairs-long L))
 
     -- 15: the pairs do not fit, and no word is written
-    pub open_full : (f : Opened) → t.fits ≡ false → f.refusal ≡ 15 → f.pairs ≡ 0 → Opens (open_flow L R out) f left R
+    pub open_full : (f : Opened) → t ≡ None → f.refusal ≡ 15 → f.pairs ≡ 0 → Opens (open_flow L R out) f left R
     open_full f b n p =
-        let l = leb-false (size signatures (accepted L F)) ((length out - 0) / 2) (sym told.fits ∙ b) in
+        let l = leb-false (size signatures (accepted L F)) ((length out - 0) / 2) (sym told.fits ∙ ap is_some b) in
         let e : verdict (open_rules L R out) ≡ 15 = past v ∙ stop 15 [] (lt-ltb (room out) (length (open_pairs L) / 2) (omega (arith, many))) in
         rw (rw b at told.wrote) (opens-refused (open_rules L R out) (open_pairs L) (opened L) R out (λ z. omega (arith, e, z)) f (n ∙ sym e) p)
 
     -- they fit: they are told, and the start states are saved
-    pub open_told : (f : Opened) → t.fits ≡ true → f.refusal ≡ 0 → f.pairs ≡ t.words / 2
+    pub open_told : (f : Opened) (m : ℕ) → t ≡ Some m → f.refusal ≡ 0 → f.pairs ≡ m / 2
         → (sv : List ℕ) → sv ≡ cond (eqb (length R) flow_size) (flow_bytes F 0 0) R → Opens (open_flow L R out) f left sv
     unfolding open_pairs
-    open_told f b n p sv s =
-        let l = leb-true (size signatures (accepted L F)) ((length out - 0) / 2) (sym told.fits ∙ b) in
+    open_told f m b n p sv s =
+        let l = leb-true (size signatures (accepted L F)) ((length out - 0) / 2) (sym told.fits ∙ ap is_some b) in
         let e : verdict (open_rules L R out) ≡ 0 = past v ∙ last 15 (le-ltb (room out) (length (open_pairs L) / 2) (omega (arith, many))) in
         opens-told (open_rules L R out) (open_pairs L) (opened L) R out e (omega (arith, open_pairs-long L, many)) f n
-        (p ∙ omega (arith, rw b at told.words, many)) left sv (rw (b, first) at told.wrote) (s ∙ rw (eq-eqb (length R) flow_size (open-size e), first))
+        (p ∙ (let q : m ≡ 0 + 2 * size signatures (accepted L F) = rw b at told.words in omega (arith, q, many))) left sv (rw (b, first) at told.wrote) (s ∙ rw (eq-eqb (length R) flow_size (open-size e), first))

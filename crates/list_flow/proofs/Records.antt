@@ -10,7 +10,7 @@ use lib.Dec.{eqb, ltb}
 use lib.Pow.{pow_pos}
 use borrow.Author.Tests.{eqb-true, eq-eqb, ltb-false, le-ltb, not-false}
 use Rattle.numbers.specs.Number.{num, digits, placed}
-use Rattle.sets.specs.Set.{states, set_size, set_bytes, set_at}
+use Rattle.sets.specs.Set.{states, set_size, set_bytes, read_at}
 use Rattle.numbers.proofs.Placing.{placed-after, placed-all}
 use Rattle.numbers.proofs.Laws.{num-digits, length_digits, digits-num, num-take-lt}
 use Rattle.sets.proofs.Sets.{set-at-lt}
@@ -37,7 +37,7 @@ module _ (F k n : ℕ) where
 
   -- each of its fields is read again
   pub frontier-flow : F < 2 ^ states → frontier_of (flow_bytes F k n) ≡ F
-  unfolding set_at flow_bytes
+  unfolding read_at flow_bytes
   frontier-flow h =
       rw (take_at (set_bytes F) (digits 8 4 k ++ (digits 8 4 0 ++ digits 8 8 n)) set_size (length_digits 8 set_size F)) (num-digits 8 set_size F h)
 
@@ -93,7 +93,7 @@ module _ (R : List ℕ) (h : Bytes R) where
 
   -- a record that rule 4 takes is what is written of its frontier, offset and rows
   pub flow-again : bad_flow R ≡ false → flow_bytes (frontier_of R) (offset_of R) (rows_of R) ≡ R
-  unfolding set_at flow_bytes
+  unfolding read_at flow_bytes
   flow-again e =
       let q = good-flow R e in
       let l : length R ≡ flow_size = q.0 in

@@ -12,7 +12,7 @@ ghost use Rattle.list.specs.Automaton.{accepted};
 ghost use Rattle.list_flow.specs.inner.Ran.{Finishes};
 ghost use Rattle.feed.specs.inner.Told.{TellsAll};
 
-use feed::{Fed, Opened, Told};
+use feed::{Fed, Opened};
 use sets::StateSet;
 
 // Bytes in a flow record.
@@ -37,6 +37,8 @@ pub struct Ran {
     pub words: usize,
     pub rows: u64,
 }
+
+// What `number_at` reads, by the name of each field.
 
 // The offset of a record.
 pub fn offset_of(flow: &[u8]) -> u64
@@ -117,8 +119,14 @@ pub fn save(flow: &mut [u8], f: StateSet, offset: u64, rows: u64)
     }
 }
 
-// Tells what a frontier accepts, behind the words that are written: all of it, or nothing where it does not fit.
-pub fn tell_accepted(list: &[u8], f: StateSet, pairs: &mut [u32], words: usize, offset: u32) -> Told
+// Tells what a frontier accepts, behind the words that are written: all of it, and answers the word after; or nothing, where it does not fit.
+pub fn tell_accepted(
+    list: &[u8],
+    f: StateSet,
+    pairs: &mut [u32],
+    words: usize,
+    offset: u32,
+) -> Option<usize>
     requires { words ≤ length pairs.old }
     ensures { TellsAll (accepted list.now (set_of f)) pairs.old words offset result pairs.new }
 {
@@ -163,17 +171,15 @@ pub fn open_flow(list: &[u8], flow: &mut [u8], pairs: &mut [u32]) -> Opened
         };
     }
     let first = list::start_set(list);
-    let told = tell_accepted(list, first, pairs, 0, 0);
-    let fits = told.fits;
-    if !fits {
+    let Some(words) = tell_accepted(list, first, pairs, 0, 0) else {
         return Opened {
             refusal: rules::NO_ROOM,
             pairs: 0,
         };
-    }
+    };
     save(flow, first, 0, 0);
     Opened {
         refusal: rules::PASSED,
-        pairs: told.words / 2,
+        pairs: words / 2,
     }
 }

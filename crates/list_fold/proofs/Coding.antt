@@ -1,7 +1,7 @@
 -- What the code reads and writes, in the words of the definitions. Assumes nothing.
 use Prim.Native.Nat.{ℕ, zero, suc, ◌+◌, ◌≤◌, ◌<◌}
 use mathlib.Core.Path.{◌≡◌, refl, sym, ap, ◌∙◌}
-use mathlib.Core.Bool.{Bool, true, false, ◌&&◌, ◌||◌, cond}
+use mathlib.Core.Bool.{beq, Bool, true, false, ◌&&◌, ◌||◌, cond}
 use mathlib.Core.List.{List, [], ◌∷◌, ◌++◌}
 use mathlib.Core.Logic.{inl, inr}
 use native.Mathlib.Omega.{arith}
@@ -86,6 +86,12 @@ alike-when m L s r a b p q e = sym (rw (← p, ← q, e))
 pub alike-not : (m L : List ℕ) (s r : ℕ) (a b : Bool) → a ≡ holds (start L) s → b ≡ holds (start L) r → agree a b ≡ false → false ≡ alike m L s r
 unfolding alike
 alike-not m L s r a b p q e = sym (rw (← p, ← q, e))
+
+pub agree-beq : (a b : Bool) → agree a b ≡ beq a b
+agree-beq true true = refl
+agree-beq true false = refl
+agree-beq false true = refl
+agree-beq false false = refl
 
 pub follows-when : (m L : List ℕ) (s r : ℕ) → chief m r ≡ r → alike (m ++ (r ∷ [])) L s r ≡ follows m L s r
 unfolding follows

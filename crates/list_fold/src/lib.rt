@@ -1,6 +1,7 @@
 // States of a signature list that have the same past become one: both start or neither does, and the same edges lead to them. One pass over the states,
 // rising: each joins the lowest chief that it may join, or is a chief itself. The edges that lead to one state are linked first, so that two pasts are
 // compared edge by edge; then the chiefs are numbered anew, and the records of others than chiefs left out.
+// A record is the list and its place, as in `list`. The tables are arrays with a place for each state or record: the library has no heap.
 #![tactic(auto)]
 
 ghost use Rattle.std.specs.Prelude.{◌≡◌, [], ◌∷◌, ◌++◌, cond, eqb, ℕ, suc, ◌+◌, ◌<◌, ◌≤◌, length, get_or, set, take};
@@ -14,6 +15,7 @@ ghost use Rattle.list_fold.specs.inner.Known.{gives, Linked, Known};
 ghost use Rattle.list_fold.specs.Fold.{folded, FoldAnswers};
 
 use sets::StateSet;
+use std::cmp::Ordering;
 
 // What folding answers: a refusal's number or 0, and the length of the folded list.
 #[derive(Clone, Copy)]
@@ -27,7 +29,7 @@ fn number_at(a: &[u16], i: usize) -> usize
     requires { i < length a.now }
     ensures { (result ≡ get_or a.now i 0) × (result < 65536) }
 {
-    a[i] as usize
+    usize::from(a[i])
 }
 
 // Writes a number at a place.
@@ -58,9 +60,7 @@ fn link(list: &[u8], head: &mut [u16], next: &mut [u16])
     requires { Linked list.now head.old next.old (records list.now) }
     ensures { Linked list.now head.new next.new 0 }
 {
-    let mut i = list::records(list);
-    while 0 < i {
-        i = i - 1;
+    for i in (0..list::records(list)).rev() {
         link_record(list, i, head, next);
     }
 }
@@ -70,16 +70,15 @@ fn chief_of(leads: &[u16], s: usize, r: usize, p: usize) -> usize
     requires { s ≤ length leads.now }
     ensures { result ≡ chief (take s leads.now ++ (r ∷ [])) p }
 {
-    if p < s {
-        return number_at(leads, p);
+    match p.cmp(&s) {
+        Ordering::Less => number_at(leads, p),
+        Ordering::Equal => r,
+        Ordering::Greater => p,
     }
-    if p == s {
-        return r;
-    }
-    p
 }
 
 // Says whether the edges i and j have the same mark, where s joins r.
+// Three bytes and a chief: a comparison of slices is no plainer.
 fn same_mark(list: &[u8], leads: &[u16], s: usize, r: usize, i: usize, j: usize) -> bool
     requires { (i < records list.now) × (j < records list.now) × (s ≤ length leads.now) }
     ensures { result ≡ same (mark (take s leads.now ++ (r ∷ [])) list.now i) (mark (take s leads.now ++ (r ∷ [])) list.now j) }
@@ -90,7 +89,7 @@ fn same_mark(list: &[u8], leads: &[u16], s: usize, r: usize, i: usize, j: usize)
         & (chief_of(leads, s, r, list::from(list, i)) == chief_of(leads, s, r, list::from(list, j)))
 }
 
-// Says whether the same marks lead to s and r, where s joins r.
+// Says whether the same marks lead to s and r, where s joins r. The number of records stands for no edge: it takes no more room than a place does.
 fn same_past(list: &[u8], head: &[u16], next: &[u16], leads: &[u16], s: usize, r: usize) -> bool
     requires { Linked list.now head.now next.now 0 × (s < states) × (r < states) × (s ≤ length leads.now) }
     ensures { result ≡ same (past (take s leads.now ++ (r ∷ [])) list.now s) (past (take s leads.now ++ (r ∷ [])) list.now r) }
@@ -98,6 +97,7 @@ fn same_past(list: &[u8], head: &[u16], next: &[u16], leads: &[u16], s: usize, r
     let n = list::records(list);
     let mut i = number_at(head, s);
     let mut j = number_at(head, r);
+    // A step is to the next edge of both.
     while (i < n) & (j < n) {
         if !same_mark(list, leads, s, r, i, j) {
             return false;
@@ -123,10 +123,7 @@ fn alike(
 {
     let a = starts.has(s);
     let b = starts.has(r);
-    if (a & b) | (!a & !b) {
-        return same_past(list, head, next, leads, s, r);
-    }
-    false
+    a == b && same_past(list, head, next, leads, s, r)
 }
 
 // Says whether s may join r.
@@ -142,10 +139,7 @@ fn follows(
     requires { (set_of starts ≡ start list.now) × Linked list.now head.now next.now 0 × (s < states) × (r < s) × (s ≤ length leads.now) }
     ensures { result ≡ follows (take s leads.now) list.now s r }
 {
-    if number_at(leads, r) == r {
-        return alike(list, starts, head, next, leads, s, r);
-    }
-    false
+    number_at(leads, r) == r && alike(list, starts, head, next, leads, s, r)
 }
 
 // The chief of s.
@@ -193,7 +187,7 @@ fn number(list: &[u8], leads: &[u16], top: usize, numbers: &mut [u16])
     requires { (top ≡ suc (highest list.now)) × (top ≤ states) × (take top leads.now ≡ chiefs list.now top) × (length leads.now ≡ states) × (length numbers.old ≡ states) }
     ensures { Known list.now leads.now numbers.new top }
 {
-    let mut next = 0usize;
+    let mut next = 0;
     for s in 0..top {
         next = number_state(leads, s, next, numbers);
     }
@@ -204,14 +198,11 @@ fn stays(list: &[u8], leads: &[u16], top: usize, i: usize) -> bool
     requires { (i < records list.now) × (top ≡ suc (highest list.now)) × (top ≤ length leads.now) × (take top leads.now ≡ chiefs list.now top) }
     ensures { result ≡ stays (chief_of list.now) list.now i }
 {
-    let t = list::target(list, i);
     if list::is_accept(list, i) {
         return true;
     }
-    if t < top {
-        return number_at(leads, t) == t;
-    }
-    true
+    let t = list::target(list, i);
+    top <= t || number_at(leads, t) == t
 }
 
 // The state that record i leaves or names, renumbered.
@@ -221,9 +212,10 @@ fn new_from(list: &[u8], numbers: &[u16], i: usize) -> usize
 {
     let t = list::from(list, i);
     if list::is_edge(list, i) | list::is_accept(list, i) {
-        return number_at(numbers, t);
+        number_at(numbers, t)
+    } else {
+        t
     }
-    t
 }
 
 // The state that record i leads to, renumbered, or the signature that it gives.
@@ -233,9 +225,10 @@ fn new_target(list: &[u8], numbers: &[u16], i: usize) -> usize
 {
     let t = list::target(list, i);
     if list::is_edge(list, i) | list::is_start(list, i) {
-        return number_at(numbers, t);
+        number_at(numbers, t)
+    } else {
+        t
     }
-    t
 }
 
 // Writes record i, renumbered, at a place.
@@ -254,10 +247,10 @@ fn count(list: &[u8], leads: &[u16], top: usize) -> usize
     ensures { result ≡ counted (stays (chief_of list.now) list.now) (records list.now) }
 {
     let n = list::records(list);
-    let mut kept = 0usize;
+    let mut kept = 0;
     for i in 0..n {
         if stays(list, leads, top, i) {
-            kept = kept + 1;
+            kept += 1;
         }
     }
     kept
@@ -289,7 +282,7 @@ fn add(list: &[u8], leads: &[u16], numbers: &[u16], top: usize, out: &mut [u8])
     ensures { out.new ≡ placed out.old 0 (folded list.now) }
 {
     let n = list::records(list);
-    let mut at = 0usize;
+    let mut at = 0;
     for i in 0..n {
         at = add_record(list, leads, numbers, top, i, out, at);
     }
@@ -301,10 +294,7 @@ pub fn fold(list: &[u8], out: &mut [u8]) -> Folded
 {
     let refusal = list::check_list(list);
     if refusal != rules::PASSED {
-        return Folded {
-            refusal: refusal,
-            length: 0,
-        };
+        return Folded { refusal, length: 0 };
     }
     let n = list::records(list);
     let top = list::state_count(list);
@@ -317,8 +307,8 @@ pub fn fold(list: &[u8], out: &mut [u8]) -> Folded
     link(list, &mut head, &mut next);
     lead(list, starts, &head, &next, top, &mut leads);
     number(list, &leads, top, &mut numbers);
-    let long = list::RECORD_SIZE * count(list, &leads, top);
-    if out.len() < long {
+    let length = list::RECORD_SIZE * count(list, &leads, top);
+    if out.len() < length {
         return Folded {
             refusal: rules::LIST_ROOM,
             length: 0,
@@ -327,6 +317,6 @@ pub fn fold(list: &[u8], out: &mut [u8]) -> Folded
     add(list, &leads, &numbers, top, out);
     Folded {
         refusal: rules::PASSED,
-        length: long,
+        length,
     }
 }

@@ -3,7 +3,9 @@ use Prim.Native.Nat.{ℕ, zero, suc, ◌+◌, ◌-◌, ◌*◌, ◌≤◌, ◌<�
 use mathlib.Core.Path.{◌≡◌, refl, sym, ap, ◌∙◌}
 use mathlib.Core.Bool.{Bool, true, false, ◌&&◌, ◌||◌, not}
 use mathlib.Core.List.{List, [], ◌∷◌, ◌++◌}
-use mathlib.Core.Logic.{◌⊎◌}
+use mathlib.Core.Logic.{◌⊎◌, inl, inr}
+use native.Mathlib.Decide.{dec_lt}
+use Rattle.std.specs.Prelude.{min}
 use native.Mathlib.Omega.{arith}
 use lib.ListN.{length, take, drop, length-append}
 use lib.Seq.{take_all, length-take-le}
@@ -154,6 +156,13 @@ joined_at list used B f =
 -- the front by the shorter of two lengths
 pub front_by : (list : List ℕ) (used end : ℕ) → (((used < length list) × (end ≡ used)) ⊎ ((length list ≤ used) × (end ≡ length list))) → take end list ≡ take used list
 front_by list used end s = choose s (λ p. rw p.1) (λ p. rw p.1 (take_all (length list) list (omega arith) ∙ sym (take_all used list p.0)))
+
+pub front-min : (list : List ℕ) (used end : ℕ) → end ≡ min used (length list) → take end list ≡ take used list
+front-min list used end e =
+    front_by list used end (elim (dec_lt used (length list)) [
+      | yes l ↦ inl (l, omega arith)
+      | no n ↦ inr (omega arith, omega arith)
+    ])
 
 -- ---- the code's own test
 

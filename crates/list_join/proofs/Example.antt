@@ -11,7 +11,8 @@ use Rattle.list.specs.List.{records, record_with}
 use Rattle.list.specs.Automaton.{start, highest_by}
 use Rattle.list.proofs.Steps.{start-exactly}
 use Rattle.list_join.proofs.Staying.{staying-exactly}
-use Rattle.list_join.specs.Join.{stays, staying, lowest, ever_at, naming, renamed, renamed_record, spare, added, joined}
+use Rattle.std.specs.Prelude.{Some}
+use Rattle.list_join.specs.Join.{shared_as, stays, staying, lowest, ever_at, naming, renamed, renamed_record, spare, added, joined}
 
 -- the list of a, another letter and a signature
 abbrev text : ℕ → ℕ → List ℕ
@@ -36,7 +37,7 @@ unfolding lowest
 zero-ever c g = first-at states _ 0 (omega arith) (some-none 0 _ (λ i h. absurd (omega arith))) (zero-there c g)
 
 -- so it is the shared one, and B's states go on from 3
-shared-zero : naming (text 98 7) (text 99 8) ≡ record { next = 3; shared = true; own = 0; same = 0 }
+shared-zero : naming (text 98 7) (text 99 8) ≡ record { next = 3; shared = Some (shared_as 0 0) }
 unfolding highest_by
 shared-zero = rw (zero-ever 98 7, zero-ever 99 8) refl
 

@@ -18,13 +18,14 @@ use Rattle.numbers.proofs.Laws.{Small, small-zeros}
 use Rattle.numbers.proofs.Bytes.{num-two}
 use Rattle.sets.proofs.Sets.{or-false, holds-join, holds-insert, holds-empty}
 use Rattle.rules.specs.Scan.{some, every, first, gather}
-use Rattle.rules.proofs.Scanning.{both, choose, below_suc, or-true, and-false, some-intro, some-elim, every-at, gather-exactly}
+use Rattle.rules.proofs.Scanning.{both, choose, below_suc, or-true, and-false, some-intro, some-elim, every-at, gather-exactly, first-at, first-none}
 use Rattle.list.specs.List.{records, byte_of, is_edge, is_start, is_accept, low, high, from, target, good_record, no_start, list_refusal}
 use Rattle.list.specs.Automaton.{start, reached, named_by, named, highest}
 use Rattle.list.proofs.Listed.{same_truth, good-start, start-good, kind-start, from_bytes}
 use Rattle.list.proofs.Named.{by-none, by-put, with-edge, with-start, with-accept}
 use Rattle.list.proofs.Highest.{highest-exactly, highest-state}
-use Rattle.list_join.specs.inner.Found.{spare_at, spare_by, flag, bump, Marked, Flagged, Seen, ever, once, Ends}
+use Rattle.std.specs.Prelude.{Some, None}
+use Rattle.list_join.specs.inner.Found.{some_state, spare_at, spare_by, flag, bump, Marked, Flagged, Seen, ever, once, Ends}
 use Rattle.list_join.specs.Join.{stays, staying, lowest, ever_at, once_at}
 
 -- ---- one mark more
@@ -422,3 +423,11 @@ pub every_byte : (L : List ℕ) → Small 8 L → (i : ℕ) → i < records L �
 every_byte L s i h =
     let e : (8 * i + 1) + 1 ≡ 8 * i + 2 = omega arith in
     rw (num-two L (8 * i + 1) (omega (arith, h)), e) (both_bytes (low L i) (high L i) (s (8 * i + 1)) (s (8 * i + 2)))
+
+-- ---- a state or none
+
+pub state_found : (p : ℕ → Bool) (s : ℕ) → s < states → some s p ≡ false → p s ≡ true → Some s ≡ some_state (first states p)
+state_found p s l a b = rw (first-at states p s l a b, lt-ltb s states l) refl
+
+pub state_none : (p : ℕ → Bool) (n : ℕ) → n ≡ states → some n p ≡ false → None ≡ some_state (first states p)
+state_none p n e h = rw (first-none states p (rw e at h)) refl

@@ -1,7 +1,7 @@
 -- The new numbers of a record, by its kind, and when all of them are states. Assumes nothing.
 use Prim.Native.Nat.{ℕ, zero, suc, ◌+◌, ◌%◌, ◌≤◌, ◌<◌}
 use mathlib.Core.Path.{◌≡◌, refl, sym, ◌∙◌}
-use mathlib.Core.Bool.{Bool, true, false, ◌&&◌, cond, true≢false}
+use mathlib.Core.Bool.{Bool, true, false, ◌&&◌, cond, not, true≢false}
 use mathlib.Core.List.{List}
 use mathlib.Core.Logic.{inl, inr}
 use native.Mathlib.Omega.{arith}
@@ -13,15 +13,17 @@ use lib.Dec.{ltb, leb}
 use borrow.Author.Tests.{eqb-true, lt-ltb, le-ltb, ltb-true, ltb-false, leb-true, leb-false}
 use Rattle.sets.specs.Set.{states}
 use Rattle.rules.specs.Scan.{every}
-use Rattle.rules.proofs.Scanning.{both, neither, choose, below_suc, or-true, and-false, every-all, every-fails}
+use Rattle.rules.proofs.Scanning.{both, choose, below_suc, or-true, and-false, every-all, every-fails}
 use Rattle.list.specs.List.{records, byte_of, is_edge, is_start, is_accept, from, target, good_record, list_refusal}
 use Rattle.list.specs.Automaton.{names_from, names_target, named, highest}
 use Rattle.list.proofs.Listed.{not_so, kinds, good-start, start-good, from_bytes}
 use Rattle.list.proofs.Steps.{good-at, accept-states}
 use Rattle.list.proofs.Named.{Names, named-exactly}
 use Rattle.list.proofs.Highest.{names-low, highest-state}
-use Rattle.list_join.specs.inner.Found.{loop_both, once_both, fits, Marked, ever, once, Ends, Outlines, Fitted, Narrow}
-use Rattle.list_join.specs.Join.{ever_at, once_at, name_by, naming, renamed, new_from, new_target, spare}
+use Rattle.list_join.specs.inner.Found.{loop_both, once_both, fits, Marked, ever, once, Ends, Outlines, Numbers, Fitted, Narrow}
+use Rattle.std.specs.Prelude.{Option, Some, None, is_some}
+use Rattle.list_join.specs.declared.Shared.{Shared}
+use Rattle.list_join.specs.Join.{shared_as, own_of, same_of, is_shared, own_state, same_state, ever_at, once_at, name_by, naming, renamed, new_from, new_target, spare}
 use Rattle.list_join.specs.declared.Naming.{Naming}
 use Rattle.list_join.specs.declared.Outline.{Outline}
 use Rattle.list_join.proofs.Renames.{Way, alone, shared, under, above, way, spare-is}
@@ -79,11 +81,26 @@ module _ (n : Naming) (B : List ℕ) (i : ℕ) (h : i < records B) (g : good_rec
       (λ k. (rw k, names-low B i (target B i) h (inl (k, inr refl))))
       (λ s. choose s (λ k. (rw (k, or-true (is_edge B i)), names-low B i (target B i) h (inr (inl (k, refl))))) (λ k. absurd (true≢false (sym k ∙ z))))
 
+  -- as the code looks them up
+  pub from-looked : (new : List ℕ) → Numbers n (highest B) new → cond (not (is_start B i)) (get_or new (from B i) 0) (from B i) ≡ new_from n B i
+  from-looked new k = go (is_start B i) refl
+    where
+      go : (b : Bool) → is_start B i ≡ b → cond (not b) (get_or new (from B i) 0) (from B i) ≡ new_from n B i
+      go true e = sym (from-kept e)
+      go false e = let m = from-new e in k.each (from B i) m.1 ∙ sym m.0
+
+  pub target-looked : (new : List ℕ) → Numbers n (highest B) new → cond (not (is_accept B i)) (get_or new (target B i) 0) (target B i) ≡ new_target n B i
+  target-looked new k = go (is_accept B i) refl
+    where
+      go : (b : Bool) → is_accept B i ≡ b → cond (not b) (get_or new (target B i) 0) (target B i) ≡ new_target n B i
+      go true e = sym (target-kept e)
+      go false e = let m = target-new e in k.each (target B i) m.1 ∙ sym m.0
+
 -- ---- the highest state that is not shared decides
 
 module _ (n : Naming) (top : ℕ) (v : Narrow n top) (w : List ℕ) (z : get_or w top 0 ≡ 0 → ⊥) where
   -- no state is shared: the highest
-  pub fitted-alone : n.shared ≡ false → Fitted n top w (ltb (n.next + top) states)
+  pub fitted-alone : is_shared n ≡ false → Fitted n top w (ltb (n.next + top) states)
   fitted-alone a =
       record {
         room = λ e t l _. low (ltb-true (n.next + top) states e) t l (renamed n t) (way n t);
@@ -102,9 +119,9 @@ module _ (n : Naming) (top : ℕ) (v : Narrow n top) (w : List ℕ) (z : get_or 
       high h x (under e q y) = absurd (true≢false (sym e ∙ a))
       high h x (above e q y) = absurd (true≢false (sym e ∙ a))
 
-  module _ (a : n.shared ≡ true) where
+  module _ (a : is_shared n ≡ true) where
     -- the shared one is not the highest
-    pub fitted-above : n.own < top → Fitted n top w (leb (n.next + top) states)
+    pub fitted-above : own_state n < top → Fitted n top w (leb (n.next + top) states)
     fitted-above o =
         record {
           room = λ e t l _. low (leb-true (n.next + top) states e) t l (renamed n t) (way n t);
@@ -124,10 +141,10 @@ module _ (n : Naming) (top : ℕ) (v : Narrow n top) (w : List ℕ) (z : get_or 
         high h x (above e q y) = omega (arith, y, h)
 
     -- it is: the highest below it, if there is one
-    pub fitted-last : (n.own < top → ⊥) → (r : ℕ) → Ends w n.own r → Fitted n top w (leb (n.next + r) states)
+    pub fitted-last : (own_state n < top → ⊥) → (r : ℕ) → Ends w (own_state n) r → Fitted n top w (leb (n.next + r) states)
     fitted-last o r x = record { room = λ e t l k. low (leb-true (n.next + r) states e) t l k (renamed n t) (way n t); over = λ e. found r refl (leb-false (n.next + r) states e) }
       where
-        under-end : (t : ℕ) → t < n.own → (get_or w t 0 ≡ 0 → ⊥) → t < r
+        under-end : (t : ℕ) → t < own_state n → (get_or w t 0 ≡ 0 → ⊥) → t < r
         under-end t l k = elim (dec_lt t r) [ yes d ↦ d | no d ↦ absurd (k (x.none t (omega (arith, lt_of_not-le (λ (q : suc t ≤ r). d q))) l)) ]
 
         low : n.next + r ≤ states → (t : ℕ) → t ≤ top → (get_or w t 0 ≡ 0 → ⊥) → (y : ℕ) → Way n t y → y < states
@@ -136,23 +153,23 @@ module _ (n : Naming) (top : ℕ) (v : Narrow n top) (w : List ℕ) (z : get_or 
         low h t l k y (under e q d) = omega (arith, d, h, under-end t q k)
         low h t l k y (above e q d) = absurd (o (omega (arith, q, l)))
 
-        high : (t : ℕ) → t < n.own → states < n.next + suc t → (y : ℕ) → Way n t y → states ≤ y
+        high : (t : ℕ) → t < own_state n → states < n.next + suc t → (y : ℕ) → Way n t y → states ≤ y
         high t l h y (alone e q) = absurd (true≢false (sym a ∙ e))
         high t l h y (shared e q d) = absurd (omega (arith, q, l))
         high t l h y (under e q d) = omega (arith, d, h)
         high t l h y (above e q d) = absurd (omega (arith, q, l))
 
-        found : (s : ℕ) → r ≡ s → states < n.next + r → (t : ℕ) × (t ≤ top) × (get_or w t 0 ≡ 0 → ⊥) × (n.shared ≡ true → t ≡ n.own → ⊥) × (states ≤ renamed n t)
+        found : (s : ℕ) → r ≡ s → states < n.next + r → (t : ℕ) × (t ≤ top) × (get_or w t 0 ≡ 0 → ⊥) × (is_shared n ≡ true → t ≡ own_state n → ⊥) × (states ≤ renamed n t)
         found zero e h = absurd (omega (arith, e, h, v.next))
         found (suc t) e h =
-            let l : t < n.own = omega (arith, e, x.most) in
+            let l : t < (own_state n) = omega (arith, e, x.most) in
             (t, omega (arith, l, v.own), x.last t e, λ _ q. absurd (omega (arith, q, l)), high t l (omega (arith, e, h)) (renamed n t) (way n t))
 
 -- ---- so each record fits, or some record does not
 
 module _ (n : Naming) (B : List ℕ) (b : list_refusal B ≡ 0) (w : List ℕ) (m : Marked w (named B)) (r : Bool) (f : Fitted n (highest B) w r) where
   -- a spare record names the shared state alone
-  spare-names : (i t : ℕ) → Names B i t → spare n B i ≡ true → (n.shared ≡ true) × (t ≡ n.own)
+  spare-names : (i t : ℕ) → Names B i t → spare n B i ≡ true → (is_shared n ≡ true) × (t ≡ (own_state n))
   spare-names i t k e =
       let s = spare-is n B i e in (
         s.0,
@@ -195,7 +212,7 @@ module _ (n : Naming) (B : List ℕ) (b : list_refusal B ≡ 0) (w : List ℕ) (
     roomy = every-all (records B) (fits n B) (λ i h. rw (lt-ltb (new_from n B i) states (from-state i h), lt-ltb (new_target n B i) states (target-state i h)) (or-true (spare n B i)))
 
   module _ (e : r ≡ false) where
-    crowded-by : (i t : ℕ) → (n.shared ≡ true → t ≡ n.own → ⊥) → states ≤ renamed n t → Names B i t → fits n B i ≡ false
+    crowded-by : (i t : ℕ) → (is_shared n ≡ true → t ≡ own_state n → ⊥) → states ≤ renamed n t → Names B i t → fits n B i ≡ false
     unfolding fits
     crowded-by i t d q k =
         let s : spare n B i ≡ false = not_so (spare n B i) (λ x. let y = spare-names i t k x in d y.0 y.1) in
@@ -227,17 +244,22 @@ module _ (A B : List ℕ) (a : list_refusal A ≡ 0) (b : list_refusal B ≡ 0) 
       → name_by (suc x.top) (ever x.marks x.staying) (ever y.marks y.staying) (once x.marks) (once y.marks) ≡ naming A B
   named-as x y p q = rw (p.top a, ever-as A _ _ _ (p.seen a), once-as A _ _ _ (p.seen a), ever-as B _ _ _ (q.seen b), once-as B _ _ _ (q.seen b))
 
-  own-low : (naming A B).own ≤ highest B
-  own-low = go (naming A B).shared refl
+  own-low : own_state (naming A B) ≤ highest B
+  own-low = go (is_shared (naming A B)) refl
     where
-      go : (t : Bool) → (naming A B).shared ≡ t → (naming A B).own ≤ highest B
-      go true e = (shares A B e).lowish-B
-      go false e = let t = neither (loop_both A B) (once_both A B) e in rw (t.0, t.1) (omega arith)
+      none : (o : Option Shared) → is_some o ≡ false → own_of o ≡ 0
+      none None e = refl
+      none (Some s) e = absurd (true≢false e)
 
-  same-state : (naming A B).same < states
+      go : (t : Bool) → is_shared (naming A B) ≡ t → own_state (naming A B) ≤ highest B
+      go true e = (shares A B e).lowish-B
+      go false e = let z = none (naming A B).shared e in omega arith
+
+  same-state : same_state (naming A B) < states
   same-state = go (loop_both A B) refl (once_both A B) refl
     where
-      go : (l : Bool) → loop_both A B ≡ l → (o : Bool) → once_both A B ≡ o → cond l (ever_at A) (cond o (once_at A) 0) < states
+      go : (l : Bool) → loop_both A B ≡ l → (o : Bool) → once_both A B ≡ o
+          → same_of (cond l (Some (shared_as (ever_at B) (ever_at A))) (cond o (Some (shared_as (once_at B) (once_at A))) None)) < states
       go true p o q = ltb-true (ever_at A) states (both (ltb (ever_at A) states) (ltb (ever_at B) states) p).0
       go false p true q = ltb-true (once_at A) states (both (ltb (once_at A) states) (ltb (once_at B) states) q).0
       go false p false q = omega arith

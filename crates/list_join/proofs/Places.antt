@@ -18,7 +18,7 @@ use Rattle.list.proofs.Listed.{same_truth}
 use Rattle.list.proofs.Highest.{word_lt}
 use Rattle.list.proofs.Copied.{copied-long}
 use Rattle.list_join.specs.inner.Found.{spare_at, spare_by}
-use Rattle.list_join.specs.Join.{new_from, new_target, renamed_record, spare, added, kept}
+use Rattle.list_join.specs.Join.{is_shared, own_state, new_from, new_target, renamed_record, spare, added, kept}
 use Rattle.list_join.specs.declared.Naming.{Naming}
 use Rattle.list_join.proofs.Marking.{edge-no-start, tail-as}
 
@@ -32,9 +32,9 @@ module _ (n : Naming) (B : List ℕ) where
   record-long i = copied-long B i (new_from n B i) (new_target n B i)
 
   -- a record is spare as it is for the shared state
-  spare-as : (i : ℕ) → spare n B i ≡ (n.shared && spare_at B n.own i)
+  spare-as : (i : ℕ) → spare n B i ≡ ((is_shared n) && spare_at B (own_state n) i)
   unfolding spare
-  spare-as i = and_assoc n.shared (eqb (target B i) n.own) (is_start B i || is_edge B i && eqb (from B i) n.own)
+  spare-as i = and_assoc (is_shared n) (eqb (target B i) (own_state n)) (is_start B i || is_edge B i && eqb (from B i) (own_state n))
 
   pub kept_in : (i : ℕ) → spare n B i ≡ false → kept n B (suc i) ≡ suc (kept n B i)
   unfolding kept
@@ -62,16 +62,16 @@ module _ (n : Naming) (B : List ℕ) where
       go false e ih = rw (added-in m e, kept_in m e, length-append) (omega (arith, ih, record-long m))
 
   -- all records are kept but those that are spare
-  pub kept-shared : n.shared ≡ true → (m : ℕ) → kept n B m + spare_by B n.own m ≡ m
+  pub kept-shared : is_shared n ≡ true → (m : ℕ) → kept n B m + spare_by B (own_state n) m ≡ m
   unfolding kept spare_by
   kept-shared e zero = refl
-  kept-shared e (suc m) = go (spare_at B n.own m) refl (kept-shared e m)
+  kept-shared e (suc m) = go (spare_at B (own_state n) m) refl (kept-shared e m)
     where
-      go : (b : Bool) → spare_at B n.own m ≡ b → kept n B m + spare_by B n.own m ≡ m → kept n B (suc m) + spare_by B n.own (suc m) ≡ suc m
+      go : (b : Bool) → spare_at B (own_state n) m ≡ b → kept n B m + spare_by B (own_state n) m ≡ m → kept n B (suc m) + spare_by B (own_state n) (suc m) ≡ suc m
       go true q ih = rw (kept_out m (spare-as m ∙ rw (e, q)), q) (omega (arith, ih))
       go false q ih = rw (kept_in m (spare-as m ∙ rw (e, q)), q) (omega (arith, ih))
 
-  pub kept-alone : n.shared ≡ false → (m : ℕ) → kept n B m ≡ m
+  pub kept-alone : is_shared n ≡ false → (m : ℕ) → kept n B m ≡ m
   unfolding kept
   kept-alone e zero = refl
   kept-alone e (suc m) = kept_in m (spare-as m ∙ rw e) ∙ rw (kept-alone e m)
@@ -83,13 +83,13 @@ module _ (n : Naming) (B : List ℕ) where
       (λ e. let w = both (eqb t o) (eqb f o) e in eq-eqb (f + 65536 * t) (65537 * o) (omega (arith, eqb-true t o w.0, eqb-true f o w.1)))
       (λ e. let w = eqb-true (f + 65536 * t) (65537 * o) e in rw (eq-eqb t o (omega (arith, w, l, h)), eq-eqb f o (omega (arith, w, l, h))))
 
-  pub spare-edge : Small 8 B → (i : ℕ) → i < records B → is_edge B i ≡ true → n.own < states → spare n B i ≡ (n.shared && eqb (num 8 (take 4 (drop (8 * i + 4) B))) (65537 * n.own))
+  pub spare-edge : Small 8 B → (i : ℕ) → i < records B → is_edge B i ≡ true → own_state n < states → spare n B i ≡ ((is_shared n) && eqb (num 8 (take 4 (drop (8 * i + 4) B))) (65537 * (own_state n)))
   spare-edge m i h e o =
-      spare-as i ∙ rw (e, edge-no-start B i e, tail-as B i h) (ap (λ z. n.shared && z) (twice (from B i) (target B i) n.own (word_lt B m (8 * i + 4)) (omega (arith, o))))
+      spare-as i ∙ rw (e, edge-no-start B i e, tail-as B i h) (ap (λ z. (is_shared n) && z) (twice (from B i) (target B i) (own_state n) (word_lt B m (8 * i + 4)) (omega (arith, o))))
 
   -- another where it starts the shared state
-  pub spare-other : (i : ℕ) → is_edge B i ≡ false → spare n B i ≡ (n.shared && is_start B i && eqb (target B i) n.own)
-  spare-other i e = spare-as i ∙ rw e (go n.shared (is_start B i) (eqb (target B i) n.own))
+  pub spare-other : (i : ℕ) → is_edge B i ≡ false → spare n B i ≡ ((is_shared n) && is_start B i && eqb (target B i) (own_state n))
+  spare-other i e = spare-as i ∙ rw e (go (is_shared n) (is_start B i) (eqb (target B i) (own_state n)))
     where
       go : (a b c : Bool) → (a && (c && (b || false))) ≡ (a && b && c)
       go false b c = refl

@@ -8,13 +8,15 @@ use native.Mathlib.Omega.{arith}
 use lib.Dec.{eqb, ltb}
 use borrow.Author.Tests.{eqb-true, not-true}
 use Rattle.sets.specs.Set.{states, holds}
-use Rattle.rules.proofs.Scanning.{both, or_cases, choose, some_first, first_found, gather-exactly}
+use Rattle.rules.proofs.Scanning.{both, some_first, first_found, gather-exactly}
 use Rattle.list.specs.List.{records, is_edge, low, high, from, target}
 use Rattle.list.specs.Automaton.{start, step, reached, highest}
 use Rattle.list.proofs.Steps.{start-exactly, step-exactly, reached-exactly}
 use Rattle.list.proofs.Highest.{names-low}
 use Rattle.list_join.specs.inner.Found.{loop_both, once_both}
-use Rattle.list_join.specs.Join.{stays, staying, lowest, ever_at, once_at, naming}
+use Rattle.std.specs.Prelude.{Option, Some, None, is_some}
+use Rattle.list_join.specs.declared.Shared.{Shared}
+use Rattle.list_join.specs.Join.{shared_as, own_of, same_of, is_shared, own_state, same_state, stays, staying, lowest, ever_at, once_at, naming}
 
 pub record EverOn (L : List ℕ) (y : ℕ) : Type 0 where
   pub starts : holds (start L) y ≡ true
@@ -96,12 +98,16 @@ pub record Shares (A B : List ℕ) (y z : ℕ) : Type 0 where
   pub steps : (FA FB c : ℕ) → c < 256 → holds FA y ≡ holds FB z → (loop_both A B ≡ true → holds FA y ≡ true)
       → (holds (step A FA c) y ≡ holds (step B FB c) z) × (loop_both A B ≡ true → holds (step A FA c) y ≡ true)
 
-pub shares : (A B : List ℕ) → (naming A B).shared ≡ true → Shares A B (naming A B).same (naming A B).own
-shares A B e = go (loop_both A B) refl (once_both A B) refl
+-- what is shared, by what the two have
+abbrev pair : List ℕ → List ℕ → Bool → Bool → Option Shared
+pair A B l o = cond l (Some (shared_as (ever_at B) (ever_at A))) (cond o (Some (shared_as (once_at B) (once_at A))) None)
+
+pub shares : (A B : List ℕ) → is_shared (naming A B) ≡ true → Shares A B (same_state (naming A B)) (own_state (naming A B))
+shares A B e = go (loop_both A B) refl (once_both A B) refl e
   where
-    go : (l : Bool) → loop_both A B ≡ l → (o : Bool) → once_both A B ≡ o
-        → Shares A B (cond l (ever_at A) (cond o (once_at A) 0)) (cond l (ever_at B) (cond o (once_at B) 0))
-    go true q o r =
+    go : (l : Bool) → loop_both A B ≡ l → (o : Bool) → once_both A B ≡ o → is_some (pair A B l o) ≡ true
+        → Shares A B (same_of (pair A B l o)) (own_of (pair A B l o))
+    go true q o r z =
         let t = both (ltb (ever_at A) states) (ltb (ever_at B) states) q in
         let x = ever-on A t.0 in
         let y = ever-on B t.1 in
@@ -115,7 +121,7 @@ shares A B e = go (loop_both A B) refl (once_both A B) refl
               let b = y.keeps FB c h (sym s ∙ on q) in
               (a ∙ sym b, λ _. a);
         }
-    go false q true r =
+    go false q true r z =
         let t = both (ltb (once_at A) states) (ltb (once_at B) states) r in
         let x = only-once A t.0 in
         let y = only-once B t.1 in
@@ -126,4 +132,4 @@ shares A B e = go (loop_both A B) refl (once_both A B) refl
           lowish-B = y.lowish;
           steps = λ FA FB c h s on. (x.never FA c ∙ sym (y.never FB c), λ l. absurd (false≢true (sym q ∙ l)));
         }
-    go false q false r = absurd (choose (or_cases (loop_both A B) (once_both A B) e) (λ l. false≢true (sym q ∙ l)) (λ l. false≢true (sym r ∙ l)))
+    go false q false r z = absurd (false≢true z)

@@ -21,7 +21,7 @@ use Rattle.feed.specs.Engine.{run}
 use Rattle.feed.specs.Calls.{Bytes}
 use Rattle.list_feed.specs.Plain.{plain}
 use Rattle.list_join.specs.inner.Found.{loop_both}
-use Rattle.list_join.specs.Join.{naming, renamed, new_from, new_target, spare, kept, joined}
+use Rattle.list_join.specs.Join.{is_shared, own_state, same_state, naming, renamed, new_from, new_target, spare, kept, joined}
 use Rattle.list_join.proofs.Renames.{apart, one_name, renamed-most, renamed-own, spare-is}
 use Rattle.list_join.proofs.Fields.{SameRecord, same_word, new-start, new-accept, new-taken, new-from, new-target, joined-records, joined-old, joined-new, joined-from}
 use Rattle.list_join.proofs.Staying.{Shares, shares}
@@ -54,13 +54,13 @@ module _ (A B : List ℕ) (a : list_refusal A ≡ 0) (b : list_refusal B ≡ 0) 
   start-B = start-states B b
 
   -- what a shared state is
-  pub sharing : (naming A B).shared ≡ true → Shares A B (naming A B).same (naming A B).own
+  pub sharing : is_shared (naming A B) ≡ true → Shares A B (same_state (naming A B)) (own_state (naming A B))
   sharing e = shares A B e
 
-  pub same_low : (naming A B).shared ≡ true → (naming A B).same < (naming A B).next
+  pub same_low : is_shared (naming A B) ≡ true → same_state (naming A B) < (naming A B).next
   same_low e = omega (arith, (sharing e).lowish)
 
-  shared-loop : loop_both A B ≡ true → (naming A B).shared ≡ true
+  shared-loop : loop_both A B ≡ true → is_shared (naming A B) ≡ true
   shared-loop l = rw l
 
   pub small : (t : ℕ) → t < states → renamed (naming A B) t < 65536
@@ -83,8 +83,8 @@ module _ (A B : List ℕ) (a : list_refusal A ≡ 0) (b : list_refusal B ≡ 0) 
   -- FJ holds the states of FA, and those of FB renamed; FA holds states of A alone; a shared state is in both or in neither, and in both where both loop
   pub record Meets (FA FB FJ : ℕ) : Type 0 where
     pub own : (s : ℕ) → holds FA s ≡ true → s ≤ highest A
-    pub ever : (naming A B).shared ≡ true → holds FA (naming A B).same ≡ holds FB (naming A B).own
-    pub on : loop_both A B ≡ true → holds FA (naming A B).same ≡ true
+    pub ever : is_shared (naming A B) ≡ true → holds FA (same_state (naming A B)) ≡ holds FB (own_state (naming A B))
+    pub on : loop_both A B ≡ true → holds FA (same_state (naming A B)) ≡ true
     pub is : (s : ℕ) → holds FJ s ≡ true ↔ ((holds FA s ≡ true) ⊎ ((t : ℕ) × (holds FB t ≡ true) × (s ≡ renamed (naming A B) t)))
 
   module _ (FA FB FJ : ℕ) (m : Meets FA FB FJ) where
@@ -152,8 +152,8 @@ module _ (A B : List ℕ) (a : list_refusal A ≡ 0) (b : list_refusal B ≡ 0) 
         of-new : (t i : ℕ) → i < records B → is_start B i ≡ true → target B i ≡ t → (d : Bool) → spare (naming A B) B i ≡ d → holds (start J) (renamed (naming A B) t) ≡ true
         of-new t i h k q true e =
             let z = spare-is (naming A B) B i e in
-            let o : t ≡ (naming A B).own = sym q ∙ z.1 in
-            rw (ap (renamed (naming A B)) o ∙ renamed-own (naming A B) z.0) (of-old (naming A B).same (sharing z.0).start-A)
+            let o : t ≡ (own_state (naming A B)) = sym q ∙ z.1 in
+            rw (ap (renamed (naming A B)) o ∙ renamed-own (naming A B) z.0) (of-old (same_state (naming A B)) (sharing z.0).start-A)
         of-new t i h k q false e =
             let p = joined-new A B w8 i h e in
             let f = start-names i k in
@@ -209,8 +209,8 @@ module _ (A B : List ℕ) (a : list_refusal A ≡ 0) (b : list_refusal B ≡ 0) 
         of-new : (t i : ℕ) → i < records B → Takes B c i → holds FB (from B i) ≡ true → target B i ≡ t → holds (step B FB c) t ≡ true → (d : Bool) → spare (naming A B) B i ≡ d → holds (step J FJ c) (renamed (naming A B) t) ≡ true
         of-new t i h k f q hb true e =
             let z = spare-is (naming A B) B i e in
-            let o : t ≡ (naming A B).own = sym q ∙ z.1 in
-            rw (ap (renamed (naming A B)) o ∙ renamed-own (naming A B) z.0) (of-old (naming A B).same (((sharing z.0).steps FA FB c c8 (m.ever z.0) m.on).0 ∙ rw o at hb))
+            let o : t ≡ (own_state (naming A B)) = sym q ∙ z.1 in
+            rw (ap (renamed (naming A B)) o ∙ renamed-own (naming A B) z.0) (of-old (same_state (naming A B)) (((sharing z.0).steps FA FB c c8 (m.ever z.0) m.on).0 ∙ rw o at hb))
         of-new t i h k f q hb false e =
             let p = joined-new A B w8 i h e in
             let l = edge-B i h k.kind in

@@ -1,10 +1,11 @@
 -- Two lists joined into one: which state they share, how the second's states are renamed, the joined list, and the rules.
-use Rattle.std.specs.Prelude.{ℕ, zero, suc, ◌+◌, ◌-◌, ◌≡◌, Bool, true, false, ◌&&◌, ◌||◌, not, cond, List, [], ◌∷◌, ◌++◌, length, take, drop, ltb, eqb}
+use Rattle.std.specs.Prelude.{ℕ, Option, Some, None, is_some, zero, suc, ◌+◌, ◌-◌, ◌≡◌, Bool, true, false, ◌&&◌, ◌||◌, not, cond, List, [], ◌∷◌, ◌++◌, length, take, drop, ltb, eqb}
 use Rattle.sets.specs.Set.{states, holds}
 use Rattle.rules.specs.Scan.{first, gather, stack}
 use Rattle.rules.specs.Rules.{Rule, verdict}
 use Rattle.list.specs.List.{records, is_edge, is_start, low, high, from, target, record_with, list_rules, list_refusal}
 use Rattle.list.specs.Automaton.{start, reached, names_from, names_target, highest}
+use Rattle.list_join.specs.declared.Shared.{Shared}
 use Rattle.list_join.specs.declared.Naming.{Naming}
 use Rattle.list_join.specs.declared.Joined.{Joined}
 
@@ -34,16 +35,32 @@ once_at L = lowest (start L) (reached L) false
 abbrev pub two : ℕ → ℕ → Bool
 two s t = ltb s states && ltb t states
 
+-- the second list's state `own` is the first's state `same`
+abbrev pub shared_as : ℕ → ℕ → Shared
+shared_as own same = record { own = own; same = same }
+
 -- the naming with `next` as the first new number: of two states that are always there, i and j, the second gets the first's number; else of two that
 -- are there once, k and l
 abbrev pub name_by : ℕ → ℕ → ℕ → ℕ → ℕ → Naming
-name_by next i j k l =
-    record {
-      next = next;
-      shared = two i j || two k l;
-      own = cond (two i j) j (cond (two k l) l 0);
-      same = cond (two i j) i (cond (two k l) k 0);
-    }
+name_by next i j k l = record { next = next; shared = cond (two i j) (Some (shared_as j i)) (cond (two k l) (Some (shared_as l k)) None) }
+
+-- whether a naming has two states that become one, and which: the second list's, and the first's; 0 where it has none
+abbrev pub is_shared : Naming → Bool
+is_shared n = is_some n.shared
+
+abbrev pub own_of : Option Shared → ℕ
+own_of None = 0
+own_of (Some s) = s.own
+
+abbrev pub own_state : Naming → ℕ
+own_state n = own_of n.shared
+
+abbrev pub same_of : Option Shared → ℕ
+same_of None = 0
+same_of (Some s) = s.same
+
+abbrev pub same_state : Naming → ℕ
+same_state n = same_of n.shared
 
 -- how B's states are named behind A: new numbers from A's highest state on, but for one state that they share
 abbrev pub naming : List ℕ → List ℕ → Naming
@@ -53,7 +70,7 @@ naming A B = name_by (suc (highest A)) (ever_at A) (ever_at B) (once_at A) (once
 
 -- the new number of state t: those above the shared one come one lower, so that no number is left out
 unfoldable pub renamed : Naming → ℕ → ℕ
-renamed n t = cond n.shared (cond (eqb t n.own) n.same (cond (ltb t n.own) (n.next + t) (n.next + t - 1))) (n.next + t)
+renamed n t = cond (is_shared n) (cond (eqb t (own_state n)) (same_state n) (cond (ltb t (own_state n)) (n.next + t) (n.next + t - 1))) (n.next + t)
 
 -- the first number of record i after renaming: it changes where it is a state
 abbrev pub new_from : Naming → List ℕ → ℕ → ℕ
@@ -69,7 +86,7 @@ renamed_record n B i = record_with B i (new_from n B i) (new_target n B i)
 
 -- record i says of the shared state only what the first list says already: that it starts, or leads to itself
 unfoldable pub spare : Naming → List ℕ → ℕ → Bool
-spare n B i = n.shared && eqb (target B i) n.own && (is_start B i || is_edge B i && eqb (from B i) n.own)
+spare n B i = (is_shared n) && eqb (target B i) (own_state n) && (is_start B i || is_edge B i && eqb (from B i) (own_state n))
 
 -- ---- the joined list
 

@@ -1,26 +1,33 @@
 // Two signature lists joined into one: the second's states are renamed, and its records come behind the first's. Where both have a state that every
 // frontier holds, or one that the start set alone holds, the two become one. One walk over each list checks it and finds all that the naming needs;
 // then what the second adds is measured, and only then is anything written, by a table of the new numbers.
+// A record is the list and its place, as in `list`. The marks stand in an array of their own, so that many are read at a time.
 #![tactic(auto)]
 
-ghost use Rattle.std.specs.Prelude.{◌≡◌, true, false, ◌&&◌, cond, eqb, ℕ, suc, ◌+◌, ◌*◌, ◌<◌, ◌≤◌, length, take, drop, get_or, set};
+ghost use Rattle.std.specs.Prelude.{◌≡◌, Bool, Some, None, true, false, ◌&&◌, cond, eqb, ℕ, suc, ◌+◌, ◌*◌, ◌<◌, ◌≤◌, length, take, drop, get_or, set};
 ghost use Rattle.numbers.specs.Number.{num, placed};
 ghost use Rattle.sets.specs.Set.{states, holds};
-ghost use Rattle.rules.specs.Scan.{some};
+ghost use Rattle.rules.specs.Scan.{some, first};
 ghost use Rattle.list.specs.List.{most_records, records, is_edge, is_start, low, high, from, target, good_record, list_refusal};
 ghost use Rattle.list.specs.Automaton.{highest};
-ghost use Rattle.list_join.specs.inner.Found.{overfull, spare_by, flag, bump, ever, once, Ends, Seen, Outlines, Fitted, Narrow, Numbers, Plans};
-ghost use Rattle.list_join.specs.Join.{name_by, renamed, spare, adds, added, kept};
+ghost use Rattle.list_join.specs.inner.Found.{overfull, spare_by, flag, bump, ever, once, some_state, Ends, Seen, Outlines, Fitted, Narrow, Numbers, Plans};
+ghost use Rattle.list_join.specs.Join.{two, shared_as, is_shared, own_state, name_by, renamed, spare, adds, added, kept};
 ghost use Rattle.list_join.specs.Join.{Joins};
 
-// How the states of the second list are named in the joined one: `next` is the first number that is free; where a state is shared, the second list's
-// state `own` is the first list's state `same`.
+use list::Kind;
+
+// A state that two lists share: the second list's state `own` is the first list's state `same`.
+#[derive(Clone, Copy)]
+pub struct Shared {
+    pub own: usize,
+    pub same: usize,
+}
+
+// How the states of the second list are named in the joined one: `next` is the first number that is free; one state may be shared.
 #[derive(Clone, Copy)]
 pub struct Naming {
     pub next: usize,
-    pub shared: bool,
-    pub own: usize,
-    pub same: usize,
+    pub shared: Option<Shared>,
 }
 
 // What one walk over a list finds: a refusal's number or 0, and then the highest state that it names, a mark for each state that is not 0 where it is
@@ -68,7 +75,7 @@ fn put_flag(marks: &mut [u8], s: usize, k: u8)
     requires { s < length marks.old }
     ensures { marks.new ≡ flag marks.old s k }
 {
-    marks[s] = marks[s] | k;
+    marks[s] |= k;
 }
 
 // Makes byte s of the marks 1, where a test holds.
@@ -86,7 +93,7 @@ fn put_spare(spares: &mut [u16], s: usize)
     requires { (s < length spares.old) × (get_or spares.old s 0 < 65535) }
     ensures { spares.new ≡ bump spares.old s }
 {
-    spares[s] = spares[s] + 1;
+    spares[s] += 1;
 }
 
 // Says whether every byte is in the range of record i.
@@ -178,34 +185,30 @@ fn note_accept(list: &[u8], i: usize, marks: &mut [u8]) -> bool
     true
 }
 
-// Takes in record i, where it is good; says whether it is. The test for a start comes first: so the compiler tests for an edge first.
+// Takes in record i, where it is good; says whether it is.
 fn note(list: &[u8], i: usize, marks: &mut [u8], staying: &mut [u8], spares: &mut [u16]) -> bool
     requires { (i < records list.now) × (i < most_records) × Seen list.now i marks.old staying.old spares.old }
     ensures { (result ≡ good_record list.now i)
         × (result ≡ true → Seen list.now (suc i) marks.new staying.new spares.new) }
 {
-    if list::is_start(list, i) {
-        return note_start(list, i, marks, spares);
+    match list::kind_of(list, i) {
+        Some(Kind::Edge) => note_edge(list, i, marks, staying, spares),
+        Some(Kind::Start) => note_start(list, i, marks, spares),
+        Some(Kind::Accept) => note_accept(list, i, marks),
+        None => false,
     }
-    if list::is_edge(list, i) {
-        return note_edge(list, i, marks, staying, spares);
-    }
-    note_accept(list, i, marks)
 }
 
 // One past the highest place below m whose mark is not 0; 0 where there is none. It goes down one by one.
+// The answer is the end of a front, as a length is: a state for none would be turned back into it.
 fn end_near(marks: &[u8], m: usize) -> usize
     requires { m ≤ length marks.now }
     ensures { Ends marks.now m result }
 {
-    let mut s = m;
-    while 0 < s {
-        if marks[s - 1] != 0 {
-            return s;
-        }
-        s = s - 1;
+    match marks[..m].iter().rposition(|&mark| mark != 0) {
+        Some(s) => s + 1,
+        None => 0,
     }
-    s
 }
 
 // The same, eight marks at a time as long as they are all 0.
@@ -218,7 +221,7 @@ fn end_below(marks: &[u8], m: usize) -> usize
         if numbers::whole_number(marks, s - 8, 8) != 0 {
             return end_near(marks, s);
         }
-        s = s - 8;
+        s -= 8;
     }
     end_near(marks, s)
 }
@@ -229,8 +232,8 @@ fn some_start(marks: &[u8]) -> bool
     ensures { result ≡ some states (λ s. holds (get_or marks.now s 0) 1) }
 {
     let mut all = 0u8;
-    for s in 0..sets::STATES {
-        all = all | marks[s];
+    for m in marks {
+        all |= *m;
     }
     all / 2 % 2 == 1
 }
@@ -240,7 +243,7 @@ fn refused(refusal: u32) -> Outline
     ensures { result.refusal ≡ refusal }
 {
     Outline {
-        refusal: refusal,
+        refusal,
         top: 0,
         marks: [0u8; 1024],
         staying: [0u8; 1024],
@@ -271,64 +274,50 @@ fn find_outline(list: &[u8]) -> Outline
     Outline {
         refusal: rules::PASSED,
         top: end - 1,
-        marks: marks,
-        staying: staying,
-        spares: spares,
+        marks,
+        staying,
+        spares,
     }
 }
 
-// The lowest state that starts and stays, by the marks; the number of states where there is none.
-fn ever_at<'a>(marks: &'a [u8], staying: &'a [u8]) -> usize
+// The lowest state that starts, by the marks, and that the test takes.
+fn lowest_start<P: Fn(usize) -> bool>(marks: &[u8], test: P) -> Option<usize>
+    requires long { length marks.now ≡ states }
+    requires asked { (s : ℕ) → s < states → P.pre test s }
+    ensures { (p : ℕ → Bool) → ((s : ℕ) (b : Bool) → s < states → P.post test s b → b ≡ p s) → result ≡ some_state (first states (λ s. holds (get_or marks.now s 0) 1 && p s)) }
+{
+    for s in 0..sets::STATES {
+        if marks[s] / 2 % 2 == 1 && test(s) {
+            return Some(s);
+        }
+    }
+    None
+}
+
+// The lowest state that starts and stays, by the marks.
+fn ever_at(marks: &[u8], staying: &[u8]) -> Option<usize>
     requires { (length marks.now ≡ states) × (length staying.now ≡ states) }
-    ensures { result ≡ ever marks.now staying.now }
+    ensures { result ≡ some_state (ever marks.now staying.now) }
 {
-    for s in 0..sets::STATES {
-        if (marks[s] / 2 % 2 == 1) & (staying[s] != 0) {
-            return s;
-        }
-    }
-    sets::STATES
+    lowest_start(marks, |s| staying[s] != 0)
 }
 
-// The lowest state that starts and that no edge leads to, by the marks; the number of states where there is none.
-fn once_at(marks: &[u8]) -> usize
+// The lowest state that starts and that no edge leads to, by the marks.
+fn once_at(marks: &[u8]) -> Option<usize>
     requires { length marks.now ≡ states }
-    ensures { result ≡ once marks.now }
+    ensures { result ≡ some_state (once marks.now) }
 {
-    for s in 0..sets::STATES {
-        if (marks[s] / 2 % 2 == 1) & (marks[s] / 4 % 2 != 1) {
-            return s;
-        }
-    }
-    sets::STATES
+    lowest_start(marks, |s| marks[s] / 4 % 2 != 1)
 }
 
-// The naming, by the first new number, two states that are always there and two that are there once.
-fn name_by(next: usize, i: usize, j: usize, k: usize, l: usize) -> Naming
-    ensures { result ≡ name_by next i j k l }
+// Two states as the one that is shared, where both are there.
+fn shared_by(same: Option<usize>, own: Option<usize>) -> Option<Shared>
+    ensures { (i j : ℕ) → same ≡ some_state i → own ≡ some_state j → result ≡ cond (two i j) (Some (shared_as j i)) None }
 {
-    if (i < sets::STATES) & (j < sets::STATES) {
-        return Naming {
-            next: next,
-            shared: true,
-            own: j,
-            same: i,
-        };
-    }
-    if (k < sets::STATES) & (l < sets::STATES) {
-        return Naming {
-            next: next,
-            shared: true,
-            own: l,
-            same: k,
-        };
-    }
-    Naming {
-        next: next,
-        shared: false,
-        own: 0,
-        same: 0,
-    }
+    Some(Shared {
+        same: same?,
+        own: own?,
+    })
 }
 
 // How the states of the second list are named, by what the walks over both found. States that are there once are sought where two that are always there
@@ -337,14 +326,13 @@ fn name_states(a: Outline, b: Outline) -> Naming
     requires { a.top < states }
     ensures { result ≡ name_by (suc a.top) (ever a.marks a.staying) (ever b.marks b.staying) (once a.marks) (once b.marks) }
 {
-    let i = ever_at(&a.marks, &a.staying);
-    let j = ever_at(&b.marks, &b.staying);
-    if (i < sets::STATES) & (j < sets::STATES) {
-        return name_by(a.top + 1, i, j, i, j);
+    let next = a.top + 1;
+    let ever = shared_by(ever_at(&a.marks, &a.staying), ever_at(&b.marks, &b.staying));
+    if ever.is_some() {
+        return Naming { next, shared: ever };
     }
-    let k = once_at(&a.marks);
-    let l = once_at(&b.marks);
-    name_by(a.top + 1, i, j, k, l)
+    let shared = shared_by(once_at(&a.marks), once_at(&b.marks));
+    Naming { next, shared }
 }
 
 // The new number of a state.
@@ -352,16 +340,11 @@ fn rename(n: Naming, t: usize) -> usize
     requires { (n.next ≤ 65536) × (t < 65536) }
     ensures { result ≡ renamed n t }
 {
-    if n.shared {
-        if t == n.own {
-            return n.same;
-        }
-        if t < n.own {
-            return n.next + t;
-        }
-        return n.next + t - 1;
+    match n.shared {
+        Some(s) if t == s.own => s.same,
+        Some(s) if s.own < t => n.next + t - 1,
+        _ => n.next + t,
     }
-    n.next + t
 }
 
 // Bytes 4 to 7 of record i as one number: its first number, and 65,536 times its second.
@@ -377,13 +360,16 @@ const TWICE: u64 = 65537;
 
 // Says whether the first list has all that record i says. Bytes 4 to 7 are read at once: an edge is spare where they have the shared state twice.
 fn spare(n: Naming, b: &[u8], i: usize) -> bool
-    requires { (i < records b.now) × (n.own < states) }
+    requires { (i < records b.now) × (own_state n < states) }
     ensures { result ≡ spare n b.now i }
 {
+    let Some(s) = n.shared else {
+        return false;
+    };
     if list::is_edge(b, i) {
-        return n.shared & (tail(b, i) == TWICE * n.own as u64);
+        return tail(b, i) == TWICE * s.own as u64;
     }
-    n.shared & list::is_start(b, i) & (list::target(b, i) == n.own)
+    list::is_start(b, i) & (list::target(b, i) == s.own)
 }
 
 // Says whether k records more behind a pass the lent list, or are more than a list may have.
@@ -396,16 +382,15 @@ fn overfull(a: &[u8], lent: usize, k: usize) -> bool
 
 // Says whether what b adds behind a passes the lent list, or makes more records than a list may have: all of b's records but those that are spare.
 fn too_long(a: &[u8], lent: usize, n: Naming, b: &[u8], spares: &[u16]) -> bool
-    requires { (list_refusal a.now ≡ 0) × (list_refusal b.now ≡ 0) × (n.shared ≡ true → n.own < states) × (length spares.now ≡ states)
+    requires { (list_refusal a.now ≡ 0) × (list_refusal b.now ≡ 0) × (is_shared n ≡ true → own_state n < states) × (length spares.now ≡ states)
         × ((s : ℕ) → s < states → get_or spares.now s 0 ≡ spare_by b.now s (records b.now)) }
     ensures { result ≡ overfull a.now lent (kept n b.now (records b.now)) }
 {
     let m = list::records(b);
-    if n.shared {
-        let own = n.own;
-        return overfull(a, lent, m - wide(spares[own]));
+    match n.shared {
+        Some(s) => overfull(a, lent, m - usize::from(spares[s.own])),
+        None => overfull(a, lent, m),
     }
-    overfull(a, lent, m)
 }
 
 // Says whether each state that is marked gets the number of a state. The shared one does; so the highest of the others decides.
@@ -413,13 +398,13 @@ fn all_fit(n: Naming, top: usize, named: &[u8]) -> bool
     requires { Narrow n top × (length named.now ≡ states) × (get_or named.now top 0 ≡ 0 → ⊥) }
     ensures { Fitted n top named.now result }
 {
-    if !n.shared {
+    let Some(s) = n.shared else {
         return n.next + top < sets::STATES;
-    }
-    if n.own < top {
+    };
+    if s.own < top {
         return n.next + top <= sets::STATES;
     }
-    n.next + end_below(named, n.own) <= sets::STATES
+    n.next + end_below(named, s.own) <= sets::STATES
 }
 
 // The new numbers of the states up to the highest.
@@ -428,35 +413,30 @@ fn new_numbers(n: Naming, top: usize) -> [u16; 1024]
     ensures { Numbers n top result }
 {
     let mut new = [0u16; 1024];
-    for t in 0..top + 1 {
-        new[t] = (rename(n, t) % 65536) as u16;
+    for t in 0..=top {
+        new[t] = rename(n, t) as u16;
     }
     new
 }
 
-// A number in two bytes.
-fn wide(x: u16) -> usize
-    ensures { result ≡ x }
+// The new number of a state, where the test holds; else the number as it is.
+fn new_number(new: &[u16], test: bool, s: usize) -> usize
+    requires { test ≡ true → s < length new.now }
+    ensures { result ≡ cond test (get_or new.now s 0) s }
 {
-    x as usize
+    if test { usize::from(new[s]) } else { s }
 }
 
 // Writes what record i adds at a place; answers the place behind it.
 fn add_record(list: &mut [u8], at: usize, n: Naming, new: &[u16], b: &[u8], i: usize) -> usize
-    requires { Numbers n (highest b.now) new.now × (i < records b.now) × (good_record b.now i ≡ true) × (at + length (adds n b.now i) ≤ length list.old) × (n.own < states) }
+    requires { Numbers n (highest b.now) new.now × (i < records b.now) × (good_record b.now i ≡ true) × (at + length (adds n b.now i) ≤ length list.old) × (own_state n < states) }
     ensures { (result ≡ at + length (adds n b.now i)) × (list.new ≡ placed list.old at (adds n b.now i)) }
 {
     if spare(n, b, i) {
         return at;
     }
-    let mut f = list::from(b, i);
-    if !list::is_start(b, i) {
-        f = wide(new[f]);
-    }
-    let mut t = list::target(b, i);
-    if !list::is_accept(b, i) {
-        t = wide(new[t]);
-    }
+    let f = new_number(new, !list::is_start(b, i), list::from(b, i));
+    let t = new_number(new, !list::is_accept(b, i), list::target(b, i));
     list::copy_record(list, at, b, i, f, t);
     at + list::RECORD_SIZE
 }
@@ -480,10 +460,13 @@ fn add(list: &mut [u8], used: usize, n: Naming, top: usize, b: &[u8]) -> usize
 fn stopped(refusal: u32) -> Plan
     ensures { result.refusal ≡ refusal }
 {
-    let none = name_by(0, 0, 0, 0, 0);
+    let naming = Naming {
+        next: 0,
+        shared: None,
+    };
     Plan {
-        refusal: refusal,
-        naming: none,
+        refusal,
+        naming,
         top: 0,
     }
 }
@@ -517,11 +500,8 @@ pub fn join(list: &mut [u8], used: usize, other: &[u8]) -> Joined
     ensures { Joins list.old used other.now result list.new }
 {
     let lent = list.len();
-    let mut end = lent;
-    if used < lent {
-        end = used;
-    }
-    let p = decide(&list[0..end], used, lent, other);
+    let end = used.min(lent);
+    let p = decide(&list[..end], used, lent, other);
     if p.refusal != rules::PASSED {
         return Joined {
             refusal: p.refusal,
@@ -529,9 +509,9 @@ pub fn join(list: &mut [u8], used: usize, other: &[u8]) -> Joined
         };
     }
     let n = p.naming;
-    let long = add(list, used, n, p.top, other);
+    let length = add(list, used, n, p.top, other);
     Joined {
         refusal: rules::PASSED,
-        length: long,
+        length,
     }
 }

@@ -25,7 +25,7 @@ use Rattle.laws.specs.Words.{list_words}
 use Rattle.laws.proofs.Saying.{list-says}
 use Rattle.list_join.specs.declared.Joined.{Joined}
 use Rattle.list_join.specs.inner.Found.{fits}
-use Rattle.list_join.specs.Join.{naming, renamed, spare, kept, joined, too_big, other_refused, front, join_rules, refusal_of, Joins}
+use Rattle.list_join.specs.Join.{is_shared, own_state, same_state, naming, renamed, spare, kept, joined, too_big, other_refused, front, join_rules, refusal_of, Joins}
 use Rattle.list_join.proofs.Renames.{renamed-own, spare-is}
 use Rattle.list_join.proofs.Fields.{joined_length}
 use Rattle.list_join.proofs.Union.{sharing, edge-B, start-B, accept-B, edge-names, start-names, accept-names}
@@ -58,16 +58,16 @@ module _ (A B : List ℕ) (a : list_refusal A ≡ 0) (b : list_refusal B ≡ 0) 
       (λ x. choose x.1 (λ q. own (sym q ∙ k.1)) (λ q. own (sym q ∙ z.1)))
       (λ o. choose o (λ x. clash 2 1 (eqb-true _ _ x.0) (eqb-true _ _ k.0) (omega arith)) (λ x. clash 3 1 (eqb-true _ _ x.0) (eqb-true _ _ k.0) (omega arith))))
     where
-      z : ((naming A B).shared ≡ true) × (target B i ≡ (naming A B).own) × ((is_start B i ≡ true) ⊎ ((is_edge B i ≡ true) × (from B i ≡ (naming A B).own)))
+      z : (is_shared (naming A B) ≡ true) × (target B i ≡ (own_state (naming A B))) × ((is_start B i ≡ true) ⊎ ((is_edge B i ≡ true) × (from B i ≡ (own_state (naming A B)))))
       z = spare-is (naming A B) B i e
 
       clash : (x y : ℕ) → byte_of B i 0 ≡ x → byte_of B i 0 ≡ y → (x ≡ y → ⊥) → ⊥
       clash x y p q n = n (sym p ∙ q)
 
-      own : s ≡ (naming A B).own → ⊥
+      own : s ≡ own_state (naming A B) → ⊥
       own q =
-          let y : renamed (naming A B) s ≡ (naming A B).same = ap (renamed (naming A B)) q ∙ renamed-own (naming A B) z.0 in
-          let h : (naming A B).same ≤ highest A = (sharing A B a b z.0).lowish in
+          let y : renamed (naming A B) s ≡ (same_state (naming A B)) = ap (renamed (naming A B)) q ∙ renamed-own (naming A B) z.0 in
+          let h : same_state (naming A B) ≤ highest A = (sharing A B a b z.0).lowish in
           omega (arith, l, y, h, highest-state A a)
 
   limits : (list_refusal (joined A B) ≡ 0) ↔ ((records A + kept (naming A B) B (records B) ≤ most_records) × ((s : ℕ) → holds (named B) s ≡ true → renamed (naming A B) s < states))

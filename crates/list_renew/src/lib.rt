@@ -8,6 +8,7 @@ ghost use Rattle.list_renew.specs.Renewal.{renew_rules, Renews, offset_said};
 use sets::StateSet;
 
 // What is answered of bytes that have the size of no record.
+// A number: it is what C's function answers.
 const NO_OFFSET: u64 = 18446744073709551615;
 
 // The check of a renewal: 4 where a feed of no bytes, of whatever list, would give it; else 0.

@@ -35,10 +35,10 @@ fn drive_renewed(
     let renewed = list_renew::renew(flow);
     let second = list_feed::feed(list, flow, 0, rest, later);
     DroveRenewed {
-        opened: opened,
-        first: first,
-        before: before,
-        renewed: renewed,
-        second: second,
+        opened,
+        first,
+        before,
+        renewed,
+        second,
     }
 }

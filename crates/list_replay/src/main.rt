@@ -3,209 +3,184 @@
 
 ghost use Rattle.std.specs.Prelude.{◌≡◌, length};
 
-use replay::Call;
-use replay_tape::Table;
+use replay::Engine;
+use replay_tape::{Buffer, MOST_WORDS, PIECE_BYTES, Program, Table, TableBuffer};
 
-// How many bytes of each buffer are in use, and whether commands are left.
+// Room for a list: 8,192 records, and 256 bytes more.
+const ROOM_FOR_LIST: usize = 65792;
+
+// Room for the lists of a table, one after the other: the classes, 1,024 parts, their rows on four classes and 4,096 splits, and 256 bytes more of each.
+const TABLE_ROOM: usize = 1213696;
+
+// Room for a matrix or an index: a matrix of 8 states, and 256 bytes more.
+const MATRIX_ROOM: usize = 262400;
+
+// Room for a record.
+const RECORD_ROOM: usize = 512;
+
+// By what a flow is fed. By the matrix it is fed at any letter that has no other meaning, with which the line begins.
 #[derive(Clone, Copy)]
-struct Sizes {
-    more: bool,
-    list: usize,
-    table: Table,
-    matrix: usize,
-    record: usize,
+enum By {
+    List,
+    Table,
+    Index,
+    Matrix(u8),
 }
 
-// Zeros for a list: 8,192 records, and 256 bytes more.
-fn list_buffer() -> [u8; 65792]
-    ensures { 65792 ≡ length result }
-{
-    [0; 65792]
+// A command.
+#[derive(Clone, Copy)]
+enum Command {
+    ReadList,
+    ReadTable,
+    ReadMatrix,
+    SowMatrix,
+    ChangeMatrix,
+    ReadRecord,
+    Open,
+    CheckList,
+    CheckTable,
+    FillMatrix,
+    FillIndex,
+    Feed(By),
 }
 
-// Zeros for the lists of a table, one after the other: the classes, 1,024 parts, their rows on four classes and 4,096 splits, and 256 bytes more of each.
-fn table_buffer() -> [u8; 1213696]
-    ensures { 1213696 ≡ length result }
-{
-    [0; 1213696]
+// A list, a table, a matrix or an index, and the record of a flow.
+#[derive(Drop)]
+struct Flow<'a> {
+    list: Buffer<'a>,
+    table: TableBuffer<'a>,
+    matrix: Buffer<'a>,
+    record: Buffer<'a>,
 }
 
-// Zeros for a matrix: 8 states, and 256 bytes more.
-fn matrix_buffer() -> [u8; 262400]
-    ensures { 262400 ≡ length result }
-{
-    [0; 262400]
+impl<'a> Flow<'a> {
+    // Replays a check of the table: the input says the bound.
+    fn check_table(&self) {
+        let bound = replay_tape::read_u64();
+        replay::check_table(self.list.bytes(), bound, self.table.table());
+    }
+
+    // Replays a filling of the matrix.
+    fn fill_matrix(&mut self) {
+        replay::fill_matrix(self.list.bytes(), self.matrix.bytes_mut());
+    }
+
+    // Replays a filling of the index: the input says the bound.
+    fn fill_index(&mut self) {
+        let bound = replay_tape::read_u64();
+        replay::fill_index(
+            self.list.bytes(),
+            bound,
+            self.table.table(),
+            self.matrix.bytes_mut(),
+        );
+    }
+
+    // Replays an opening: the input says how many words there are.
+    fn open(&mut self) {
+        let mut words = [0; MOST_WORDS];
+        let words = replay_tape::front(&mut words, replay_tape::read_size());
+        replay::open(self.list.bytes(), self.record.bytes_mut(), words);
+    }
+
+    // Replays a feed.
+    fn feed(&mut self, by: By) {
+        let list = self.list.bytes();
+        let matrix = self.matrix.bytes();
+        let (letter, engine) = engine(by, list, self.table.table(), matrix);
+        feed_piece(letter, engine, self.record.bytes_mut());
+    }
 }
 
-// Zeros for a record.
-fn record_buffer() -> [u8; 512]
-    ensures { 512 ≡ length result }
-{
-    [0; 512]
-}
-
-// Replays an opening: the input says how many words there are.
-fn open(list: &[u8], record: &mut [u8]) {
-    let words = replay_tape::read_number(4) as usize;
-    let mut out = replay_tape::word_buffer();
-    let k = replay_tape::within_words(&out, words);
-    replay::open(list, record, &mut out[..k]);
+// By what a flow is fed, and the letter of its line: the input says the bound of a table, and the hint of an index.
+fn engine<'a>(by: By, list: &'a [u8], table: Table<'a>, matrix: &'a [u8]) -> (u8, Engine<'a>) {
+    match by {
+        By::List => (b'f', Engine::List { list }),
+        By::Table => {
+            let bound = replay_tape::read_u64();
+            (b's', Engine::Table { list, bound, table })
+        }
+        By::Index => {
+            let by_index = Engine::Index {
+                splits: table.splits,
+                index: matrix,
+                hint: replay_tape::read_size(),
+            };
+            (b'p', by_index)
+        }
+        By::Matrix(letter) => (letter, Engine::Matrix { list, matrix }),
+    }
 }
 
 // Replays a feed: the input says where it starts, how many words there are, and the piece.
-fn feed(mut call: Call, list: &[u8], table: &[u8], matrix: &[u8], record: &mut [u8]) {
-    call.start = replay_tape::read_number(8);
-    let words = replay_tape::read_number(4) as usize;
-    let mut piece = replay_tape::piece_buffer();
+fn feed_piece(letter: u8, engine: Engine<'_>, record: &mut [u8]) {
+    let start = replay_tape::read_u64();
+    let mut words = [0; MOST_WORDS];
+    let words = replay_tape::front(&mut words, replay_tape::read_size());
+    let mut piece = [0; PIECE_BYTES];
     let n = replay_tape::read_field(&mut piece);
-    let mut out = replay_tape::word_buffer();
-    let k = replay_tape::within_words(&out, words);
-    let p = replay_tape::front(&piece, n);
-    if call.letter == b'p' {
-        replay::prepared_feed(call, table, matrix, record, p, &mut out[..k]);
-        return;
-    }
-    replay::feed(call, list, table, matrix, record, p, &mut out[..k]);
+    replay::feed(letter, engine, record, start, &piece[..n], words);
 }
 
-// The bound of a call, which stands before what else its command has; 0 where the command has none.
-fn read_bound(command: u8) -> u64 {
-    if command == b'k' {
-        return replay_tape::read_number(8);
-    }
-    if command == b's' {
-        return replay_tape::read_number(8);
-    }
-    if command == b'i' {
-        return replay_tape::read_number(8);
-    }
-    0
-}
+impl<'a> Program for Flow<'a> {
+    type Command = Command;
 
-// The hint of a prepared feed, which stands before what else its command has; 0 where the command has none.
-fn read_hint(command: u8) -> u32 {
-    if command == b'p' {
-        return replay_tape::read_word();
+    fn command(letter: u8) -> Option<Command> {
+        match letter {
+            b'L' => Some(Command::ReadList),
+            b'T' => Some(Command::ReadTable),
+            b'M' => Some(Command::ReadMatrix),
+            b'S' => Some(Command::SowMatrix),
+            b'N' => Some(Command::ChangeMatrix),
+            b'R' => Some(Command::ReadRecord),
+            b'o' => Some(Command::Open),
+            b'c' => Some(Command::CheckList),
+            b'k' => Some(Command::CheckTable),
+            b'm' => Some(Command::FillMatrix),
+            b'i' => Some(Command::FillIndex),
+            b'f' => Some(Command::Feed(By::List)),
+            b's' => Some(Command::Feed(By::Table)),
+            b'p' => Some(Command::Feed(By::Index)),
+            b'a'.. => Some(Command::Feed(By::Matrix(letter))),
+            _ => None,
+        }
     }
-    0
-}
 
-// Replays a command that answers, on the list, the table, the matrix or index and the record in use.
-fn answer(call: Call, list: &[u8], table: &[u8], matrix: &mut [u8], record: &mut [u8]) {
-    let letter = call.letter;
-    if letter == b'o' {
-        open(list, record);
-    } else if letter == b'c' {
-        replay::check(call, list, table);
-    } else if letter == b'k' {
-        replay::check(call, list, table);
-    } else if letter == b'm' {
-        replay::fill(call, list, table, matrix);
-    } else if letter == b'i' {
-        replay::fill(call, list, table, matrix);
-    } else {
-        feed(call, list, table, matrix, record);
-    }
-}
-
-// Reads a matrix or index by its letter: whole, from a seed, or a change of the one in use; answers how many bytes it has.
-fn load_matrix(command: u8, matrix: &mut [u8], used: usize) -> usize {
-    if command == b'M' {
-        return replay_tape::read_field(matrix);
-    }
-    if command == b'S' {
-        return replay_tape::read_sown(matrix);
-    }
-    replay_tape::read_change(matrix, used)
-}
-
-// Reads a list, a table, a matrix or index, or a record, by its letter; at the end of the input, where the letter is 0, no commands are left.
-fn load(
-    command: u8,
-    list: &mut [u8],
-    table: &mut [u8],
-    matrix: &mut [u8],
-    record: &mut [u8],
-    mut s: Sizes,
-) -> Sizes {
-    if command == b'L' {
-        s.list = replay_tape::read_field(list);
-    } else if command == b'T' {
-        let t = replay_tape::read_table(table);
-        s.table = t;
-    } else if command == b'M' {
-        s.matrix = load_matrix(command, matrix, s.matrix);
-    } else if command == b'N' {
-        s.matrix = load_matrix(command, matrix, s.matrix);
-    } else if command == b'S' {
-        s.matrix = load_matrix(command, matrix, s.matrix);
-    } else if command == b'R' {
-        s.record = replay_tape::read_field(record);
-    } else {
-        s.more = false;
-    }
-    s
-}
-
-// Replays one command; answers the sizes after it.
-fn replay_one(
-    list: &mut [u8],
-    table: &mut [u8],
-    matrix: &mut [u8],
-    record: &mut [u8],
-    s: Sizes,
-) -> Sizes {
-    let command = replay_tape::read_command();
-    if command < b'a' {
-        return load(command, list, table, matrix, record, s);
-    }
-    let t = s.table;
-    let call = Call {
-        letter: command,
-        bound: read_bound(command),
-        hint: read_hint(command),
-        start: 0,
-        table: t,
-    };
-    let m = replay_tape::within(matrix, s.matrix);
-    let k = replay_tape::within(record, s.record);
-    answer(
-        call,
-        replay_tape::front(list, s.list),
-        table,
-        &mut matrix[..m],
-        &mut record[..k],
-    );
-    s
-}
-
-// Replays the commands of the input.
-fn replay(list: &mut [u8], table: &mut [u8], matrix: &mut [u8], record: &mut [u8]) {
-    let mut s = Sizes {
-        more: true,
-        list: 0,
-        table: Table {
-            classes: 0,
-            parts: 0,
-            rows: 0,
-            splits: 0,
-        },
-        matrix: 0,
-        record: 0,
-    };
-    for _ in 0..replay_tape::MOST_COMMANDS {
-        s = replay_one(list, table, matrix, record, s);
-        if !s.more {
-            return;
+    fn replay(&mut self, command: Command) {
+        match command {
+            Command::ReadList => self.list.read_field(),
+            Command::ReadTable => self.table.read(),
+            Command::ReadMatrix => self.matrix.read_field(),
+            Command::SowMatrix => self.matrix.read_sown(),
+            Command::ChangeMatrix => self.matrix.read_change(),
+            Command::ReadRecord => self.record.read_field(),
+            Command::Open => self.open(),
+            Command::CheckList => replay::check_list(self.list.bytes()),
+            Command::CheckTable => self.check_table(),
+            Command::FillMatrix => self.fill_matrix(),
+            Command::FillIndex => self.fill_index(),
+            Command::Feed(by) => self.feed(by),
         }
     }
 }
 
+// Zeros for a buffer. Behind a call its length is known without its bytes.
+fn zeros<const N: usize>() -> [u8; N]
+    ensures { N ≡ length result }
+{
+    [0; N]
+}
+
 // The program.
 fn main() {
-    let mut list = list_buffer();
-    let mut table = table_buffer();
-    let mut matrix = matrix_buffer();
-    let mut record = record_buffer();
-    replay(&mut list, &mut table, &mut matrix, &mut record);
+    let mut list: [u8; ROOM_FOR_LIST] = zeros();
+    let mut table: [u8; TABLE_ROOM] = zeros();
+    let mut matrix: [u8; MATRIX_ROOM] = zeros();
+    let mut record: [u8; RECORD_ROOM] = zeros();
+    replay_tape::replay(&mut Flow {
+        list: Buffer::new(&mut list),
+        table: TableBuffer::new(&mut table),
+        matrix: Buffer::new(&mut matrix),
+        record: Buffer::new(&mut record),
+    });
 }

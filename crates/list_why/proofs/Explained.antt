@@ -1,12 +1,10 @@
 -- What the call answers and leaves: a refusal of 1 to 25, 26, or the run. Assumes nothing.
-use Prim.Native.Nat.{ℕ, suc, ◌+◌, ◌-◌, ◌<◌, ◌^◌}
+use Prim.Native.Nat.{ℕ, suc, ◌-◌, ◌<◌, ◌^◌}
 use mathlib.Core.Path.{◌≡◌, refl, sym, ap, ap₂, ◌∙◌}
-use mathlib.Core.Bool.{not, cond}
+use mathlib.Core.Bool.{not}
 use mathlib.Core.List.{List, [], ◌∷◌, ◌++◌}
 use native.Mathlib.Omega.{arith}
-use native.Mathlib.Decide.{ℕ_discrete}
 use lib.ListN.{drop}
-use lib.Dec.{eqb}
 use borrow.Author.Tests.{ne_eqb, eq-eqb}
 use Rattle.numbers.specs.Number.{placed}
 use Rattle.sets.specs.Set.{states}
@@ -42,11 +40,11 @@ module _ (L R : List ℕ) (at : ℕ) (piece : List ℕ) (q : Question) (k : ℕ)
     few = front-lt L F piece small (k - at) (omega (arith, known.before, known.behind))
 
     -- 26
-    none : e ≡ states → Explains L R at piece q k out work 26 out work
+    pub none : e ≡ states → Explains L R at piece q k out work 26 out work
     none z = unchanged 26 (sym (past ∙ stop 26 [] (ap not (end_none L (front L F piece (k - at)) few q (sym end ∙ z))))) (λ w. omega arith)
 
     -- the run
-    told : (e ≡ states → ⊥) → Explains L R at piece q k out work 0 (trace L F piece (k - at) e ++ drop (suc (k - at)) out) (placed work 0 (fronts L F piece (k - at)))
+    pub told : (e ≡ states → ⊥) → Explains L R at piece q k out work 0 (trace L F piece (k - at) e ++ drop (suc (k - at)) out) (placed work 0 (fronts L F piece (k - at)))
     told ne =
         let h = end-found L (front L F piece (k - at)) few known.listed q (λ z. ne (end ∙ z)) in
         let v = past ∙ last 26 (ap not h) in
@@ -56,12 +54,3 @@ module _ (L R : List ℕ) (at : ℕ) (piece : List ℕ) (q : Question) (k : ℕ)
           wrote = rw (z, sym known.start, sym is, sym end);
           worked = rw (z, sym known.start, sym is) (kept-all (front L F piece) work (suc (k - at)) known.work-fits);
         }
-
-    -- as the code tells them apart
-    pub run-explains : (r : ℕ) (X W : List ℕ) → r ≡ cond (eqb e states) 26 0 → X ≡ cond (eqb e states) out (trace L F piece (k - at) e ++ drop (suc (k - at)) out)
-        → W ≡ cond (eqb e states) work (placed work 0 (fronts L F piece (k - at))) → Explains L R at piece q k out work r X W
-    run-explains r X W a b c =
-        elim (ℕ_discrete e states) [
-          | yes z ↦ let t = eq-eqb e states z in rw (rw t at a, rw t at b, rw t at c) (none z)
-          | no n ↦ let t = ne_eqb e states n in rw (rw t at a, rw t at b, rw t at c) (told n)
-        ]

@@ -1,14 +1,16 @@
 -- Which edge record is answered: none, where the list is refused or no record leads so, else the first that does. Assumes nothing.
-use Prim.Native.Nat.{ℕ, suc}
+use Prim.Native.Nat.{ℕ, suc, ◌≤◌, ◌<◌}
 use mathlib.Core.Path.{◌≡◌, refl, sym, ap, ◌∙◌}
 use mathlib.Core.Bool.{Bool, true, false, not}
 use mathlib.Core.List.{List, [], ◌∷◌}
 use native.Mathlib.Omega.{arith}
-use borrow.Author.Tests.{ne_eqb, eq-eqb}
+use borrow.Author.Tests.{ne_eqb, eq-eqb, le-ltb}
+use Rattle.std.specs.Prelude.{Some, None}
+use Rattle.std.specs.Bool.{then_some}
 use Rattle.rules.specs.Scan.{some, first}
 use Rattle.rules.specs.Rules.{verdict}
 use Rattle.rules.proofs.Rules.{stop, last, verdict-then, verdict-refused}
-use Rattle.rules.proofs.Scanning.{some-none, first-none, first-none-exactly}
+use Rattle.rules.proofs.Scanning.{some-none, some-intro, first-at}
 use Rattle.list.specs.List.{list_refusal, list_rules, records}
 use Rattle.list_why.specs.declared.Found.{Found}
 use Rattle.list_why.specs.Reason.{links, edge_rules, Finds}
@@ -26,18 +28,23 @@ module _ (L : List ℕ) (s c t : ℕ) where
   past v = verdict-then (list_rules L) ((26, not (some (records L) (links L s c t))) ∷ []) refl v
 
   -- 26
-  pub none-finds : (f : Found) → list_refusal L ≡ 0 → some (records L) (links L s c t) ≡ false → f.refusal ≡ 26 → f.place ≡ 0 → Finds L s c t f
-  none-finds f v n e z = refused f (e ∙ sym (past v ∙ stop 26 [] (ap not n))) (λ w. omega (arith, e, w)) z
+  pub none-finds : (f : Found) → list_refusal L ≡ 0 → then_some (some (records L) (links L s c t)) (first (records L) (links L s c t)) ≡ None → f.refusal ≡ 26 → f.place ≡ 0 → Finds L s c t f
+  none-finds f v n e z = refused f (e ∙ sym (past v ∙ stop 26 [] (ap not (none (some (records L) (links L s c t)) n)))) (λ w. omega (arith, e, w)) z
+    where
+      none : (b : Bool) → then_some b (first (records L) (links L s c t)) ≡ None → b ≡ false
+      none true q = absurd cc
+      none false q = refl
 
   -- the first
-  pub first_finds : (f : Found) → list_refusal L ≡ 0 → f.place ≡ first (records L) (links L s c t) → (f.place ≡ records L → ⊥) → f.refusal ≡ 0 → Finds L s c t f
-  first_finds f v p ne e = go (some (records L) (links L s c t)) refl
+  pub first_finds : (f : Found) → list_refusal L ≡ 0 → then_some (some (records L) (links L s c t)) (first (records L) (links L s c t)) ≡ Some f.place → f.refusal ≡ 0 → Finds L s c t f
+  first_finds f v p e = go (some (records L) (links L s c t)) refl p
     where
-      go : (b : Bool) → some (records L) (links L s c t) ≡ b → Finds L s c t f
-      go false n = absurd (ne (p ∙ first-none (records L) (links L s c t) n))
-      go true h =
+      go : (b : Bool) → some (records L) (links L s c t) ≡ b → then_some b (first (records L) (links L s c t)) ≡ Some f.place → Finds L s c t f
+      go false n q = absurd cc
+      go true h q =
           let w = past v ∙ last 26 (ap not h) in
-          record { refuses = e ∙ sym w; place = rw (eq-eqb (verdict (edge_rules L s c t)) 0 w) p }
+          let z : f.place ≡ first (records L) (links L s c t) = cc in
+          record { refuses = e ∙ sym w; place = rw (eq-eqb (verdict (edge_rules L s c t)) 0 w) z }
 
 -- ---- for the loop that looks for it
 
@@ -45,5 +52,13 @@ pub none_more : (p : ℕ → Bool) (i : ℕ) → some i p ≡ false → p i ≡ 
 unfolding some
 none_more p i a b = rw (a, b)
 
-pub first-end : (n : ℕ) (p : ℕ → Bool) → first n p ≡ n → some n p ≡ false
-first-end n p e = some-none n p ((first-none-exactly n p).0 e)
+-- and what it has then
+pub found_at : (n : ℕ) (p : ℕ → Bool) (i : ℕ) → i < n → some i p ≡ false → p i ≡ true → Some i ≡ then_some (some n p) (first n p)
+found_at n p i l a b = rw (some-intro n p i l b, first-at n p i l a b) refl
+
+pub found-none : (n : ℕ) (p : ℕ → Bool) → some n p ≡ false → None ≡ then_some (some n p) (first n p)
+found-none n p e = rw e refl
+
+-- a number over 255 is no byte
+pub no-byte : (L : List ℕ) (s c t : ℕ) → 256 ≤ c → some (records L) (links L s c t) ≡ false
+no-byte L s c t h = some-none (records L) (links L s c t) (λ i l. rw (le-ltb c 256 h))

@@ -7,7 +7,7 @@ use native.Mathlib.Nat.{mul-suc, mul-le-mul_left}
 use lib.ListN.{length, drop, length-drop}
 use lib.Seq.{drop-append-le, take-append-le}
 use Rattle.numbers.specs.Number.{placed}
-use Rattle.sets.specs.Set.{states, set_size, set_bytes, set_at}
+use Rattle.sets.specs.Set.{states, set_size, set_bytes, set_at, read_at}
 use Rattle.numbers.proofs.Laws.{length_digits, num-digits}
 use Rattle.numbers.proofs.Placing.{placed-after, placed-fits}
 use Rattle.rules.specs.Scan.{stack}
@@ -48,7 +48,7 @@ kept-all f W n l =
 -- and each is read again
 pub kept_at : (f : ℕ → ℕ) (W : List ℕ) (n i : ℕ) → set_size * n ≤ length W → i < n → f i < 2 ^ states
     → set_at (placed W 0 (stack (λ i. set_bytes (f i)) n)) (set_size * i) ≡ f i
-unfolding set_at
+unfolding read_at
 kept_at f W n i l h s =
     let e = sets-length f n in
     let m = mul-le-mul_left {m = suc i} {n = n} set_size h in

@@ -1,6 +1,6 @@
 -- The lowest of the states from which a record leads to t, in words; and the lowest state that answers a question. Assumes nothing.
 use Prim.Native.Nat.{ℕ, zero, suc, ◌≤◌, ◌<◌, ◌^◌}
-use mathlib.Core.Path.{◌≡◌, refl, sym, ◌∙◌}
+use mathlib.Core.Path.{◌≡◌, refl, sym, ap, ◌∙◌}
 use mathlib.Core.Bool.{Bool, true, false, ◌&&◌, cond, true≢false}
 use mathlib.Core.List.{List}
 use mathlib.Core.Logic.{◌⊎◌, inl, inr}
@@ -14,6 +14,9 @@ use Rattle.rules.proofs.Scanning.{both, choose, below_suc}
 use Rattle.list.specs.List.{list_refusal, records, is_accept, from, target}
 use Rattle.list.specs.Automaton.{leaves}
 use Rattle.list.proofs.Steps.{accepted-exactly, accepted-checked}
+use Rattle.std.specs.Prelude.{Option, Some, None}
+use Rattle.std.specs.Bool.{then_some}
+use Rattle.list_why.specs.inner.Asked.{some_state}
 use Rattle.list_why.specs.Run.{Question, of_signature, of_state, Ends}
 use Rattle.list_why.specs.Reason.{leads_to, least, lowest, end_of, due}
 
@@ -130,3 +133,62 @@ module _ (L : List ℕ) (F : ℕ) (small : F < 2 ^ states) where
       go : (b : Bool) → due L F q ≡ b → due L F q ≡ false
       go false e = e
       go true e = let w = due-end q e in absurd (omega (arith, (end-of q w.0 w.1 w.2).0, z))
+
+-- ---- a state or none
+
+pub state-none : some_state states ≡ None
+state-none = refl
+
+pub state-some : (k : ℕ) → k < states → some_state k ≡ Some k
+state-some k h = rw (lt-ltb k states h) refl
+
+-- where a set of states has it
+pub held : (S t : ℕ) → S < 2 ^ states → (b : Bool) → b ≡ holds S t → then_some b t ≡ some_state (cond (holds S t) t states)
+held S t h true e = rw (sym e) (sym (state-some t (state-of S t h (sym e))))
+held S t h false e = rw (sym e) (sym state-none)
+
+-- what the loop finds, where the states passed have k as their lowest
+pub state_on : (m : ℕ) (p : ℕ → Bool) (to : ℕ → ℕ) (i : ℕ) (b : Bool) (r : Option ℕ) → b ≡ p i
+    → r ≡ some_state (cond (b && ltb (to i) (least m p to i)) (to i) (least m p to i)) → r ≡ some_state (least m p to (suc i))
+state_on m p to i b r h e = e ∙ ap some_state (least_on m p to i (least m p to i) b (cond (b && ltb (to i) (least m p to i)) (to i) (least m p to i)) refl h refl)
+
+-- a state that is found is one
+pub state-is : (k t : ℕ) → some_state k ≡ Some t → (k ≡ t) × (t < states)
+state-is k t e =
+    elim (dec_lt k states) [
+      | yes l ↦ let q : Some k ≡ Some t = sym (state-some k l) ∙ e in let r : k ≡ t = cc in (r, rw r at l)
+      | no n ↦ let z : some_state k ≡ None = rw (le-ltb k states (omega arith)) refl in let q : None ≡ Some t = sym z ∙ e in absurd cc
+    ]
+
+-- and where none is found, it is the number of all states
+pub state-not : (k : ℕ) → k ≤ states → some_state k ≡ None → k ≡ states
+state-not k l e =
+    elim (dec_lt k states) [
+      | yes h ↦ let q : Some k ≡ None = sym (state-some k h) ∙ e in absurd cc
+      | no n ↦ omega arith
+    ]
+
+module _ (L : List ℕ) (F : ℕ) (small : F < 2 ^ states) (q : Question) where
+  end-le : (p : Question) → end_of L F p ≤ states
+  end-le (of_signature g) = least-most states (leads_to L F (is_accept L) g) (from L) (records L)
+  end-le (of_state t) = go (holds F t) refl
+    where
+      go : (b : Bool) → holds F t ≡ b → cond b t states ≤ states
+      go true e = let k = state-of F t small e in omega arith
+      go false e = omega arith
+
+  -- what the code finds: the lowest state that answers, which is in the frontier
+  pub end_told : (G : ℕ) (r : Option ℕ) (t : ℕ) → r ≡ some_state (end_of L G q) → G ≡ F → r ≡ Some t → (t ≡ end_of L F q) × (t < states) × (holds F t ≡ true)
+  end_told G r t e g h =
+      let z : some_state (end_of L F q) ≡ Some t = ap (λ (x : ℕ). some_state (end_of L x q)) (sym g) ∙ sym e ∙ h in
+      let k = state-is (end_of L F q) t z in
+      (sym k.0, k.1, rw k.0 at ((end-answers L F small q (λ w. omega (arith, w, k.0, k.1))).0))
+
+  -- or none
+  pub end-not : (G : ℕ) (r : Option ℕ) → r ≡ some_state (end_of L G q) → G ≡ F → r ≡ None → end_of L F q ≡ states
+  end-not G r e g h = state-not (end_of L F q) (end-le q) (ap (λ (x : ℕ). some_state (end_of L x q)) (sym g) ∙ sym e ∙ h)
+
+-- as the code tests a record: where it leads, whether it is taken, and from where
+pub leads-by : (e q h v r : Bool) → v ≡ (e && q) → r ≡ (v && h) → r ≡ (e && (q && h))
+leads-by true q h v r a b = b ∙ ap (λ (x : Bool). x && h) a
+leads-by false q h v r a b = b ∙ ap (λ (x : Bool). x && h) a

@@ -77,7 +77,7 @@ module _ (L : List ℕ) (F : ℕ) (bs : List ℕ) where
     -- ---- one step back
 
     -- to each state of a frontier an edge leads from the one before: the lowest such state is there
-    source_in : (n : ℕ) → n < length bs → (t : ℕ) → holds (front L F bs (suc n)) t ≡ true
+    pub source_in : (n : ℕ) → n < length bs → (t : ℕ) → holds (front L F bs (suc n)) t ≡ true
         → (holds (front L F bs n) (source_of L (front L F bs n) (get_or bs n 0) t) ≡ true) × Edge L (get_or bs n 0) (source_of L (front L F bs n) (get_or bs n 0) t) t
     source_in n k t h =
         let G = front L F bs n in

@@ -24,6 +24,7 @@ use Rattle.index_fill.specs.Filled.{FillsIndex}
 use Rattle.list_why.specs.Run.{Question, of_signature}
 use Rattle.list_why.specs.Reason.{why_rules}
 use Rattle.laws.specs.Calls.{Via, Checked, Call, way_of}
+use Rattle.laws.specs.declared.Kind.{Kind}
 use Rattle.laws.specs.Drivers.{via_by, call_of}
 use Rattle.laws.proofs.Demand1.{demand-1}
 use Rattle.laws.proofs.Due.{begins}
@@ -68,7 +69,7 @@ module _ (L : List ℕ) (ok : list_refusal L ≡ 0) (via : Via) (checked : Check
       (asked-told L ok c hb (λ v. (refl, checked)) out work (l, m) (get_or ws (2 * i) 0) (get_or ws (2 * i + 1) 0)
       (rw (← a.pairs, ← a.words) (i, omega (arith, long, h), get_or-take (2 * f.pairs) ws (2 * i) 0 (omega arith), get_or-take (2 * f.pairs) ws (2 * i + 1) 0 (omega arith))))
 
-pub why-driven : (L : List ℕ) (b : ℕ) (T : Table) (R S out X₀ X Y₀ Y : List ℕ) (kind : ℕ) (piece run work : List ℕ) (checked filled indexed : ℕ) (first again : Opened) (fed : Fed)
+pub why-driven : (L : List ℕ) (b : ℕ) (T : Table) (R S out X₀ X Y₀ Y : List ℕ) (kind : Kind) (piece run work : List ℕ) (checked filled indexed : ℕ) (first again : Opened) (fed : Fed)
     (ws Q : List ℕ) (refusal : ℕ) (ws₁ A ws₂ B : List ℕ)
     → checked ≡ table_refusal L b T → Fills L X₀ filled X → FillsIndex L b T Y₀ indexed Y → Opens (open_flow L R out) first ws₁ A → Opens (open_flow L S ws₁) again ws₂ B
     → Answers (outcome way_of B (call_of L (via_by b T X Y kind) 0 piece ws₂)) fed ws Q

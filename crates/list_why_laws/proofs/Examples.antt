@@ -2,7 +2,7 @@
 use mathlib.Core.Path.{◌≡◌, refl}
 use mathlib.Core.List.{[], ◌∷◌, ◌++◌}
 use Rattle.numbers.specs.Number.{num, digits}
-use Rattle.sets.specs.Set.{set_bytes, holds, join, within, insert, size, set_at}
+use Rattle.sets.specs.Set.{set_bytes, holds, join, within, insert, size, read_at}
 use Rattle.rules.specs.Scan.{some, every, first, gather, stack}
 use Rattle.rules.specs.Rules.{verdict}
 use Rattle.list.specs.List.{good_record, bad_length, bad_record, no_start}
@@ -17,42 +17,42 @@ use Rattle.list_why_laws.specs.Examples.{abab, forked, run_rows, answer_rows, ed
 -- the runs one by one, since each computes for long
 
 two : reason L 1 abab 2 (of_signature 7) ≡ 0 ∷ 1 ∷ 2 ∷ []
-unfolding gather stack holds insert least trace run step num digits set_at
+unfolding gather stack holds insert least trace run step num digits read_at
 two = refl
 
 four : reason L 1 abab 4 (of_signature 7) ≡ 0 ∷ 0 ∷ 0 ∷ 1 ∷ 2 ∷ []
-unfolding gather stack holds insert least trace run step num digits set_at
+unfolding gather stack holds insert least trace run step num digits read_at
 four = refl
 
 saved : reason L 5 (0x61 ∷ 0x62 ∷ []) 2 (of_signature 7) ≡ 0 ∷ 1 ∷ 2 ∷ []
-unfolding gather stack holds insert least trace run step num digits set_at
+unfolding gather stack holds insert least trace run step num digits read_at
 saved = refl
 
 state : reason L 1 abab 3 (of_state 1) ≡ 0 ∷ 0 ∷ 0 ∷ 1 ∷ []
-unfolding gather stack holds insert least trace run step num digits set_at
+unfolding gather stack holds insert least trace run step num digits read_at
 state = refl
 
 either : reason loud 1 (0x41 ∷ 0x62 ∷ []) 2 (of_signature 7) ≡ 0 ∷ 1 ∷ 2 ∷ []
-unfolding gather stack holds insert least trace run step num digits set_at
+unfolding gather stack holds insert least trace run step num digits read_at
 either = refl
 
 none : reason L₀ 1 [] 0 (of_signature 5) ≡ 0 ∷ []
-unfolding gather stack holds insert least trace run step num digits set_at
+unfolding gather stack holds insert least trace run step num digits read_at
 none = refl
 
 lowest : reason forked 1 abab 2 (of_signature 7) ≡ 0 ∷ 1 ∷ 2 ∷ []
-unfolding gather stack holds insert least trace run step num digits set_at
+unfolding gather stack holds insert least trace run step num digits read_at
 lowest = refl
 
 kept : fronts L 1 abab 2 ≡ set_bytes 1 ++ (set_bytes 3 ++ set_bytes 5)
-unfolding gather stack holds insert least trace run step num digits set_at
+unfolding gather stack holds insert least trace run step num digits read_at
 kept = refl
 
 pub runs-hold : Agree run_rows
 runs-hold = (two, (four, (saved, (state, (either, (none, (lowest, (kept, tt))))))))
 
 pub answers-hold : Agree answer_rows
-unfolding some every gather holds insert join within size run step num digits set_at verdict good_record bad_length bad_record no_start start accepted named_by flow_bytes bad_flow
+unfolding some every gather holds insert join within size run step num digits read_at verdict good_record bad_length bad_record no_start start accepted named_by flow_bytes bad_flow
 answers-hold = (refl, (refl, tt))
 
 pub edges-hold : Agree edge_rows

@@ -10,6 +10,7 @@ use Rattle.matrix.specs.Matrix.{Fills}
 use Rattle.index_fill.specs.Filled.{FillsIndex}
 use Rattle.feed.specs.Calls.{outcome}
 use Rattle.laws.specs.Calls.{way_of}
+use Rattle.laws.specs.declared.Kind.{Kind}
 use Rattle.laws.specs.Drivers.{via_by, call_of}
 use Rattle.list_why.specs.Run.{of_signature}
 use Rattle.list_why.specs.Reason.{why_rules}
@@ -18,9 +19,9 @@ use Rattle.list_why.specs.Reason.{why_rules}
 abbrev pub AllAnswered : List ℕ → List ℕ → List ℕ → List ℕ → ℕ → List ℕ → List ℕ → Type 0
 AllAnswered L R bs ws n out work = (i : ℕ) → i < n → verdict (why_rules L R 0 bs (of_signature (get_or ws (2 * i) 0)) (get_or ws (2 * i + 1) 0) out work) ≡ 0
 
--- the check of T at b, filling the matrix and the index, opening on the records R and S, and a feed of the second, by what the number says, answered so; then why was asked, on the
+-- the check of T at b, filling the matrix and the index, opening on the records R and S, and a feed of the second, by what is said, answered so; then why was asked, on the
 -- first, of each pair that the feed told, until one question was refused
-pub record WhyDriven (L : List ℕ) (b : ℕ) (T : Table) (R S out X₀ X Y₀ Y : List ℕ) (kind : ℕ) (piece run work : List ℕ) (checked filled indexed : ℕ) (first again : Opened) (fed : Fed)
+pub record WhyDriven (L : List ℕ) (b : ℕ) (T : Table) (R S out X₀ X Y₀ Y : List ℕ) (kind : Kind) (piece run work : List ℕ) (checked filled indexed : ℕ) (first again : Opened) (fed : Fed)
     (words Q : List ℕ) (refusal : ℕ) : Type 0 where
   pub tables : checked ≡ table_refusal L b T
   pub matrices : Fills L X₀ filled X

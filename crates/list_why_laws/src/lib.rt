@@ -10,6 +10,7 @@ ghost use Rattle.laws.specs.Drivers.{via_by, call_of};
 ghost use Rattle.list_why_laws.specs.Drivers.{AllAnswered, WhyDriven};
 
 use feed::{Fed, Opened};
+use laws::Kind;
 
 // Asks why of the first n pairs among the words, from a record at offset 0 on, until one is refused; answers that refusal, 0 where none is.
 fn ask_all(
@@ -24,6 +25,7 @@ fn ask_all(
     requires { 2 * n ≤ length pairs.now }
     ensures { (result ≡ 0) ↔ AllAnswered list.now flow.now piece.now pairs.now n run.old work.old }
 {
+    // By index: the promise counts the pairs, two words each.
     for i in 0..n {
         let refusal = list_why::why(
             list,
@@ -49,7 +51,7 @@ struct AskedFed {
     refusal: u32,
 }
 
-// Feeds a piece at offset 0 by what the number says, and asks why of each pair told, from another record at offset 0 on.
+// Feeds a piece at offset 0 by what is said, and asks why of each pair told, from another record at offset 0 on.
 fn feed_and_ask(
     list: &[u8],
     bound: u64,
@@ -59,7 +61,7 @@ fn feed_and_ask(
     splits: &[u8],
     matrix: &[u8],
     index: &[u8],
-    kind: usize,
+    kind: Kind,
     first: &[u8],
     flow: &mut [u8],
     piece: &[u8],
@@ -79,10 +81,7 @@ fn feed_and_ask(
     let n = fed.bytes;
     let told = fed.pairs;
     let refusal = ask_all(list, first, &piece[..n], &pairs[..], told, run, work);
-    AskedFed {
-        fed: fed,
-        refusal: refusal,
-    }
+    AskedFed { fed, refusal }
 }
 
 // What the calls of `drive_why` answered: the check, the two fillers, the two openings, the feed, and the first refusal of a question.
@@ -97,7 +96,7 @@ struct DroveWhy {
     refusal: u32,
 }
 
-// Checks a table, fills a matrix and an index, opens two flows, feeds the second a piece by what the number says, and asks why of each pair told, on the first.
+// Checks a table, fills a matrix and an index, opens two flows, feeds the second a piece by what is said, and asks why of each pair told, on the first.
 fn drive_why(
     list: &[u8],
     bound: u64,
@@ -107,7 +106,7 @@ fn drive_why(
     splits: &[u8],
     matrix: &mut [u8],
     index: &mut [u8],
-    kind: usize,
+    kind: Kind,
     first: &mut [u8],
     flow: &mut [u8],
     piece: &[u8],
@@ -144,12 +143,12 @@ fn drive_why(
     );
     let fed = asked.fed;
     DroveWhy {
-        checked: checked,
-        filled: filled,
-        indexed: indexed,
+        checked,
+        filled,
+        indexed,
         first: opened,
-        again: again,
-        fed: fed,
+        again,
+        fed,
         refusal: asked.refusal,
     }
 }

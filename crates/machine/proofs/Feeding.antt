@@ -16,7 +16,7 @@ use Rattle.feed.specs.Piece.{piece_rules}
 use Rattle.feed.proofs.Piece.{piece-passes}
 use Rattle.feed.specs.inner.Going.{Going}
 use Rattle.feed.specs.inner.Told.{TellsAll}
-use Rattle.feed.specs.declared.Told.{Told}
+use Rattle.std.specs.Prelude.{Option, Some, None}
 use Rattle.feed.proofs.Fitting as fitting
 use Rattle.feed.proofs.Looping.{more_by}
 use Rattle.feed.proofs.Moves.{feed-ends, feed-refused}
@@ -40,16 +40,16 @@ module _ (M P : List ℕ) {x₀ : Config} {k₀ : ℕ} {piece out₀ : List ℕ}
       at (more_by g 0 0 l (sym (ap (λ (p : ℕ). alerts_of P p (moved p x)) (sym target) ∙ idle-alerted P q h (moved q x) program_length (omega arith))) (sym s) refl (omega arith) (moved q x)
       (sym (idle-after P q h (moved q x) program_length (omega arith)) ∙ ap (λ (p : ℕ). programmed P p (moved p x)) target) out n.wrote 0 refl)
 
-  module _ {G : ℕ} {t : Told} {left : List ℕ} (alerts : G ≡ alerts_of P q (moved q x)) (told : TellsAll G out w (k₀ + i + 1) t left) where
+  module _ {G : ℕ} {t : Option ℕ} {left : List ℕ} (alerts : G ≡ alerts_of P q (moved q x)) (told : TellsAll G out w (k₀ + i + 1) t left) where
     same : G ≡ (machine M P).alerts x (get_or piece i 0)
     same = alerts ∙ ap (λ (p : ℕ). alerts_of P p (moved p x)) target
 
     -- they fit: the byte is consumed
-    pub goes_on : t.fits ≡ true → (y : Config) → y ≡ programmed P q (moved q x) → Going (machine M P) x₀ k₀ piece out₀ y left (i + 1) t.words 0
-    goes_on f y e = fitting.goes_on g l told same f refl y (e ∙ ap (λ (p : ℕ). programmed P p (moved p x)) target) 0 refl
+    pub goes_on : (m : ℕ) → t ≡ Some m → (y : Config) → y ≡ programmed P q (moved q x) → Going (machine M P) x₀ k₀ piece out₀ y left (i + 1) m 0
+    goes_on m f y e = fitting.goes_on g l told same m f refl y (e ∙ ap (λ (p : ℕ). programmed P p (moved p x)) target) 0 refl
 
     -- they do not: the loop ends where it stands
-    pub stops : t.fits ≡ false → (consumed (machine M P) x₀ (room out₀) piece ≡ i) × Going (machine M P) x₀ k₀ piece out₀ x left i w 0
+    pub stops : t ≡ None → (consumed (machine M P) x₀ (room out₀) piece ≡ i) × Going (machine M P) x₀ k₀ piece out₀ x left i w 0
     stops f = fitting.stops g l told same f
 
 -- ---- the rules

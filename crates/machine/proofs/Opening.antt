@@ -1,7 +1,7 @@
 -- Opening by the code: which rule refuses it, and that it tells and saves what the definition does; and the room that always suffices. Assumes nothing.
-use Prim.Native.Nat.{ℕ, ◌*◌, ◌-◌, ◌/◌, ◌≤◌}
+use Prim.Native.Nat.{ℕ, ◌+◌, ◌*◌, ◌-◌, ◌/◌, ◌≤◌}
 use mathlib.Core.Path.{◌≡◌, refl, sym, ap, ◌∙◌}
-use mathlib.Core.Bool.{true, false}
+use mathlib.Core.Bool.{false}
 use mathlib.Core.List.{List, [], ◌∷◌}
 use native.Mathlib.Omega.{arith}
 use native.Mathlib.Decide.{ℕ_discrete}
@@ -16,7 +16,7 @@ use Rattle.feed.specs.declared.Opened.{Opened}
 use Rattle.feed.specs.Engine.{room}
 use Rattle.feed.specs.Opening.{no_room, Opens}
 use Rattle.feed.specs.inner.Told.{TellsAll}
-use Rattle.feed.specs.declared.Told.{Told}
+use Rattle.std.specs.Prelude.{Option, Some, None, is_some}
 use Rattle.feed.proofs.Runs.{pairs_at-length}
 use Rattle.feed.proofs.Opening.{opening-refusal, opening-fits, opens-told, opens-refused}
 use Rattle.machine.specs.Machine.{bad_machine, first_alerts}
@@ -76,22 +76,22 @@ module _ (M P R out : List ℕ) where
       let e = verdict-refused (first_rules M P R) ((15, no_room (open_pairs P) out) ∷ []) v in
       opens-refused (open_rules M P R out) (open_pairs P) (opened P) R out (λ z. v (sym e ∙ z)) f (n ∙ sym e) p
 
-  module _ (G : ℕ) (first : G ≡ first_alerts P) (t : Told) (left : List ℕ) (told : TellsAll G out 0 0 t left) (v : verdict (first_rules M P R) ≡ 0) where
+  module _ (G : ℕ) (first : G ≡ first_alerts P) (t : Option ℕ) (left : List ℕ) (told : TellsAll G out 0 0 t left) (v : verdict (first_rules M P R) ≡ 0) where
     many : size signatures G ≡ length (open_pairs P) / 2
     many = ap (size signatures) first ∙ omega (arith, open_pairs-long P)
 
     -- 15: the pairs do not fit, and no word is written
-    pub open_full : (f : Opened) → t.fits ≡ false → f.refusal ≡ 15 → f.pairs ≡ 0 → Opens (extended_open M P R out) f left R
+    pub open_full : (f : Opened) → t ≡ None → f.refusal ≡ 15 → f.pairs ≡ 0 → Opens (extended_open M P R out) f left R
     open_full f b r p =
-        let l = leb-false (size signatures G) ((length out - 0) / 2) (sym told.fits ∙ b) in
+        let l = leb-false (size signatures G) ((length out - 0) / 2) (sym told.fits ∙ ap is_some b) in
         let e : verdict (open_rules M P R out) ≡ 15 = past v ∙ stop 15 [] (lt-ltb (room out) (length (open_pairs P) / 2) (omega (arith, many))) in
         rw (rw b at told.wrote) (opens-refused (open_rules M P R out) (open_pairs P) (opened P) R out (λ z. omega (arith, e, z)) f (r ∙ sym e) p)
 
     -- they fit: they are told, and the start state after its program is saved
-    pub open_told : (f : Opened) → t.fits ≡ true → f.refusal ≡ 0 → f.pairs ≡ t.words / 2 → (sv : List ℕ) → sv ≡ opened P → Opens (extended_open M P R out) f left sv
+    pub open_told : (f : Opened) (m : ℕ) → t ≡ Some m → f.refusal ≡ 0 → f.pairs ≡ m / 2 → (sv : List ℕ) → sv ≡ opened P → Opens (extended_open M P R out) f left sv
     unfolding open_pairs
-    open_told f b r p sv s =
-        let l = leb-true (size signatures G) ((length out - 0) / 2) (sym told.fits ∙ b) in
+    open_told f m b r p sv s =
+        let l = leb-true (size signatures G) ((length out - 0) / 2) (sym told.fits ∙ ap is_some b) in
         let e : verdict (open_rules M P R out) ≡ 0 = past v ∙ last 15 (le-ltb (room out) (length (open_pairs P) / 2) (omega (arith, many))) in
         opens-told (open_rules M P R out) (open_pairs P) (opened P) R out e (omega (arith, open_pairs-long P, many)) f r
-        (p ∙ omega (arith, rw b at told.words, many)) left sv (rw (b, first) at told.wrote) s
+        (p ∙ (let q : m ≡ 0 + 2 * size signatures G = rw b at told.words in omega (arith, q, many))) left sv (rw (b, first) at told.wrote) s

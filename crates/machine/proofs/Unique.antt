@@ -2,7 +2,7 @@
 use Prim.Native.Nat.{ℕ}
 use mathlib.Core.Path.{◌≡◌, sym, ap, ◌∙◌}
 use mathlib.Core.List.{List}
-use Rattle.sets.specs.declared.SigSet.{SigSet}
+use Rattle.sets.specs.declared.Set.{Set}
 use Rattle.feed.specs.declared.Fed.{Fed}
 use Rattle.feed.specs.Fed.{Answers}
 use Rattle.feed.specs.declared.Opened.{Opened}
@@ -34,4 +34,4 @@ pub unique-program : (P : List ℕ) (q : ℕ) (x : Config) (s t : Step) → Word
     → Programs P q x s → Programs P q x t → s ≡ t
 unique-program P q x s t vs vt a b =
     ap {B = Step} (λ (y : Config). record { config = y; alerts = s.alerts }) (a.config ∙ sym b.config)
-    ∙ ap {B = Step} (λ (g : SigSet). record { config = t.config; alerts = g }) (sigs-one s.alerts t.alerts vs vt (a.alerts ∙ sym b.alerts))
+    ∙ ap {B = Step} (λ (g : Set sig_words). record { config = t.config; alerts = g }) (sigs-one s.alerts t.alerts vs vt (a.alerts ∙ sym b.alerts))

@@ -1,8 +1,9 @@
 // The automaton with bits and counters: its check, opening a flow, and the feed that runs it over a piece, byte by byte.
+// Moves and programs are lent one by one, as C lends them.
 #![tactic(auto)]
 
-ghost use Rattle.std.specs.Prelude.{◌≡◌, true, false, ◌+◌, ◌*◌, ◌/◌, ◌≤◌, ◌<◌, length, take, drop, eqb};
-ghost use Rattle.numbers.specs.Number.{num, placed};
+ghost use Rattle.std.specs.Prelude.{◌≡◌, true, false, ◌+◌, ◌*◌, ◌/◌, ◌≤◌, ◌<◌, length, drop};
+ghost use Rattle.numbers.specs.Number.{placed};
 ghost use Rattle.sets.specs.Set.{sig_words, sigs_of};
 ghost use Rattle.rules.specs.Scan.{every};
 ghost use Rattle.rules.specs.Rules.{verdict};
@@ -18,7 +19,7 @@ ghost use Rattle.machine.specs.Record.{flow_size, offset_of, fours, config_at, c
 ghost use Rattle.machine.specs.Extended.{first_rules, extended_open, feed_rules, extended_feed};
 ghost use Rattle.machine.specs.inner.Ran.{Runs, Programs};
 
-use feed::{Fed, Opened, Told};
+use feed::{Fed, Opened};
 use sets::SigSet;
 
 // The most states of a machine.
@@ -39,7 +40,7 @@ pub const X_BITS: usize = 64;
 
 pub const X_COUNTERS: usize = 16;
 
-// A counter that is off.
+// A counter that is off: a number, as the record has it.
 pub const X_OFF: u32 = 65536;
 
 // Bytes in a flow record, and the places of its reserved bytes, offset, bits and counters. The state stands first.
@@ -85,12 +86,6 @@ pub struct Config {
     pub counters: [u32; X_COUNTERS],
 }
 
-// The counters by themselves.
-#[derive(Clone, Copy)]
-struct Counters {
-    values: [u32; X_COUNTERS],
-}
-
 // What a program leaves: the configuration, and the signatures that it alerts.
 #[derive(Clone, Copy)]
 pub struct Step {
@@ -111,7 +106,7 @@ fn two_bytes(b: &[u8], at: usize) -> u16
     requires { at + 2 ≤ length b.now }
     ensures { result ≡ word b.now at }
 {
-    b[at] as u16 + 256 * (b[at + 1] as u16)
+    u16::from_le_bytes([b[at], b[at + 1]])
 }
 
 // Says whether the lengths of the two lists are wrong.
@@ -136,7 +131,7 @@ fn good_targets(moves: &[u8]) -> bool
     let n = states as u16;
     let mut all = true;
     for i in 0..256 * states {
-        all = all & (two_bytes(moves, 2 * i) < n);
+        all &= two_bytes(moves, 2 * i) < n;
     }
     all
 }
@@ -168,8 +163,7 @@ fn good_record(programs: &[u8], i: usize) -> bool
 fn good_programs(programs: &[u8]) -> bool
     ensures { result ≡ every (length programs.now / 4) (good_record programs.now) }
 {
-    let n = programs.len() / X_RECORD_SIZE;
-    for i in 0..n {
+    for i in 0..programs.len() / X_RECORD_SIZE {
         if !good_record(programs, i) {
             return false;
         }
@@ -200,14 +194,6 @@ pub fn check(moves: &[u8], programs: &[u8]) -> u32
     rules::PASSED
 }
 
-// The number that eight bytes at a place write, where they are there.
-fn eight_bytes(b: &[u8], at: usize) -> u64
-    requires { at + 8 ≤ length b.now }
-    ensures { result ≡ num 8 (take 8 (drop at b.now)) }
-{
-    numbers::whole_number(b, at, 8)
-}
-
 // Says whether the program of state q does nothing.
 fn idle(programs: &[u8], q: usize) -> bool
     requires { program_size * q + program_size ≤ length programs.now }
@@ -215,7 +201,7 @@ fn idle(programs: &[u8], q: usize) -> bool
 {
     let mut all = 0u64;
     for k in 0..4usize {
-        all = all | eight_bytes(programs, X_PROGRAM_SIZE * q + 8 * k);
+        all |= numbers::whole_number(programs, X_PROGRAM_SIZE * q + 8 * k, 8);
     }
     all == 0
 }
@@ -232,13 +218,10 @@ pub fn target(moves: &[u8], q: usize, c: u8) -> usize
 fn lowered(n: u32) -> u32
     ensures { result ≡ lower n }
 {
-    if n == 0 {
-        return X_OFF;
+    match n {
+        0 | X_OFF => X_OFF,
+        _ => n - 1,
     }
-    if n == X_OFF {
-        return X_OFF;
-    }
-    n - 1
 }
 
 // The bits after an instruction.
@@ -246,14 +229,14 @@ fn bits_by(k: u8, w: usize, n: u16, bits: u64) -> u64
     requires { good_instruction k w n ≡ true }
     ensures { result ≡ bits_by k w bits }
 {
-    if k == SET_BIT {
-        return bits | (1u64 << w);
+    match k {
+        SET_BIT => bits | (1u64 << w),
+        CLEAR_BIT => {
+            let one = 1u64 << w;
+            (bits | one) ^ one
+        }
+        _ => bits,
     }
-    if k == CLEAR_BIT {
-        let one = 1u64 << w;
-        return (bits | one) ^ one;
-    }
-    bits
 }
 
 // The counters after an instruction.
@@ -261,16 +244,11 @@ fn counters_by(k: u8, w: usize, n: u16, counters: &mut [u32])
     requires { (good_instruction k w n ≡ true) × (length counters.old ≡ counter_count) }
     ensures { counters.new ≡ counters_by k w n counters.old }
 {
-    if k == SET_COUNTER {
-        counters[w] = n as u32;
-        return;
-    }
-    if k == TURN_OFF {
-        counters[w] = X_OFF;
-        return;
-    }
-    if k == LOWER {
-        counters[w] = lowered(counters[w]);
+    match k {
+        SET_COUNTER => counters[w] = u32::from(n),
+        TURN_OFF => counters[w] = X_OFF,
+        LOWER => counters[w] = lowered(counters[w]),
+        _ => {}
     }
 }
 
@@ -279,16 +257,12 @@ fn alert_now(k: u8, w: usize, n: u16, bits: u64, counters: &[u32]) -> bool
     requires { (good_instruction k w n ≡ true) × (length counters.now ≡ counter_count) }
     ensures { result ≡ alert_now k w bits counters.now }
 {
-    if k == ALERT {
-        return true;
+    match k {
+        ALERT => true,
+        ALERT_BIT => (bits >> w) % 2 == 1,
+        ALERT_COUNTER => counters[w] == 0,
+        _ => false,
     }
-    if k == ALERT_BIT {
-        return (bits >> w) % 2 == 1;
-    }
-    if k == ALERT_COUNTER {
-        return counters[w] == 0;
-    }
-    false
 }
 
 // Runs record i of the programs on the counters and the words of the alerts; answers the bits after it.
@@ -332,38 +306,25 @@ pub fn run_program(programs: &[u8], q: usize, x: Config) -> Step
     Step {
         config: Config {
             state: q,
-            bits: bits,
-            counters: counters,
+            bits,
+            counters,
         },
         alerts: SigSet::of_words(alerts),
     }
 }
 
-// Says whether a set has no signature.
-fn none_of(g: SigSet) -> bool
-    ensures { result ≡ eqb (sigs_of g) 0 }
-{
-    let w = g.words;
-    let mut all = 0u64;
-    for i in 0..sets::SIG_WORDS {
-        all = all | w[i];
-    }
-    all == 0
-}
-
 // Tells a set of signatures behind the words that are written: all of it, or nothing where it does not fit. One without any costs little.
-fn tell_alerts(pairs: &mut [u32], words: usize, g: SigSet, offset: u32) -> Told
+fn tell_alerts(pairs: &mut [u32], words: usize, g: SigSet, offset: u32) -> Option<usize>
     requires { words ≤ length pairs.old }
     ensures { TellsAll (sigs_of g) pairs.old words offset result pairs.new }
 {
-    if none_of(g) {
-        return Told {
-            fits: true,
-            words: words,
-        };
+    if g.is_empty() {
+        return Some(words);
     }
     feed::tell_all(pairs, words, g, offset)
 }
+
+// What `number_at` reads, by the name of the field: the record is another than a list's.
 
 // The offset of a record.
 pub fn offset_of(flow: &[u8]) -> u64
@@ -373,27 +334,22 @@ pub fn offset_of(flow: &[u8]) -> u64
 }
 
 // The counters that stand at a place of a list of bytes, where they are all there.
-fn counters_at(b: &[u8], at: usize) -> Counters
+fn counters_at(b: &[u8], at: usize) -> [u32; X_COUNTERS]
     requires { at + 4 * counter_count ≤ length b.now }
-    ensures { result.values ≡ fours counter_count (drop at b.now) }
+    ensures { result ≡ fours counter_count (drop at b.now) }
 {
     let mut c = [0u32; X_COUNTERS];
     for i in 0..X_COUNTERS {
         c[i] = numbers::whole_number(b, at + 4 * i, 4) as u32;
     }
-    Counters { values: c }
+    c
 }
 
 // Says whether no counter is over the number that says off.
 pub fn good_counters(x: Config) -> bool
     ensures { result ≡ good_counters x.counters }
 {
-    let c = x.counters;
-    let mut all = true;
-    for i in 0..X_COUNTERS {
-        all = all & (c[i] <= X_OFF);
-    }
-    all
+    x.counters.iter().all(|n| *n <= X_OFF)
 }
 
 // The configuration that stands at a place of a list of bytes, with its bits at a place behind that and the counters behind them, where all are there.
@@ -402,11 +358,10 @@ pub fn config_at(b: &[u8], at: usize, bits: usize) -> Config
     ensures { result ≡ config_at bits (drop at b.now) }
 {
     let counters = counters_at(b, at + bits + 8);
-    let values = counters.values;
     Config {
         state: numbers::whole_number(b, at, 2) as usize,
-        bits: eight_bytes(b, at + bits),
-        counters: values,
+        bits: numbers::whole_number(b, at + bits, 8),
+        counters,
     }
 }
 
@@ -451,13 +406,12 @@ pub fn feed_refusal(moves: &[u8], programs: &[u8], flow: &[u8], start: u64, piec
 }
 
 // Writes the counters of a record.
-fn put_counters(flow: &mut [u8], c: Counters)
+fn put_counters(flow: &mut [u8], values: &[u32; X_COUNTERS])
     requires { length flow.old ≡ flow_size }
-    ensures { flow.new ≡ placed flow.old 16 (four_bytes c.values) }
+    ensures { flow.new ≡ placed flow.old 16 (four_bytes values.now) }
 {
-    let values = c.values;
-    for i in 0..X_COUNTERS {
-        numbers::put_number(flow, X_COUNTERS_AT + 4 * i, 4, values[i] as u64);
+    for (i, n) in values.iter().enumerate() {
+        numbers::put_number(flow, X_COUNTERS_AT + 4 * i, 4, u64::from(*n));
     }
 }
 
@@ -470,8 +424,7 @@ fn save(flow: &mut [u8], x: Config, offset: u64)
     numbers::put_number(flow, X_RESERVED_AT, 2, 0);
     numbers::put_number(flow, X_OFFSET_AT, 4, offset);
     numbers::put_number(flow, X_BITS_AT, 8, x.bits);
-    let values = x.counters;
-    put_counters(flow, Counters { values: values });
+    put_counters(flow, &x.counters);
 }
 
 // The check of opening before the room: the number of the first of the rules 24 and 4 that refuses it, 0 where none does.
@@ -493,10 +446,7 @@ pub fn open_flow(moves: &[u8], programs: &[u8], flow: &mut [u8], pairs: &mut [u3
 {
     let refusal = open_refusal(moves, programs, flow);
     if refusal != rules::PASSED {
-        return Opened {
-            refusal: refusal,
-            pairs: 0,
-        };
+        return Opened { refusal, pairs: 0 };
     }
     let first = run_program(
         programs,
@@ -507,20 +457,17 @@ pub fn open_flow(moves: &[u8], programs: &[u8], flow: &mut [u8], pairs: &mut [u3
             counters: [X_OFF; X_COUNTERS],
         },
     );
-    let alerts = first.alerts;
-    let told = tell_alerts(pairs, 0, alerts, 0);
-    let fits = told.fits;
-    if !fits {
+    let Some(words) = tell_alerts(pairs, 0, first.alerts, 0) else {
         return Opened {
             refusal: rules::NO_ROOM,
             pairs: 0,
         };
-    }
+    };
     let config = first.config;
     save(flow, config, 0);
     Opened {
         refusal: rules::PASSED,
-        pairs: told.words / 2,
+        pairs: words / 2,
     }
 }
 
@@ -546,24 +493,21 @@ fn feed_bytes(
             continue;
         }
         let step = run_program(programs, q, x);
-        let alerts = step.alerts;
-        let after = step.config;
-        let told = tell_alerts(pairs, words, alerts, (offset + i as u64 + 1) as u32);
-        let fits = told.fits;
-        if !fits {
+        let Some(end) = tell_alerts(pairs, words, step.alerts, (offset + i as u64 + 1) as u32)
+        else {
             return Ran {
                 config: x,
                 bytes: i,
-                words: words,
+                words,
             };
-        }
-        words = told.words;
-        x = after;
+        };
+        words = end;
+        x = step.config;
     }
     Ran {
         config: x,
         bytes: piece.len(),
-        words: words,
+        words,
     }
 }
 

@@ -1,16 +1,19 @@
 -- A configuration is compared by all of its numbers, and a record is found exactly when it is there. Assumes nothing.
 use Prim.Native.Nat.{ℕ, ◌+◌, ◌*◌, ◌<◌}
 use mathlib.Core.Path.{◌≡◌, refl, sym, ap, ap₂, ◌∙◌}
-use mathlib.Core.Bool.{Bool, true, false, ◌&&◌, ◌||◌, not, true≢false}
+use mathlib.Core.Bool.{Bool, true, false, ◌&&◌, ◌||◌, not, true≢false, false≢true}
 use mathlib.Core.List.{List, [], ◌∷◌}
 use mathlib.Core.Logic.{◌↔◌}
 use native.Mathlib.Omega.{arith}
 use lib.ListN.{get_or, take, drop}
 use lib.Seq.{drop-drop}
 use lib.Dec.{eqb, ltb}
-use borrow.Author.Tests.{eqb-true, eq-eqb, ltb-false, not-false}
+use borrow.Author.Tests.{eq-eqb, ltb-false, not-false}
+use Rattle.std.specs.declared.cmp.Ordering.{Ordering}
+use Rattle.std.specs.declared.cmp.Ordering.TheVariants.{Less, Equal, Greater}
+use Rattle.std.specs.Ordering.{is_eq}
 use Rattle.numbers.specs.Number.{num, before, compare}
-use Rattle.sets.specs.Set.{set_at}
+use Rattle.sets.specs.Set.{read_at}
 use Rattle.numbers.proofs.Order.{before-irrefl, compare-before, compare-after, compare-equal}
 use Rattle.rules.specs.Scan.{some, every}
 use Rattle.rules.proofs.Scanning.{both, neither, some-intro, some-elim, every-at, every-all, equal_words}
@@ -38,7 +41,7 @@ every-words n p A f = (λ e i l. (f i).0 (every-at n p e i l), λ h. every-all n
 -- ---- the bytes of a record
 
 pub noted-so : (Z : List ℕ) → Noted Z
-unfolding note_config note_set config_at set_at
+unfolding note_config note_set config_at read_at
 noted-so Z =
     record {
       many = refl;
@@ -68,15 +71,15 @@ before-none (x ∷ a) (y ∷ b) p q =
     let e : x ≡ y = omega (arith, ltb-false x y r.0, ltb-false y x s.0) in
     ap₂ (λ (u : ℕ) (v : List ℕ). u ∷ v) e (before-none a b (rw (eq-eqb x y e) at r.1) (rw (eq-eqb y x (sym e)) at s.1))
 
-compare-none : (a b : List ℕ) → compare a b ≡ 0 → a ≡ b
+compare-none : (a b : List ℕ) → compare a b ≡ Equal → a ≡ b
 compare-none a b e = go (before a b) (before b a) refl refl
   where
     go : (p q : Bool) → before a b ≡ p → before b a ≡ q → a ≡ b
-    go true q f g = absurd (omega (arith, compare-before a b f, e))
-    go false true f g = absurd (omega (arith, compare-after a b f g, e))
+    go true q f g = absurd (let o = compare-before a b f in cc)
+    go false true f g = absurd (let o = compare-after a b f g in cc)
     go false false f g = before-none a b f g
 
-compare-itself : (a : List ℕ) → compare a a ≡ 0
+compare-itself : (a : List ℕ) → compare a a ≡ Equal
 compare-itself a = compare-equal a a (before-irrefl a) (before-irrefl a)
 
 head-same : (x y : ℕ) (a b : List ℕ) → x ∷ a ≡ y ∷ b → (x ≡ y) × (a ≡ b)
@@ -87,14 +90,19 @@ pub same-exactly : (x y : Config) → same_config x y ≡ true ↔ (x ≡ y)
 unfolding same_config
 same-exactly x y = (there, back)
   where
-    there : eqb (compare (numbers_of x) (numbers_of y)) 0 ≡ true → x ≡ y
+    equal : (o : Ordering) → is_eq o ≡ true → o ≡ Equal
+    equal Less e = absurd (false≢true e)
+    equal Equal e = refl
+    equal Greater e = absurd (false≢true e)
+
+    there : is_eq (compare (numbers_of x) (numbers_of y)) ≡ true → x ≡ y
     there e =
-        let r = head-same x.state y.state _ _ (compare-none (numbers_of x) (numbers_of y) (eqb-true (compare (numbers_of x) (numbers_of y)) 0 e)) in
+        let r = head-same x.state y.state _ _ (compare-none (numbers_of x) (numbers_of y) (equal (compare (numbers_of x) (numbers_of y)) e)) in
         let s = head-same x.bits y.bits x.counters y.counters r.1 in
         config-one x y r.0 s.0 s.1
 
-    back : x ≡ y → eqb (compare (numbers_of x) (numbers_of y)) 0 ≡ true
-    back e = eq-eqb (compare (numbers_of x) (numbers_of y)) 0 (ap (λ (z : Config). compare (numbers_of z) (numbers_of y)) e ∙ compare-itself (numbers_of y))
+    back : x ≡ y → is_eq (compare (numbers_of x) (numbers_of y)) ≡ true
+    back e = ap is_eq (ap (λ (z : Config). compare (numbers_of z) (numbers_of y)) e ∙ compare-itself (numbers_of y))
 
 -- ---- recorded
 

@@ -1,5 +1,6 @@
 -- A certificate that an automaton with bits and counters is a list's: records of a configuration and a set of list states; rule 22.
 use Rattle.std.specs.Prelude.{ℕ, ◌+◌, ◌*◌, ◌/◌, ◌%◌, Bool, ◌&&◌, ◌||◌, not, List, [], ◌∷◌, ◌++◌, length, drop, ltb, eqb}
+use Rattle.std.specs.Ordering.{is_eq}
 use Rattle.numbers.specs.Number.{compare}
 use Rattle.sets.specs.Set.{set_size, set_at}
 use Rattle.rules.specs.Scan.{some, every}
@@ -51,7 +52,7 @@ numbers_of x = x.state ∷ (x.bits ∷ x.counters)
 
 -- no number differs
 unfoldable pub same_config : Config → Config → Bool
-same_config x y = eqb (compare (numbers_of x) (numbers_of y)) 0
+same_config x y = is_eq (compare (numbers_of x) (numbers_of y))
 
 -- x is recorded with the set F
 unfoldable pub noted : List ℕ → Config → ℕ → Bool

@@ -42,10 +42,10 @@ fn drive_both(
     let machine_opened = machine::open_flow(moves, programs, machine_flow, machine_pairs0);
     let machine_fed = machine::feed(moves, programs, machine_flow, start, piece, machine_pairs);
     DroveBoth {
-        checked: checked,
-        opened: opened,
-        fed: fed,
-        machine_opened: machine_opened,
-        machine_fed: machine_fed,
+        checked,
+        opened,
+        fed,
+        machine_opened,
+        machine_fed,
     }
 }

@@ -3,160 +3,113 @@
 
 ghost use Rattle.std.specs.Prelude.{◌≡◌, length};
 
-// How many bytes of each buffer are in use, and whether commands are left.
+use replay_tape::{Buffer, Program};
+
+// Room for a list: the longest, and 256 bytes more.
+const ROOM_FOR_LIST: usize = 65792;
+
+// Room for moves and for programs: those of 512 states, and 256 bytes more.
+const MOVES_ROOM: usize = 262400;
+
+const PROGRAMS_ROOM: usize = 16640;
+
+// Room for a certificate: 512 records, and 256 bytes more.
+const CERTIFICATE_ROOM: usize = 104704;
+
+// A command.
 #[derive(Clone, Copy)]
-struct Sizes {
-    more: bool,
-    list: usize,
-    moves: usize,
-    programs: usize,
-    certificate: usize,
+enum Command {
+    ReadList,
+    ReadMoves,
+    ReadPrograms,
+    ReadCertificate,
+    ReadLength,
+    ReadOver,
+    Check,
 }
 
-// Zeros for a list: the longest, and 256 bytes more.
-fn list_buffer() -> [u8; 65792]
-    ensures { 65792 ≡ length result }
-{
-    [0; 65792]
+// A list, the automaton that is said to be its own, and the certificate of that.
+#[derive(Drop)]
+struct Certified<'a> {
+    list: Buffer<'a>,
+    moves: Buffer<'a>,
+    programs: Buffer<'a>,
+    certificate: Buffer<'a>,
 }
 
-// Zeros for moves: those of 512 states, and 256 bytes more.
-fn moves_buffer() -> [u8; 262400]
-    ensures { 262400 ≡ length result }
-{
-    [0; 262400]
-}
-
-// Zeros for programs: those of 512 states, and 256 bytes more.
-fn programs_buffer() -> [u8; 16640]
-    ensures { 16640 ≡ length result }
-{
-    [0; 16640]
-}
-
-// Zeros for a certificate: 512 records, and 256 bytes more.
-fn certificate_buffer() -> [u8; 104704]
-    ensures { 104704 ≡ length result }
-{
-    [0; 104704]
-}
-
-// Reads bytes over those from a place on.
-fn change(certificate: &mut [u8]) {
-    let at = replay_tape::read_number(4) as usize;
-    let k = replay_tape::within(certificate, at);
-    replay_tape::read_field(&mut certificate[k..]);
-}
-
-// Replays a check.
-fn check(list: &[u8], moves: &[u8], programs: &[u8], certificate: &[u8]) {
-    let n = machine_certificate::check_certificate(list, moves, programs, certificate);
-    replay_tape::put_check(b'z', n);
-}
-
-// Reads the list.
-fn load_list(list: &mut [u8], mut s: Sizes) -> Sizes {
-    s.list = replay_tape::read_field(list);
-    s
-}
-
-// Reads the moves.
-fn load_moves(moves: &mut [u8], mut s: Sizes) -> Sizes {
-    s.moves = replay_tape::read_field(moves);
-    s
-}
-
-// Reads the programs.
-fn load_programs(programs: &mut [u8], mut s: Sizes) -> Sizes {
-    s.programs = replay_tape::read_field(programs);
-    s
-}
-
-// Reads the certificate.
-fn load_certificate(certificate: &mut [u8], mut s: Sizes) -> Sizes {
-    s.certificate = replay_tape::read_field(certificate);
-    s
-}
-
-// Reads the certificate's length.
-fn load_length(mut s: Sizes) -> Sizes {
-    s.certificate = replay_tape::read_number(4) as usize;
-    s
-}
-
-// The sizes at the end of the input.
-fn ended(mut s: Sizes) -> Sizes {
-    s.more = false;
-    s
-}
-
-// Replays a command on the certificate; answers the sizes after it.
-fn replay_certificate(command: u8, certificate: &mut [u8], s: Sizes) -> Sizes {
-    if command == b'Z' {
-        return load_certificate(certificate, s);
+impl<'a> Certified<'a> {
+    // Reads the certificate's length.
+    fn read_length(&mut self) {
+        let n = replay_tape::read_size();
+        self.certificate.use_front(n);
     }
-    if command == b'N' {
-        return load_length(s);
-    }
-    if command == b'E' {
-        change(certificate);
-        return s;
-    }
-    ended(s)
-}
 
-// Replays one command; answers the sizes after it.
-fn replay_one(
-    list: &mut [u8],
-    moves: &mut [u8],
-    programs: &mut [u8],
-    certificate: &mut [u8],
-    s: Sizes,
-) -> Sizes {
-    let command = replay_tape::read_command();
-    if command == b'L' {
-        return load_list(list, s);
+    // Reads bytes over those of the certificate from a place on.
+    fn read_over(&mut self) {
+        let place = replay_tape::read_size();
+        let certificate = self.certificate.room_mut();
+        let place = place.min(certificate.len());
+        replay_tape::read_field(&mut certificate[place..]);
     }
-    if command == b'M' {
-        return load_moves(moves, s);
-    }
-    if command == b'P' {
-        return load_programs(programs, s);
-    }
-    if command == b'z' {
-        check(
-            replay_tape::front(list, s.list),
-            replay_tape::front(moves, s.moves),
-            replay_tape::front(programs, s.programs),
-            replay_tape::front(certificate, s.certificate),
+
+    // Replays a check.
+    fn check(&self) {
+        let refusal = machine_certificate::check_certificate(
+            self.list.bytes(),
+            self.moves.bytes(),
+            self.programs.bytes(),
+            self.certificate.bytes(),
         );
-        return s;
+        replay_tape::put_check(b'z', refusal);
     }
-    replay_certificate(command, certificate, s)
 }
 
-// Replays the commands of the input.
-fn replay(list: &mut [u8], moves: &mut [u8], programs: &mut [u8], certificate: &mut [u8]) {
-    let mut s = Sizes {
-        more: true,
-        list: 0,
-        moves: 0,
-        programs: 0,
-        certificate: 0,
-    };
-    for _ in 0..replay_tape::MOST_COMMANDS {
-        s = replay_one(list, moves, programs, certificate, s);
-        if !s.more {
-            return;
+impl<'a> Program for Certified<'a> {
+    type Command = Command;
+
+    fn command(letter: u8) -> Option<Command> {
+        match letter {
+            b'L' => Some(Command::ReadList),
+            b'M' => Some(Command::ReadMoves),
+            b'P' => Some(Command::ReadPrograms),
+            b'Z' => Some(Command::ReadCertificate),
+            b'N' => Some(Command::ReadLength),
+            b'E' => Some(Command::ReadOver),
+            b'z' => Some(Command::Check),
+            _ => None,
+        }
+    }
+
+    fn replay(&mut self, command: Command) {
+        match command {
+            Command::ReadList => self.list.read_field(),
+            Command::ReadMoves => self.moves.read_field(),
+            Command::ReadPrograms => self.programs.read_field(),
+            Command::ReadCertificate => self.certificate.read_field(),
+            Command::ReadLength => self.read_length(),
+            Command::ReadOver => self.read_over(),
+            Command::Check => self.check(),
         }
     }
 }
 
+// Zeros for a buffer. Behind a call its length is known without its bytes.
+fn zeros<const N: usize>() -> [u8; N]
+    ensures { N ≡ length result }
+{
+    [0; N]
+}
+
 // The program.
 fn main() {
-    let mut list = list_buffer();
-    let mut moves = moves_buffer();
-    let mut programs = programs_buffer();
-    let mut certificate = certificate_buffer();
-    replay(&mut list, &mut moves, &mut programs, &mut certificate);
+    let mut list: [u8; ROOM_FOR_LIST] = zeros();
+    let mut moves: [u8; MOVES_ROOM] = zeros();
+    let mut programs: [u8; PROGRAMS_ROOM] = zeros();
+    let mut certificate: [u8; CERTIFICATE_ROOM] = zeros();
+    replay_tape::replay(&mut Certified {
+        list: Buffer::new(&mut list),
+        moves: Buffer::new(&mut moves),
+        programs: Buffer::new(&mut programs),
+        certificate: Buffer::new(&mut certificate),
+    });
 }

@@ -31,12 +31,6 @@ use Rattle.machine_laws.specs.declared.Standing.{Standing}
 use Rattle.machine_laws.proofs.Demand1.{demand-1, open-once}
 use Rattle.machine_laws.proofs.Demand2.{demand-2-opened}
 
--- past the end of a list stands 0
-pub get_d_past : (xs : List ℕ) (i : ℕ) → length xs ≤ i → get_or xs i 0 ≡ 0
-get_d_past [] i h = refl
-get_d_past (x ∷ xs) zero h = absurd (omega arith)
-get_d_past (x ∷ xs) (suc i) h = get_d_past xs i (omega arith)
-
 -- what is written at a place comes behind the front up to there
 put_next : (xs : List ℕ) (n a : ℕ) → n < length xs → take (suc n) (set xs n a) ≡ take n xs ++ (a ∷ [])
 put_next [] n a h = absurd (omega arith)

@@ -1,7 +1,7 @@
 // The driver: code for no user. It calls the entry points as a caller would, and promises the demands of what they answered and left.
 #![tactic(auto)]
 
-ghost use Rattle.std.specs.Prelude.{◌≡◌, cond, ◌++◌, ◌≤◌, ◌-◌, ◌+◌, ◌*◌, ◌/◌, length, get_or, take, drop};
+ghost use Rattle.std.specs.Prelude.{◌≡◌, ◌++◌, ◌≤◌, ◌-◌, ◌+◌, ◌*◌, ◌/◌, length, get_or, take, drop};
 ghost use Rattle.machine_laws.specs.Drivers.{numbers_of, Turned, Driven};
 
 use feed::{Fed, Opened};
@@ -25,28 +25,7 @@ struct Drove {
 fn number_at(numbers: &[usize], i: usize) -> usize
     ensures { result ≡ get_or numbers.now i 0 }
 {
-    if i < numbers.len() { numbers[i] } else { 0 }
-}
-
-// The number, or the nearest to it of those from `low` to `high`.
-fn within(low: usize, x: usize, high: usize) -> usize
-    requires { low ≤ high }
-    ensures { (low ≤ result) × (result ≤ high) }
-{
-    if x < low {
-        return low;
-    }
-    if high < x {
-        return high;
-    }
-    x
-}
-
-// 1 for true, 0 for false.
-fn one_if(b: bool) -> usize
-    ensures { result ≡ cond b 1 0 }
-{
-    if b { 1 } else { 0 }
+    numbers.get(i).copied().unwrap_or(0)
 }
 
 // Notes what feed i answered, behind the numbers of those before it.
@@ -54,11 +33,11 @@ fn note(numbers: &mut [usize], i: usize, fed: Fed)
     requires { 4 * i + 4 ≤ length numbers.old }
     ensures { take (4 * i + 4) numbers.new ≡ take (4 * i) numbers.old ++ numbers_of fed }
 {
-    let all = one_if(fed.all);
-    numbers[4 * i] = fed.refusal as usize;
-    numbers[4 * i + 1] = fed.bytes;
-    numbers[4 * i + 2] = fed.pairs;
-    numbers[4 * i + 3] = all;
+    let at = 4 * i;
+    numbers[at] = fed.refusal as usize;
+    numbers[at + 1] = fed.bytes;
+    numbers[at + 2] = fed.pairs;
+    numbers[at + 3] = usize::from(fed.all);
 }
 
 // Feeds the stream from the bytes consumed up to byte e, with the words behind those told, up to word v, and notes it as feed i.
@@ -128,17 +107,18 @@ fn drive(
         words: 2 * opened.pairs,
     };
     let n = numbers.len() / 4;
+    // By index: each list says what it says of feed i at place i.
     for i in 0..n {
         let start = number_at(starts, i) as u64;
-        let e = within(so.bytes, number_at(cuts, i), stream.len());
-        let v = within(so.words, number_at(rooms, i), pairs.len());
+        let e = number_at(cuts, i).clamp(so.bytes, stream.len());
+        let v = number_at(rooms, i).clamp(so.words, pairs.len());
         so = turn(
             moves, programs, flow, start, stream, so, e, pairs, v, numbers, i,
         );
     }
     Drove {
-        checked: checked,
-        opened: opened,
+        checked,
+        opened,
         stands: so,
     }
 }

@@ -4,163 +4,120 @@
 
 ghost use Rattle.std.specs.Prelude.{◌≡◌, length};
 
-// How many bytes of each buffer are in use, and whether commands are left.
+use replay_tape::{Buffer, MOST_WORDS, PIECE_BYTES, Program};
+
+// Room for moves and for programs: those of 1,024 states, and 1,024 bytes more.
+const MOVES_ROOM: usize = 525312;
+
+const PROGRAMS_ROOM: usize = 33792;
+
+// Room for a record.
+const RECORD_ROOM: usize = 512;
+
+// A command; what no other letter says has no answer.
 #[derive(Clone, Copy)]
-struct Sizes {
-    more: bool,
-    moves: usize,
-    programs: usize,
-    record: usize,
+enum Command {
+    ReadMoves,
+    ReadPrograms,
+    ReadRecord,
+    Check,
+    Open,
+    Feed,
+    Pass,
 }
 
-// Zeros for moves: those of 1,024 states, and 1,024 bytes more.
-fn moves_buffer() -> [u8; 525312]
-    ensures { 525312 ≡ length result }
-{
-    [0; 525312]
+// The automaton, and the record of a flow.
+#[derive(Drop)]
+struct Machine<'a> {
+    moves: Buffer<'a>,
+    programs: Buffer<'a>,
+    record: Buffer<'a>,
 }
 
-// Zeros for programs: those of 1,024 states, and 1,024 bytes more.
-fn programs_buffer() -> [u8; 33792]
-    ensures { 33792 ≡ length result }
-{
-    [0; 33792]
-}
+impl<'a> Machine<'a> {
+    // Replays a check.
+    fn check(&self) {
+        replay_tape::put_check(
+            b'c',
+            machine::check(self.moves.bytes(), self.programs.bytes()),
+        );
+    }
 
-// Zeros for a record.
-fn record_buffer() -> [u8; 512]
-    ensures { 512 ≡ length result }
-{
-    [0; 512]
-}
+    // Replays an opening: the input says how many words there are.
+    fn open(&mut self) {
+        let mut words = [0; MOST_WORDS];
+        let words = replay_tape::front(&mut words, replay_tape::read_size());
+        replay_tape::fill_words(words);
+        let record = self.record.bytes_mut();
+        let opened = machine::open_flow(self.moves.bytes(), self.programs.bytes(), record, words);
+        replay_tape::put_opening(opened, words, record);
+    }
 
-// Replays an opening into words.
-fn open_words(moves: &[u8], programs: &[u8], record: &mut [u8], out: &mut [u32]) {
-    replay_tape::fill(out);
-    let opened = machine::open_flow(moves, programs, record, out);
-    replay_tape::put_opening(b'o', opened, out, record);
-}
-
-// Replays an opening.
-fn open(moves: &[u8], programs: &[u8], record: &mut [u8]) {
-    let words = replay_tape::read_number(4) as usize;
-    let mut out = replay_tape::word_buffer();
-    let k = replay_tape::within_words(&out, words);
-    open_words(moves, programs, record, &mut out[..k]);
-}
-
-// Replays a feed into words.
-fn feed_words(
-    moves: &[u8],
-    programs: &[u8],
-    record: &mut [u8],
-    at: u64,
-    piece: &[u8],
-    out: &mut [u32],
-) {
-    replay_tape::fill(out);
-    let fed = machine::feed(moves, programs, record, at, piece, out);
-    replay_tape::put_feed(b'f', fed, out, record);
-}
-
-// Replays a feed.
-fn feed(moves: &[u8], programs: &[u8], record: &mut [u8]) {
-    let at = replay_tape::read_number(8);
-    let words = replay_tape::read_number(4) as usize;
-    let mut piece = replay_tape::piece_buffer();
-    let n = replay_tape::read_field(&mut piece);
-    let mut out = replay_tape::word_buffer();
-    let k = replay_tape::within_words(&out, words);
-    feed_words(
-        moves,
-        programs,
-        record,
-        at,
-        replay_tape::front(&piece, n),
-        &mut out[..k],
-    );
-}
-
-// Replays a command that answers, on the two lists and the record in use.
-fn answer(command: u8, moves: &[u8], programs: &[u8], record: &mut [u8]) {
-    if command == b'c' {
-        replay_tape::put_check(b'c', machine::check(moves, programs));
-    } else if command == b'o' {
-        open(moves, programs, record);
-    } else if command == b'f' {
-        feed(moves, programs, record);
+    // Replays a feed: the input says where it starts, how many words there are, and the piece.
+    fn feed(&mut self) {
+        let start = replay_tape::read_u64();
+        let mut words = [0; MOST_WORDS];
+        let words = replay_tape::front(&mut words, replay_tape::read_size());
+        let mut piece = [0; PIECE_BYTES];
+        let n = replay_tape::read_field(&mut piece);
+        replay_tape::fill_words(words);
+        let record = self.record.bytes_mut();
+        let fed = machine::feed(
+            self.moves.bytes(),
+            self.programs.bytes(),
+            record,
+            start,
+            &piece[..n],
+            words,
+        );
+        replay_tape::put_feed(b'f', fed, None, words, record);
     }
 }
 
-// Reads the moves.
-fn load_moves(moves: &mut [u8], mut s: Sizes) -> Sizes {
-    s.moves = replay_tape::read_field(moves);
-    s
-}
+impl<'a> Program for Machine<'a> {
+    type Command = Command;
 
-// Reads the programs.
-fn load_programs(programs: &mut [u8], mut s: Sizes) -> Sizes {
-    s.programs = replay_tape::read_field(programs);
-    s
-}
-
-// Reads a record.
-fn load_record(record: &mut [u8], mut s: Sizes) -> Sizes {
-    s.record = replay_tape::read_field(record);
-    s
-}
-
-// The sizes at the end of the input.
-fn ended(mut s: Sizes) -> Sizes {
-    s.more = false;
-    s
-}
-
-// Replays one command; answers the sizes after it.
-fn replay_one(moves: &mut [u8], programs: &mut [u8], record: &mut [u8], s: Sizes) -> Sizes {
-    let command = replay_tape::read_command();
-    if command == 0 {
-        return ended(s);
+    fn command(letter: u8) -> Option<Command> {
+        match letter {
+            0 => None,
+            b'M' => Some(Command::ReadMoves),
+            b'P' => Some(Command::ReadPrograms),
+            b'R' => Some(Command::ReadRecord),
+            b'c' => Some(Command::Check),
+            b'o' => Some(Command::Open),
+            b'f' => Some(Command::Feed),
+            _ => Some(Command::Pass),
+        }
     }
-    if command == b'M' {
-        return load_moves(moves, s);
-    }
-    if command == b'P' {
-        return load_programs(programs, s);
-    }
-    if command == b'R' {
-        return load_record(record, s);
-    }
-    let k = replay_tape::within(record, s.record);
-    answer(
-        command,
-        replay_tape::front(moves, s.moves),
-        replay_tape::front(programs, s.programs),
-        &mut record[..k],
-    );
-    s
-}
 
-// Replays the commands of the input.
-fn replay(moves: &mut [u8], programs: &mut [u8], record: &mut [u8]) {
-    let mut s = Sizes {
-        more: true,
-        moves: 0,
-        programs: 0,
-        record: 0,
-    };
-    for _ in 0..replay_tape::MOST_COMMANDS {
-        s = replay_one(moves, programs, record, s);
-        if !s.more {
-            return;
+    fn replay(&mut self, command: Command) {
+        match command {
+            Command::ReadMoves => self.moves.read_field(),
+            Command::ReadPrograms => self.programs.read_field(),
+            Command::ReadRecord => self.record.read_field(),
+            Command::Check => self.check(),
+            Command::Open => self.open(),
+            Command::Feed => self.feed(),
+            Command::Pass => {}
         }
     }
 }
 
+// Zeros for a buffer. Behind a call its length is known without its bytes.
+fn zeros<const N: usize>() -> [u8; N]
+    ensures { N ≡ length result }
+{
+    [0; N]
+}
+
 // The program.
 fn main() {
-    let mut moves = moves_buffer();
-    let mut programs = programs_buffer();
-    let mut record = record_buffer();
-    replay(&mut moves, &mut programs, &mut record);
+    let mut moves: [u8; MOVES_ROOM] = zeros();
+    let mut programs: [u8; PROGRAMS_ROOM] = zeros();
+    let mut record: [u8; RECORD_ROOM] = zeros();
+    replay_tape::replay(&mut Machine {
+        moves: Buffer::new(&mut moves),
+        programs: Buffer::new(&mut programs),
+        record: Buffer::new(&mut record),
+    });
 }

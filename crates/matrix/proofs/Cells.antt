@@ -10,7 +10,7 @@ use lib.ListN.{length, replicate}
 use lib.Dec.{eqb}
 use borrow.Author.Tests.{eq-eqb, ne_eqb}
 use Rattle.numbers.specs.Number.{num, digits, placed}
-use Rattle.sets.specs.Set.{states, set_size, set_bytes, set_at}
+use Rattle.sets.specs.Set.{states, set_size, set_bytes, set_at, read_at}
 use Rattle.numbers.proofs.Laws.{length_digits, num-digits}
 use Rattle.rules.specs.Scan.{stack}
 use Rattle.rules.proofs.Stacks.{stack_same, stack-length, stack-entry, stack-put}
@@ -52,7 +52,7 @@ module _ (n : ℕ) where
   module _ (f : ℕ → ℕ → ℕ) (s c : ℕ) (hs : s < n) (hc : c < byte_values) where
     -- the set of state s and byte c
     pub cells_at : f s c < 2 ^ states → set_at (cells f n) (cell_at s c) ≡ f s c
-    unfolding set_at
+    unfolding read_at
     cells_at l =
         let e : (byte_values * s + c) / byte_values ≡ s = omega arith in
         let r : (byte_values * s + c) % byte_values ≡ c = omega arith in

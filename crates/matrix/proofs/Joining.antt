@@ -1,5 +1,5 @@
 -- Sets in bytes, joined or met byte by byte, and written from the set. Assumes nothing.
-use Prim.Native.Nat.{ℕ, zero, suc, ◌+◌, ◌*◌, ◌/◌, ◌%◌, ◌^◌, ◌≤◌, ◌<◌}
+use Prim.Native.Nat.{ℕ, suc, ◌+◌, ◌*◌, ◌/◌, ◌%◌, ◌^◌, ◌≤◌, ◌<◌}
 use mathlib.Core.Path.{◌≡◌, refl, sym, ap, ◌∙◌}
 use mathlib.Core.Bool.{Bool, true, false, ◌&&◌, not, true≢false}
 use mathlib.Core.List.{List}
@@ -12,7 +12,7 @@ use lib.Seq.{get_or-set_same, get_or-set_other, length-take-le, take-length}
 use lib.Bits.{bit_or, bit_and}
 use lib.Dec.{eqb, lit<}
 use Rattle.numbers.specs.Number.{num, placed}
-use Rattle.sets.specs.Set.{states, set_size, holds, join, meets, set_bytes, bytes_at, set_at}
+use Rattle.sets.specs.Set.{states, set_size, holds, join, meets, set_bytes, bytes_at, set_at, read_at}
 use Rattle.numbers.proofs.Laws.{Small, small-drop, small-take, length_digits, num-or, num-digits}
 use Rattle.sets.proofs.Sets.{byte-in, holds-num, holds-empty, holds-past, set-at-lt, set-ext}
 use Rattle.sets.proofs.Words.{Laid}
@@ -35,11 +35,6 @@ joins-more f a i w h g = (
   λ j k. get_or-set_other w i j (bit_or (get_or w i 0) (f i)) 0 (λ q. omega arith) ∙ g.2 j (omega arith),
 )
 
--- where the joined bytes are bytes, so were the others
-pub joins-small : (f : ℕ → ℕ) (a : List ℕ) (i : ℕ) (w : List ℕ) → Joins f a i w → Small 8 w → (zero < i → Small 8 a) → Small 8 a
-joins-small f a zero w g h k = λ j. rw (← g.2 j (omega arith)) (h j)
-joins-small f a (suc i) w g h k = k (omega arith)
-
 -- the bytes of a set that are all there
 bytes-long : (b : List ℕ) (at : ℕ) → at + set_size ≤ length b → length (bytes_at b at) ≡ set_size
 bytes-long b at l = length-take-le set_size (drop at b) (rw length-drop (omega arith))
@@ -53,7 +48,7 @@ byte-first b j l = byte-in b 0 j l ∙ ap (λ (k : ℕ). get_or b k 0) (omega ar
 -- all of them, with the bytes of the set that stands at a place
 pub joins-all : (a b : List ℕ) (at : ℕ) (w : List ℕ) → Small 8 a → length a ≡ set_size → Small 8 b → at + set_size ≤ length b → Joins (λ j. get_or b (at + j) 0) a set_size w
     → set_at w 0 ≡ join (set_at a 0) (set_at b at)
-unfolding set_at join
+unfolding read_at join
 joins-all a b at w ha la hb lb g =
     let lw = bytes-long w 0 (omega (arith, g.0, la)) in
     num-or 8 (bytes_at a 0) (bytes_at b at) (bytes_at w 0) (bytes_small a 0 ha) (bytes_small b at hb) (bytes-long a 0 (omega (arith, la)) ∙ sym lw) (bytes-long b at lb ∙ sym lw)
@@ -63,7 +58,7 @@ joins-all a b at w ha la hb lb g =
 
 -- a member by its byte
 holds-byte : (b : List ℕ) → Small 8 b → (s : ℕ) → s < states → holds (set_at b 0) s ≡ holds (get_or b (s / 8) 0) (s % 8)
-unfolding set_at holds
+unfolding read_at holds
 holds-byte b h s l = holds-num 8 (bytes_at b 0) (bytes_small b 0 h) (lit< tt) s ∙ rw (byte-first b (s / 8) (omega arith))
 
 both : (x y : Bool) → (x && y) ≡ false → x ≡ true → y ≡ true → ⊥
@@ -116,7 +111,7 @@ module _ (a b : List ℕ) (ha : Small 8 a) (hb : Small 8 b) where
 -- ---- a set's bytes, all of them written
 
 pub bytes-set : (b : List ℕ) (F : ℕ) → length b ≡ set_size → F < 2 ^ states → set_at (placed b 0 (set_bytes F)) 0 ≡ F
-unfolding set_at
+unfolding read_at
 bytes-set b F l h =
     let n = length_digits 8 set_size F in
     let e : placed b 0 (set_bytes F) ≡ set_bytes F = placed-all b (set_bytes F) (omega (arith, n, l)) in

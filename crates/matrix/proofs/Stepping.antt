@@ -10,7 +10,7 @@ use lib.Bits.{or_shifted_r}
 use lib.Pow.{pow_mono}
 use lib.Count.{ones}
 use Rattle.numbers.specs.Number.{num}
-use Rattle.sets.specs.Set.{set_words, set_size, states, join, size, set_at}
+use Rattle.sets.specs.Set.{set_words, set_size, states, join, size, set_at, read_at}
 use Rattle.numbers.proofs.Laws.{Small, num-take, num-take-lt, num-low, num-zeros, ones-in}
 use Rattle.sets.proofs.Words.{count_none, count-more}
 use Rattle.matrix.specs.Matrix.{union_over}
@@ -49,5 +49,5 @@ module _ {f : ℕ → ℕ} {n : ℕ} {ws : List ℕ} {i all rows : ℕ} (h : Wal
 
 -- the set of no bytes but zeros is empty
 pub zero-set : set_at (replicate set_size 0) 0 ≡ 0
-unfolding set_at
+unfolding read_at
 zero-set = num-zeros 8 set_size

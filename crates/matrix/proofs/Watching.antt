@@ -6,15 +6,17 @@ use mathlib.Core.List.{List}
 use native.Mathlib.Omega.{arith}
 use native.Mathlib.Decide.{dec_lt}
 use native.Mathlib.Nat.{lt_of_not-le, zero-mul}
-use lib.ListN.{length, get_or, set}
-use lib.Seq.{get_or-set_same, get_or-set_other}
+use lib.ListN.{length, get_or, get_or-eq_default, take, drop, replicate, length-drop, length-append, length-replicate, get_or-append, get_or-replicate}
+use mathlib.Core.List.{◌++◌}
+use lib.Seq.{get_or-take, get_or-append-add, length-take-le, drop-length}
+use borrow.Rule.Slice.PartMut.{put_mid}
+use Rattle.std.proofs.lemmas.List.{append-nil, drop-drop}
 use lib.Dec.{leb, eqb, lit<}
 use lib.Pow.{split, shr-shr, high, ones_split, ones_lt, pow_pos}
 use borrow.Author.Tests.{eq-eqb, le-leb, lt-leb}
-use borrow.Author.Count.{below_more}
 use Rattle.numbers.specs.Number.{num, bit}
 use Rattle.sets.specs.Set.{set_words, states, holds, meets}
-use Rattle.numbers.proofs.Laws.{Small, small-set}
+use Rattle.numbers.proofs.Laws.{Small}
 use Rattle.sets.proofs.Sets.{Words, holds-num, holds-empty, holds-past, word_holds, set-ext}
 use Rattle.sets.proofs.Meets.{apart-exactly}
 
@@ -46,29 +48,56 @@ all_ones j h =
 abbrev pub Widened : List ℕ → ℕ → ℕ → List ℕ → Type 0
 Widened a wide i w = (length w ≡ set_words) × ((j : ℕ) → j < i → get_or w j 0 ≡ cond (leb wide j) 18446744073709551615 (get_or a j 0)) × ((j : ℕ) → i ≤ j → get_or w j 0 ≡ get_or a j 0) × Small 64 w
 
-pub widened_none : (a : List ℕ) (wide : ℕ) → Words set_words a → Widened a wide 0 a
-widened_none a wide v = (v.long, λ j h. absurd (omega arith), λ j h. refl, v.small)
+-- the first m words of a set, and all ones behind them
+module _ (a R : List ℕ) (wide m : ℕ) (v : Words set_words a) (room : m ≤ set_words) (low : m ≤ wide) (up : (j : ℕ) → j < set_words → j < wide → j < m)
+    (r : R ≡ replicate (set_words - m) 18446744073709551615) where
+  front-long : length (take m a) ≡ m
+  front-long = length-take-le m a (omega (arith, v.long))
 
-pub widened-put : (a : List ℕ) (wide i : ℕ) (w : List ℕ) → i < set_words → wide ≤ i → Widened a wide i w → Widened a wide (i + 1) (set w i 18446744073709551615)
-widened-put a wide i w h l v = (
-  length-set' w i 18446744073709551615 ∙ v.0,
-  below_more (λ (j : ℕ). get_or (set w i 18446744073709551615) j 0 ≡ cond (leb wide j) 18446744073709551615 (get_or a j 0)) i
-      (λ j k. get_or-set_other w i j 18446744073709551615 0 (λ e. omega arith) ∙ v.1 j k)
-      (get_or-set_same w i 18446744073709551615 0 (omega (arith, v.0)) ∙ sym (rw (le-leb wide i l))),
-  λ j k. get_or-set_other w i j 18446744073709551615 0 (λ e. omega arith) ∙ v.2 j (omega arith),
-  small-set 64 w i 18446744073709551615 v.3 (lit< tt),
-)
-  where
-    length-set' : (xs : List ℕ) (i v : ℕ) → length (set xs i v) ≡ length xs
-    length-set' xs i v = simp lib.ListN.length-set
+  all-long : length (take m a ++ R) ≡ set_words
+  all-long = length-append (take m a) R ∙ omega (arith, front-long, ap length r ∙ length-replicate (set_words - m) 18446744073709551615)
 
-pub widened-keep : (a : List ℕ) (wide i : ℕ) (w : List ℕ) → i < wide → Widened a wide i w → Widened a wide (i + 1) w
-widened-keep a wide i w l v = (
-  v.0,
-  below_more (λ (j : ℕ). get_or w j 0 ≡ cond (leb wide j) 18446744073709551615 (get_or a j 0)) i (λ j k. v.1 j k) (v.2 i (omega arith) ∙ sym (rw (lt-leb wide i l))),
-  λ j k. v.2 j (omega arith),
-  v.3,
-)
+  in_front : (j : ℕ) → j < m → get_or (take m a ++ R) j 0 ≡ get_or a j 0
+  in_front j h = get_or-append (take m a) R 0 j (omega (arith, h, front-long)) ∙ get_or-take m a j 0 h
+
+  behind : (j : ℕ) → m ≤ j → j < set_words → get_or (take m a ++ R) j 0 ≡ 18446744073709551615
+  behind j h k =
+      let e : length (take m a) + (j - m) ≡ j = omega (arith, front-long) in
+      ap (λ (n : ℕ). get_or (take m a ++ R) n 0) (sym e) ∙ get_or-append-add (take m a) R (j - m) 0 ∙ ap (λ (ys : List ℕ). get_or ys (j - m) 0) r
+      ∙ get_or-replicate (set_words - m) (j - m) 18446744073709551615 0 (omega arith)
+
+  past_all : (j : ℕ) → set_words ≤ j → get_or (take m a ++ R) j 0 ≡ 0
+  past_all j h = get_or-eq_default (take m a ++ R) 0 (omega (arith, all-long))
+
+  pub widened-fill : Widened a wide set_words (take m a ++ R)
+  widened-fill = (
+    all-long,
+    λ j h.
+        elim (dec_lt j wide) [
+          | yes l ↦ in_front j (up j h l) ∙ sym (rw (lt-leb wide j l))
+          | no n ↦ let k : wide ≤ j = omega (arith, lt_of_not-le (λ (l : suc j ≤ wide). n l)) in behind j (omega (arith, k, low)) h ∙ sym (rw (le-leb wide j k))
+        ],
+    λ j h. past_all j h ∙ sym (get_or-eq_default a 0 (omega (arith, v.long))),
+    λ j.
+        elim (dec_lt j m) [
+          | yes l ↦ rw (in_front j l) (v.small j)
+          | no n ↦
+              elim (dec_lt j set_words) [
+                | yes k ↦ rw (behind j (omega (arith, lt_of_not-le (λ (l : suc j ≤ m). n l))) k) (lit< tt)
+                | no q ↦ rw (past_all j (omega (arith, lt_of_not-le (λ (l : suc j ≤ set_words). q l)))) (lit< tt)
+              ]
+        ],
+  )
+
+pub filled-rest : (a R : List ℕ) (m : ℕ) → Words set_words a → m ≤ set_words → R ≡ replicate (length (take (set_words - m) (drop m a))) 18446744073709551615
+    → R ≡ replicate (set_words - m) 18446744073709551615
+filled-rest a R m v room r =
+    r ∙ ap (λ (n : ℕ). replicate n 18446744073709551615) (length-take-le (set_words - m) (drop m a) (simp length-drop (omega (arith, v.long))))
+
+pub filled-end : (a R : List ℕ) (m : ℕ) → Words set_words a → m ≤ set_words → put_mid m (set_words - m) a R ≡ take m a ++ R
+filled-end a R m v room =
+    let e : m + (set_words - m) ≡ length a = omega (arith, v.long) in
+    ap (λ (zs : List ℕ). take m a ++ (R ++ zs)) (drop-drop (set_words - m) m a ∙ ap (λ (n : ℕ). drop n a) e ∙ drop-length a) ∙ ap (λ (zs : List ℕ). take m a ++ zs) (append-nil R)
 
 -- what it says of a frontier that holds none of them
 pub looked-out : (a w : List ℕ) (wide : ℕ) → Words set_words a → Widened a wide set_words w → (F : ℕ) → F < 2 ^ states → meets F (num 64 w) ≡ false

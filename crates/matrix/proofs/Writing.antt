@@ -10,29 +10,17 @@ use lib.Dec.{lit<}
 use lib.Bits.{bit_or, or_lt}
 use borrow.Author.Tests.{lt-ltb}
 use Rattle.numbers.specs.Number.{placed}
-use Rattle.sets.specs.Set.{states, set_size, set_bytes, bytes_at, set_at, insert}
+use Rattle.sets.specs.Set.{states, set_size, set_bytes, bytes_at, set_at, insert, read_at}
 use Rattle.numbers.proofs.Laws.{Small, small-take, small-drop, small-set, num-with, digits-num}
 use Rattle.sets.proofs.Sets.{byte-in}
-use Rattle.numbers.proofs.Placing.{placed-fits, placed-none, placed_one, placed-all}
+use Rattle.numbers.proofs.Placing.{placed-fits}
 use Rattle.matrix.specs.inner.Filling.{joined_at}
-use Rattle.matrix.proofs.Cells.{replicate_more}
 
 -- ---- all bytes 0
 
 pub zeros-long : (i : ℕ) → length (replicate {A = ℕ} i 0) ≡ i
 zeros-long zero = refl
 zeros-long (suc i) = ap suc (zeros-long i)
-
-pub cleared-none : (b : List ℕ) → b ≡ placed b 0 (replicate 0 0)
-cleared-none b = placed-none b 0 (omega arith)
-
-pub cleared_more : (b : List ℕ) (i : ℕ) → i < length b → set (placed b 0 (replicate i 0)) i 0 ≡ placed b 0 (replicate (i + 1) 0)
-cleared_more b i h =
-    let e : 0 + length (replicate {A = ℕ} i 0) ≡ i = omega (arith, zeros-long i) in
-    ap (λ (k : ℕ). set (placed b 0 (replicate i 0)) k 0) (sym e) ∙ placed_one b 0 (replicate i 0) 0 (omega (arith, e)) ∙ ap (placed b 0) (sym (replicate_more i 1))
-
-pub cleared-all : (b : List ℕ) (i : ℕ) → i ≡ length b → placed b 0 (replicate i 0) ≡ replicate (length b) 0
-cleared-all b i e = rw e (placed-all b (replicate (length b) 0) (zeros-long (length b)))
 
 -- ---- one byte of a part
 
@@ -78,7 +66,7 @@ module _ (b : List ℕ) (at t : ℕ) (h : Small 8 b) (l : at + set_size ≤ leng
   long-ws = length-take-le set_size (drop at b) (rw length-drop (omega arith))
 
   bytes-put : set_bytes (insert states (set_at b at) t) ≡ set (bytes_at b at) (t / 8) v
-  unfolding set_at insert
+  unfolding read_at insert
   bytes-put =
       rw (lt-ltb t states k, ← num-with 8 (bytes_at b at) small-ws (lit< tt) t (omega (arith, long-ws)))
       (rw (length-set' (bytes_at b at) (t / 8) v ∙ long-ws) at (digits-num 8 (set (bytes_at b at) (t / 8) v) (small-set 8 (bytes_at b at) (t / 8) v small-ws small-v)))

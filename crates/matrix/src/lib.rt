@@ -1,7 +1,9 @@
-// The bit matrix: the filler that writes it from a list, and the feed that joins the stored sets of the frontier's states.
+// The bit matrix: the filler that writes it from a list, and the feed that joins the stored sets of the frontier's states. Loops go by index, since
+// the place of a record, a byte or a word is an argument.
+// The list, the matrix and the piece are lent one by one, as C lends them.
 #![tactic(auto)]
 
-ghost use Rattle.std.specs.Prelude.{◌≡◌, true, false, cond, ℕ, suc, ◌+◌, ◌*◌, ◌/◌, ◌^◌, ◌≤◌, ◌<◌, length, replicate, ltb};
+ghost use Rattle.std.specs.Prelude.{◌≡◌, true, false, cond, ℕ, suc, ◌+◌, ◌*◌, ◌/◌, ◌^◌, ◌≤◌, ◌<◌, length, ltb};
 ghost use Rattle.std.specs.Int.Count.{ones};
 ghost use Rattle.sets.specs.Set.{states, set_size, set_words, set_of, set_at, meets, join};
 ghost use Rattle.rules.specs.Rules.{verdict};
@@ -14,7 +16,7 @@ ghost use Rattle.matrix.specs.Matrix.{byte_values, cell_at, cell, union_over, ma
 ghost use Rattle.matrix.specs.inner.Filling.{joined_at, marked, marked_bytes};
 ghost use Rattle.matrix.specs.inner.Stepped.{Steps};
 
-use feed::{Fed, Told};
+use feed::Fed;
 use list_flow::Ran;
 use sets::StateSet;
 
@@ -32,22 +34,13 @@ struct Stepped {
     rows: u64,
 }
 
-// Makes every byte 0.
-fn clear(matrix: &mut [u8])
-    ensures { matrix.new ≡ replicate (length matrix.old) 0 }
-{
-    for i in 0..matrix.len() {
-        matrix[i] = 0;
-    }
-}
-
 // Makes t a member of the set that stands at a place.
 fn join_at(matrix: &mut [u8], at: usize, t: usize)
     requires { (at + set_size ≤ length matrix.old) × (t < states) }
     ensures { matrix.new ≡ joined_at matrix.old at t }
 {
     let i = at + t / 8;
-    matrix[i] = matrix[i] | (1u8 << (t % 8));
+    matrix[i] |= 1u8 << (t % 8);
 }
 
 // Puts target t of record i, which leaves state s, into the set of that state and byte c, where c takes the record.
@@ -98,7 +91,7 @@ pub fn fill(list: &[u8], matrix: &mut [u8]) -> u32
     if refusal != rules::PASSED {
         return refusal;
     }
-    clear(matrix);
+    matrix.fill(0);
     let n = list::records(list);
     for i in 0..n {
         fill_record(list, i, matrix);
@@ -106,13 +99,13 @@ pub fn fill(list: &[u8], matrix: &mut [u8]) -> u32
     rules::PASSED
 }
 
-// Joins the set that stands at a place of the matrix to a set of bytes.
+// Joins the set that stands at a place of the matrix to a set of bytes. By index over a fixed number of bytes, as in `meet`: so the compiler takes 16 at once.
 fn join_cell(matrix: &[u8], at: usize, w: &mut [u8])
     requires { (at + set_size ≤ length matrix.now) × (length w.old ≡ set_size) }
     ensures { set_at w.new 0 ≡ join (set_at w.old 0) (set_at matrix.now at) }
 {
     for i in 0..sets::BYTES {
-        w[i] = w[i] | matrix[at + i];
+        w[i] |= matrix[at + i];
     }
 }
 
@@ -127,7 +120,7 @@ fn join_state(matrix: &[u8], n: usize, s: usize, c: u8, w: &mut [u8])
 }
 
 // Joins to a set of bytes the stored sets, for byte c, of the states in a word of the frontier, whose lowest bit is state `base`; answers how many
-// there are. They are taken from the lowest on, which stands at as many zeros as are below it.
+// there are. They are taken from the lowest on, which stands at as many zeros as are below it, until none is left.
 fn join_word(matrix: &[u8], n: usize, word: u64, base: usize, c: u8, w: &mut [u8]) -> u64
     requires { (base + 64 ≤ states) × (cell_at n 0 ≤ length matrix.now) × (length w.old ≡ set_size) }
     ensures { (set_at w.new 0 ≡ join (set_at w.old 0) (union_over (λ s. cell matrix.now s c) (word * 2 ^ base) n)) × (result ≡ ones word) }
@@ -136,8 +129,8 @@ fn join_word(matrix: &[u8], n: usize, word: u64, base: usize, c: u8, w: &mut [u8
     let mut rows = 0u64;
     while rest != 0 {
         join_state(matrix, n, base + u64::trailing_zeros(rest) as usize, c, w);
-        rest = rest & (rest - 1);
-        rows = rows + 1;
+        rest &= rest - 1;
+        rows += 1;
     }
     rows
 }
@@ -150,20 +143,16 @@ fn step(matrix: &[u8], n: usize, wide: usize, f: &[u8], c: u8) -> Stepped
     let mut w = [0u8; sets::BYTES];
     let mut rows = 0u64;
     for i in 0..wide {
-        rows = rows
-            + join_word(
-                matrix,
-                n,
-                numbers::whole_number(f, 8 * i, 8),
-                64 * i,
-                c,
-                &mut w,
-            );
+        rows += join_word(
+            matrix,
+            n,
+            numbers::whole_number(f, 8 * i, 8),
+            64 * i,
+            c,
+            &mut w,
+        );
     }
-    Stepped {
-        next: w,
-        rows: rows,
-    }
+    Stepped { next: w, rows }
 }
 
 // Says whether some state is in both sets of bytes.
@@ -173,7 +162,7 @@ fn meet(a: &[u8], b: &[u8]) -> bool
 {
     let mut shared = 0u8;
     for i in 0..sets::BYTES {
-        shared = shared | (a[i] & b[i]);
+        shared |= a[i] & b[i];
     }
     shared != 0
 }
@@ -192,11 +181,7 @@ fn watched(accepting: StateSet, wide: usize) -> StateSet
     ensures { (F : ℕ) → F < 2 ^ states → meets F (set_of result) ≡ false → (meets F (set_of accepting) ≡ false) × (F < 2 ^ (64 * wide)) }
 {
     let mut w = accepting.words;
-    for i in 0..sets::WORDS {
-        if wide <= i {
-            w[i] = 18446744073709551615;
-        }
-    }
+    w[wide.min(sets::WORDS)..].fill(u64::MAX);
     StateSet::of_words(w)
 }
 
@@ -240,24 +225,21 @@ fn feed_bytes(
         let next = s.next;
         let at = (offset + i as u64 + 1) as u32;
         wide = narrow;
-        let mut told = Told {
-            fits: true,
-            words: words,
-        };
+        let mut told = Some(words);
         if meet(&next, &watch) {
             wide = sets::WORDS;
             told = list_flow::tell_accepted(list, StateSet::from_bytes(&next, 0), pairs, words, at);
         }
-        if !told.fits {
+        let Some(end) = told else {
             return Ran {
                 refusal: rules::PASSED,
                 frontier: StateSet::from_bytes(&f, 0),
                 bytes: i,
-                words: words,
-                rows: rows,
+                words,
+                rows,
             };
-        }
-        words = told.words;
+        };
+        words = end;
         rows = rows + s.rows;
         f = next;
     }
@@ -265,8 +247,8 @@ fn feed_bytes(
         refusal: rules::PASSED,
         frontier: StateSet::from_bytes(&f, 0),
         bytes: piece.len(),
-        words: words,
-        rows: rows,
+        words,
+        rows,
     }
 }
 

@@ -8,6 +8,7 @@ use native.Mathlib.Omega.{arith}
 use native.Mathlib.Nat.{lt_of_not-le}
 use native.Mathlib.Decide.{dec_lt, ℕ_discrete}
 use lib.ListN.{length}
+use Rattle.std.specs.declared.cmp.Ordering.TheVariants.{Less, Equal}
 use Rattle.numbers.specs.Number.{before, compare}
 use Rattle.numbers.proofs.Order.{before-irrefl, before-trans, compare-exactly, compare-rest}
 
@@ -53,10 +54,10 @@ module _ (g : ℕ → List ℕ) (n : ℕ) (r : Rising g n) (K : List ℕ) (lo hi
 
   -- the comparison with the one in the middle leads on, where it is not K
   module _ (long : length (g m) ≡ length K) where
-    pub compared-right : compare (g m) K ≡ 1 → Between g n K (m + 1) hi
+    pub compared-right : compare (g m) K ≡ Less → Between g n K (m + 1) hi
     compared-right e = between-right ((compare-exactly (g m) K long).1.0 e)
 
-    pub compared-left : (compare (g m) K ≡ 0 → ⊥) → (compare (g m) K ≡ 1 → ⊥) → Between g n K lo m
+    pub compared-left : (compare (g m) K ≡ Equal → ⊥) → (compare (g m) K ≡ Less → ⊥) → Between g n K lo m
     compared-left z o = between_left (compare-rest (g m) K long z o)
 
 -- a string that comes before another is another

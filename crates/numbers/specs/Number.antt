@@ -1,5 +1,7 @@
 -- Numbers and their digits, lowest first; bytes written over a list; and the order of byte strings: the first place where two differ decides.
 use Rattle.std.specs.Prelude.{ℕ, zero, suc, ◌+◌, ◌*◌, ◌/◌, ◌%◌, ◌^◌, List, [], ◌∷◌, ◌++◌, Bool, true, false, ◌&&◌, ◌||◌, cond, length, take, drop, leb, ltb, eqb}
+use Rattle.std.specs.declared.cmp.Ordering.{Ordering}
+use Rattle.std.specs.declared.cmp.Ordering.TheVariants.{Less, Equal, Greater}
 
 -- as many values as a byte has
 abbrev pub byte_values : ℕ
@@ -30,6 +32,6 @@ before [] (y ∷ b) = true
 before (x ∷ a) [] = false
 before (x ∷ a) (y ∷ b) = ltb x y || eqb x y && before a b
 
--- how a stands to b as a string of bytes: 0 where it is the same, 1 where it comes before, 2 where it comes after
-unfoldable pub compare : List ℕ → List ℕ → ℕ
-compare a b = cond (before a b) 1 (cond (before b a) 2 0)
+-- how a stands to b as a string of bytes: the same, less where it comes before, greater where it comes after
+unfoldable pub compare : List ℕ → List ℕ → Ordering
+compare a b = cond (before a b) Less (cond (before b a) Greater Equal)

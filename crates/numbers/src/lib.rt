@@ -1,15 +1,8 @@
-// Numbers of several bytes, low byte first, in lists of bytes.
+// Numbers of several bytes, low byte first, in lists of bytes. How many bytes is an argument, at most 8: std converts whole words alone.
 #![tactic(auto)]
 
 ghost use Rattle.std.specs.Prelude.{◌≡◌, ◌+◌, ◌*◌, ◌%◌, ◌<◌, ◌≤◌, length, take, drop};
 ghost use Rattle.numbers.specs.Number.{digits, num, placed};
-
-// How one string of bytes stands to another: it is the same, comes before it, or comes after it.
-pub const SAME: u32 = 0;
-
-pub const BEFORE: u32 = 1;
-
-pub const AFTER: u32 = 2;
 
 // The number that n bytes at a place write, low byte first, where they are all there.
 pub fn whole_number(b: &[u8], at: usize, n: usize) -> u64
@@ -18,7 +11,7 @@ pub fn whole_number(b: &[u8], at: usize, n: usize) -> u64
 {
     let mut v = 0u64;
     for j in 0..n {
-        v = v | (b[at + j] as u64) << (8 * j);
+        v |= (b[at + j] as u64) << (8 * j);
     }
     v
 }

@@ -1,6 +1,7 @@
 -- What one turn gives the program's loop: its pairs fit the words, and a turn that is not the last moves the flow; so of the opening. Assumes nothing.
 use Prim.Native.Nat.{ℕ, ◌+◌, ◌*◌, ◌≤◌, ◌<◌}
 use mathlib.Core.Path.{◌≡◌, refl, sym, ap, ◌∙◌}
+use Rattle.std.specs.Prelude.{Some, None}
 use mathlib.Core.Bool.{Bool, true, false, cond, true≢false}
 use mathlib.Core.List.{List}
 use native.Mathlib.Omega.{arith}
@@ -63,18 +64,18 @@ module _ (L R : List ℕ) (at : ℕ) (rest : List ℕ) where
   -- ---- the code's three ways to say it
 
   pub says-end : (n : ℕ) (buffer : List ℕ) → length rest ≡ 0 → IsPrefixLen n buffer → take n buffer ≡ last_line 0 at
-      → Says (turn_of L R at rest) (record { last = true; bytes = 0; length = n }) buffer R
+      → Says (turn_of L R at rest) (record { next = None; length = n }) buffer R
   says-end n buffer z c e = rw (turn-by true (eqb o.refusal 0) (eq-eqb (length rest) 0 z) refl) (record { last = refl; bytes = refl; counts = c; text = e; saved = refl })
 
   module _ (f : Fed) (ws sv : List ℕ) (a : Answers o f ws sv) (some : length rest ≡ 0 → ⊥) (n : ℕ) (buffer : List ℕ) (c : IsPrefixLen n buffer) where
     pub says-refused : (f.refusal ≡ 0 → ⊥) → take n buffer ≡ last_line f.refusal at
-        → Says (turn_of L R at rest) (record { last = true; bytes = 0; length = n }) buffer sv
+        → Says (turn_of L R at rest) (record { next = None; length = n }) buffer sv
     says-refused z e =
         rw (turn-by false false (ne_eqb (length rest) 0 some) (ne_eqb o.refusal 0 (λ y. z (a.refusal ∙ y))))
         (record { last = refl; bytes = refl; counts = c; text = rw a.refusal at e; saved = a.saved })
 
     pub says-lines : f.refusal ≡ 0 → take n buffer ≡ lines ws f.pairs
-        → Says (turn_of L R at rest) (record { last = false; bytes = f.bytes; length = n }) buffer sv
+        → Says (turn_of L R at rest) (record { next = Some f.bytes; length = n }) buffer sv
     says-lines z e =
         rw (turn-by false true (ne_eqb (length rest) 0 some) (eq-eqb o.refusal 0 (sym a.refusal ∙ z)))
         (record { last = refl; bytes = a.bytes; counts = c; text = rw (a.words, a.pairs) at e; saved = a.saved })
@@ -97,12 +98,12 @@ module _ (L R : List ℕ) where
     open-pairs-fit = omega (arith, a.pairs, opened-fits L R no_words)
 
     module _ (n : ℕ) (buffer : List ℕ) (c : IsPrefixLen n buffer) where
-      pub says-unopened : (f.refusal ≡ 0 → ⊥) → take n buffer ≡ last_line f.refusal 0 → Says (open_turn L R) (record { last = true; bytes = 0; length = n }) buffer sv
+      pub says-unopened : (f.refusal ≡ 0 → ⊥) → take n buffer ≡ last_line f.refusal 0 → Says (open_turn L R) (record { next = None; length = n }) buffer sv
       says-unopened z e =
           rw (open-by false (ne_eqb p.refusal 0 (λ y. z (a.refusal ∙ y))))
           (record { last = refl; bytes = refl; counts = c; text = rw a.refusal at e; saved = a.saved })
 
-      pub says-opened : f.refusal ≡ 0 → take n buffer ≡ lines ws f.pairs → Says (open_turn L R) (record { last = false; bytes = 0; length = n }) buffer sv
+      pub says-opened : f.refusal ≡ 0 → take n buffer ≡ lines ws f.pairs → Says (open_turn L R) (record { next = Some 0; length = n }) buffer sv
       says-opened z e =
           rw (open-by true (eq-eqb p.refusal 0 (sym a.refusal ∙ z)))
           (record { last = refl; bytes = refl; counts = c; text = rw (a.words, a.pairs) at e; saved = a.saved })

@@ -1,13 +1,14 @@
 -- What the program's loop hands over, turn by turn, is what the definition hands over of an undisturbed run's texts. Assumes nothing.
 use Prim.Native.Nat.{ℕ, suc, ◌+◌, ◌-◌, ◌%◌, ◌≤◌, ◌<◌, min}
 use mathlib.Core.Path.{◌≡◌, refl, sym, ap, ◌∙◌}
+use Rattle.std.specs.Prelude.{Some}
 use mathlib.Core.Bool.{Bool, true, false, cond}
 use mathlib.Core.List.{List, [], ◌++◌, append-nil, append_assoc}
 use native.Mathlib.Omega.{arith}
 use native.Mathlib.Nat.{lt_of_not-le}
 use native.Mathlib.Decide.{dec_lt}
 use native.Mathlib.Numerals.{add-one}
-use lib.ListN.{length, take, drop, get_or, length-append, length-take, length-drop, drop_of_length-le}
+use lib.ListN.{length, take, drop, get_or, length-append, length-take, length-drop}
 use lib.Seq.{take_all, take-length, drop-drop}
 use Rattle.numbers.proofs.Laws.{drop-take}
 use Rattle.feed.proofs.Runs.{length-take-most}
@@ -17,7 +18,7 @@ use Rattle.program_text.specs.Text.{Puts}
 use Rattle.program_text.specs.Hand.{is_cut, handed, joined, Takes, Logs}
 use Rattle.program_text.proofs.Texts.{puts_none, puts-after, puts_whole, puts-front}
 use Rattle.program_text.proofs.Handed.{handed-at}
-use Rattle.program.specs.App.{piece_size, no_record, Turn, open_turn, turn_of, rest_at, texts_from, texts, Says, Held}
+use Rattle.program.specs.App.{piece_size, no_record, Turn, open_turn, turn_of, rest_at, texts_from, texts, is_last, bytes_of, Says, Held}
 use Rattle.program.proofs.Feeding.{turn-moves}
 
 -- ---- pieces
@@ -27,10 +28,6 @@ pub held-read : (B : List ℕ) (at : ℕ) (piece : List ℕ) (n : ℕ) → at % 
 unfolding rest_at
 held-read B at piece n z e = let d : n - 0 ≡ n = omega arith in rw (z, d) e
 
--- a piece past the end of the input is empty
-pub read_none : (B : List ℕ) (at : ℕ) (piece : List ℕ) → length B ≤ at → (0 ≤ piece_size) × (take 0 piece ≡ take piece_size (drop at B))
-read_none B at piece l = (omega arith, rw (drop_of_length-le B {i = at} l))
-
 -- as much of some bytes as a piece holds
 take-least : (xs : List ℕ) (k n : ℕ) → n ≡ min (length xs) k → take n xs ≡ take k xs
 take-least xs k n e =
@@ -39,13 +36,11 @@ take-least xs k n e =
       | no h ↦ let m : n ≡ length xs = omega (arith, e, lt_of_not-le (λ (l : suc k ≤ length xs). h l)) in rw m (take-length xs ∙ sym (take_all k xs (omega (arith, lt_of_not-le (λ (l : suc k ≤ length xs). h l)))))
     ]
 
-pub read-front : (B : List ℕ) (at : ℕ) (piece : List ℕ) (n r : ℕ) (left : List ℕ) → length piece ≡ piece_size → n ≡ min (length B - at) piece_size
-    → Puts (length (take (at + n - at) (drop at B))) (take (at + n - at) (drop at B)) piece 0 r left → (r ≤ piece_size) × (take r left ≡ take piece_size (drop at B))
-read-front B at piece n r left l e p =
-    let d : at + n - at ≡ n = omega arith in
-    let m : length (take (at + n - at) (drop at B)) ≤ piece_size = rw (d, length-take n (drop at B)) (omega (arith, e)) in
-    let f : take n (drop at B) ≡ take piece_size (drop at B) = take-least (drop at B) piece_size n (e ∙ ap (λ (k : ℕ). min k piece_size) (sym (length-drop at B))) in
-    (omega (arith, p.0, m), puts-front _ _ piece r left (omega (arith, m, l)) p ∙ ap (λ (k : ℕ). take k (drop at B)) d ∙ f)
+pub read-front : (xs piece : List ℕ) (n r : ℕ) (left : List ℕ) → length piece ≡ piece_size → n ≡ min (length xs) piece_size
+    → Puts (length (take n xs)) (take n xs) piece 0 r left → (r ≤ piece_size) × (take r left ≡ take piece_size xs)
+read-front xs piece n r left l e p =
+    let m : length (take n xs) ≤ piece_size = rw (length-take n xs) (omega (arith, e)) in
+    (omega (arith, p.0, m), puts-front _ _ piece r left (omega (arith, m, l)) p ∙ take-least xs piece_size n e)
 
 -- no more is left than the input has from there on
 rest-most : (B : List ℕ) (at : ℕ) → length (rest_at B at) ≤ length B - at
@@ -129,7 +124,7 @@ module _ (L B answers R₀ log₀ : List ℕ) (begun : ℕ) where
       over e = let w : all_handed ≡ r.sofar ++ text = split ∙ rw e (append-nil (r.sofar ++ text)) in rw w more
 
       -- the last text: that was all
-      pub over_last : s.last ≡ true → Puts (length all_handed) all_handed log₀ begun k.end left
+      pub over_last : is_last s.next ≡ true → Puts (length all_handed) all_handed log₀ begun k.end left
       unfolding joined handed
       over_last z = over (rw (sym said.last ∙ z) (go (is_cut (get_or answers i 0))))
         where
@@ -143,10 +138,11 @@ module _ (L B answers R₀ log₀ : List ℕ) (begun : ℕ) where
       over-cut z = over (rw (sym takes.cut ∙ z))
 
       -- else the loop goes on
-      pub goes_on : s.last ≡ false → k.cut ≡ false → Running sv left (at + s.bytes) (i + 1) k.end
-      goes_on y z =
+      pub goes_on : (come : ℕ) → s.next ≡ Some come → k.cut ≡ false → Running sv left (at + come) (i + 1) k.end
+      goes_on come x z =
+          let y : is_last s.next ≡ false = ap is_last x in
           let m = turn-moves L R at (rest_at B at) (sym said.last ∙ y) in
-          let b : s.bytes ≡ t.bytes = said.bytes in
+          let b : come ≡ t.bytes = sym (ap bytes_of x) ∙ said.bytes in
           let e : suc (r.turns - 1) ≡ r.turns = omega (arith, r.enough, r.within, m.goes, m.front, rest-most B at) in
           record {
             sofar = r.sofar ++ text;
@@ -168,7 +164,7 @@ module _ (L B answers log : List ℕ) (s : Said) (buffer Q : List ℕ) (says : S
   abbrev later : Bool → Bool → List (List ℕ)
   later cut last = cond cut [] (handed (cond last [] (texts_from (suc (length B)) L B Q 0)) (drop 1 answers))
 
-  begun-split : joined (handed (texts L B) answers) ≡ first ++ joined (later (is_cut (get_or answers 0 0)) s.last)
+  begun-split : joined (handed (texts L B) answers) ≡ first ++ joined (later (is_cut (get_or answers 0 0)) (is_last s.next))
   unfolding texts joined
   begun-split =
       ap joined (handed-at t.text (cond t.last [] (texts_from (suc (length B)) L B t.saved 0)) answers 0)
@@ -177,20 +173,20 @@ module _ (L B answers log : List ℕ) (s : Said) (buffer Q : List ℕ) (says : S
       t : Turn
       t = open_turn L no_record
 
-  begun-long : length (joined (handed (texts L B) answers)) ≡ length first + length (joined (later (is_cut (get_or answers 0 0)) s.last))
-  begun-long = ap length begun-split ∙ length-append first (joined (later (is_cut (get_or answers 0 0)) s.last))
+  begun-long : length (joined (handed (texts L B) answers)) ≡ length first + length (joined (later (is_cut (get_or answers 0 0)) (is_last s.next)))
+  begun-long = ap length begun-split ∙ length-append first (joined (later (is_cut (get_or answers 0 0)) (is_last s.next)))
 
   begun-takes : 0 + length (joined (handed (texts L B) answers)) ≤ length log → Takes first answers 0 log 0 k left
   begun-takes l = takes (omega (arith, l, begun-long))
 
-  begun-over : 0 + length (joined (handed (texts L B) answers)) ≤ length log → joined (later (is_cut (get_or answers 0 0)) s.last) ≡ []
+  begun-over : 0 + length (joined (handed (texts L B) answers)) ≤ length log → joined (later (is_cut (get_or answers 0 0)) (is_last s.next)) ≡ []
       → Puts (length (joined (handed (texts L B) answers))) (joined (handed (texts L B) answers)) log 0 k.end left
   begun-over l e =
       let w : joined (handed (texts L B) answers) ≡ first = begun-split ∙ rw e (append-nil first) in
       rw w (begun-takes l).puts
 
   -- the list is refused, or the text is cut: that was all
-  pub begun-last : s.last ≡ true → Logs 0 (handed (texts L B) answers) log k.end left
+  pub begun-last : is_last s.next ≡ true → Logs 0 (handed (texts L B) answers) log k.end left
   unfolding joined handed
   begun-last z l = begun-over l (rw z (go (is_cut (get_or answers 0 0))))
     where
@@ -203,7 +199,7 @@ module _ (L B answers log : List ℕ) (s : Said) (buffer Q : List ℕ) (says : S
   begun-cut z l = begun-over l (rw (sym (begun-takes l).cut ∙ z))
 
   -- else the loop's texts follow
-  pub begun-then : s.last ≡ false → k.cut ≡ false → (end : ℕ) (after : List ℕ)
+  pub begun-then : is_last s.next ≡ false → k.cut ≡ false → (end : ℕ) (after : List ℕ)
       → Logs k.end (handed (texts_from (suc (length B)) L B Q 0) (drop 1 answers)) left end after → Logs 0 (handed (texts L B) answers) log end after
   begun-then y z end after h l =
       let t = begun-takes l in

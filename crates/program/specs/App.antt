@@ -1,5 +1,5 @@
 -- What the program says, turn by turn; and the texts of an undisturbed run.
-use Rattle.std.specs.Prelude.{ℕ, zero, suc, ◌+◌, ◌*◌, ◌-◌, ◌%◌, ◌≡◌, Bool, true, false, cond, List, [], ◌∷◌, length, take, drop, replicate, eqb}
+use Rattle.std.specs.Prelude.{Option, Some, None, ℕ, zero, suc, ◌+◌, ◌*◌, ◌-◌, ◌%◌, ◌≡◌, Bool, true, false, cond, List, [], ◌∷◌, length, take, drop, replicate, eqb}
 use Rattle.io.specs.Counts.{IsPrefixLen}
 use Rattle.list_flow.specs.Flow.{flow_size}
 use Rattle.list_flow.specs.Opening.{open_flow}
@@ -70,10 +70,19 @@ texts L B =
 
 -- ---- what the code does
 
+-- whether nothing follows a turn; the bytes that it consumed
+abbrev pub is_last : Option ℕ → Bool
+is_last None = true
+is_last (Some n) = false
+
+abbrev pub bytes_of : Option ℕ → ℕ
+bytes_of None = 0
+bytes_of (Some n) = n
+
 -- the code says s, with the text at the start of a buffer, and leaves the record `sv`: a turn
 pub record Says (t : Turn) (s : Said) (buffer sv : List ℕ) : Type 0 where
-  pub last : s.last ≡ t.last
-  pub bytes : s.bytes ≡ t.bytes
+  pub last : is_last s.next ≡ t.last
+  pub bytes : bytes_of s.next ≡ t.bytes
   pub counts : IsPrefixLen s.length buffer
   pub text : take s.length buffer ≡ t.text
   pub saved : sv ≡ t.saved

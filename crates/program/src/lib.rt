@@ -1,12 +1,16 @@
 // The program as a library: it reads rules.bin and standard input, feeds the flow, and writes a line for each pair.
 // From the first write that is not whole on it writes nothing more, so that output without its last line has lost something.
-// Each text is made and promised before it is handed over. `read_piece` and `hand` alone reach out; by a flag they take and leave arrays in the place of
-// standard input and output, and of such a run `watch` promises what is handed over, for every list, every input and all answers of the writes.
+// It has no heap: the list, a piece and a text stand in arrays.
+// Each text is made and promised before it is handed over. `read_piece` and `hand` alone reach out, to standard input and output or to arrays in their place,
+// and of a run on arrays `watch` promises what is handed over, for every list, every input and all answers of the writes.
+// A piece and a text are lent as slices, and `begin` and `read_piece` ask for their lengths.
 #![tactic(auto)]
 
-ghost use Rattle.std.specs.Prelude.{◌≡◌, false, suc, ◌%◌, ◌≤◌, ◌<◌, min, length, take, drop};
-ghost use Rattle.program_text.specs.Hand.{handed, Logs};
+ghost use Rattle.std.specs.Prelude.{◌≡◌, suc, ◌%◌, ◌≤◌, ◌<◌, min, length, take, drop};
+ghost use Rattle.program_text.specs.Hand.{handed, Logs, OnArrays};
 ghost use Rattle.program.specs.App.{text_size, piece_size, open_turn, turn_of, texts_from, texts, Says, Held};
+
+use program_text::{Ends, STANDARD};
 
 // Words of the pairs buffer: room for 1,024 pairs, four times what one byte can tell.
 const PAIR_WORDS: usize = 2048;
@@ -14,11 +18,10 @@ const PAIR_WORDS: usize = 2048;
 // Bytes of a piece of the input.
 const PIECE: usize = 4096;
 
-// What a turn says: whether its text is the last, the bytes consumed, and the length of the text.
+// What a turn says, as `Turn` (program/App) has it: the bytes consumed, none where its text is the last, and the length of the text.
 #[derive(Clone, Copy)]
 pub struct Said {
-    pub last: bool,
-    pub bytes: usize,
+    pub next: Option<usize>,
     pub length: usize,
 }
 
@@ -31,14 +34,12 @@ pub fn begin(list: &[u8], flow: &mut [u8], text: &mut [u8]) -> Said
     let opened = list_flow::open_flow(list, flow, &mut out);
     if opened.refusal != rules::PASSED {
         return Said {
-            last: true,
-            bytes: 0,
+            next: None,
             length: program_text::put_last(text, opened.refusal, 0),
         };
     }
     Said {
-        last: false,
-        bytes: 0,
+        next: Some(0),
         length: program_text::put_pairs(text, &out, opened.pairs),
     }
 }
@@ -50,8 +51,7 @@ fn turn(list: &[u8], flow: &mut [u8], offset: u64, rest: &[u8], text: &mut [u8])
 {
     if rest.len() == 0 {
         return Said {
-            last: true,
-            bytes: 0,
+            next: None,
             length: program_text::put_last(text, rules::PASSED, offset),
         };
     }
@@ -59,23 +59,14 @@ fn turn(list: &[u8], flow: &mut [u8], offset: u64, rest: &[u8], text: &mut [u8])
     let fed = list_feed::feed(list, flow, offset, rest, &mut out);
     if fed.refusal != rules::PASSED {
         return Said {
-            last: true,
-            bytes: 0,
+            next: None,
             length: program_text::put_last(text, fed.refusal, offset),
         };
     }
     Said {
-        last: false,
-        bytes: fed.bytes,
+        next: Some(fed.bytes),
         length: program_text::put_pairs(text, &out, fed.pairs),
     }
-}
-
-// The lesser of two numbers.
-fn least(a: usize, b: usize) -> usize
-    ensures { result ≡ min a b }
-{
-    if a < b { a } else { b }
 }
 
 // Reads a piece of the input at an offset into the piece's buffer; answers how many bytes came.
@@ -83,86 +74,82 @@ fn read_array(input: &[u8], offset: usize, piece: &mut [u8]) -> usize
     requires { length piece.old ≡ piece_size }
     ensures { (result ≤ piece_size) × (take result piece.new ≡ take piece_size (drop offset input.now)) }
 {
-    if input.len() < offset {
+    let Some(left) = input.get(offset..) else {
         return 0;
-    }
-    let n = least(input.len() - offset, PIECE);
-    program_text::put_bytes(piece, 0, &input[offset..offset + n])
+    };
+    let n = left.len().min(PIECE);
+    program_text::put_bytes(piece, 0, &left[..n])
 }
 
 // Where the offset is at a piece's start, reads the piece: it is filled unless the input ends. Answers how many bytes the piece has.
-pub fn read_piece(outside: bool, input: &[u8], offset: u64, piece: &mut [u8], n: usize) -> usize
+pub fn read_piece(ends: Ends<'_>, offset: u64, piece: &mut [u8], n: usize) -> usize
     requires { (length piece.old ≡ piece_size) × (n ≤ piece_size) × (offset % piece_size ≤ n) }
     ensures upper_bound { (result ≤ piece_size) × (offset % piece_size ≤ result) }
-    ensures held { outside ≡ false → (0 < offset % piece_size → Held input.now offset piece.old n)
-        → Held input.now offset piece.new result }
+    ensures held { OnArrays ends.entry (λ input answers. (0 < offset % piece_size → Held input offset piece.old n)
+        → Held input offset piece.new result) }
 {
     if offset % PIECE as u64 != 0 {
         return n;
     }
-    if outside {
-        return io::read_full(0, piece);
+    match ends {
+        Ends::Descriptors { input, .. } => io::read_full(input, piece),
+        Ends::Arrays { input, .. } => read_array(input, offset as usize, piece),
     }
-    read_array(input, offset as usize, piece)
 }
 
 // Runs from an opened flow on, whose text was the first: each turn's text is handed over, up to the last one or the first that is cut. Answers where the log ends.
 fn run(
-    outside: bool,
+    ends: Ends<'_>,
     list: &[u8],
     flow: &mut [u8],
     piece: &mut [u8],
     text: &mut [u8],
-    input: &[u8],
-    answers: &[u8],
     log: &mut [u8],
     begun: usize,
 ) -> usize
     requires { (length piece.old ≡ piece_size) × (text_size ≤ length text.old) × (begun ≤ length log.old) }
-    ensures { outside ≡ false
-        → Logs begun (handed (texts_from (suc (length input.now)) list.now input.now flow.old 0) (drop 1 answers.now))
-        log.old result log.new }
+    ensures { OnArrays ends.entry (λ input answers.
+        Logs begun (handed (texts_from (suc (length input)) list.now input flow.old 0) (drop 1 answers)) log.old result log.new) }
 {
     let mut offset: u64 = 0;
     let mut n: usize = 0;
     let mut i: usize = 1;
     let mut end = begun;
+    // A loop, since how many turns there are is not known before.
     loop {
-        n = read_piece(outside, input, offset, piece, n);
+        n = read_piece(ends, offset, piece, n);
         let from = (offset % PIECE as u64) as usize;
         let said = turn(list, flow, offset, &piece[from..n], text);
-        let taken = program_text::hand(outside, 1, &text[..said.length], answers, i, log, end);
+        let taken = program_text::hand(ends, &text[..said.length], i, log, end);
         end = taken.end;
-        if said.last {
+        let Some(bytes) = said.next else {
             return end;
-        }
+        };
         if taken.cut {
             return end;
         }
-        offset = offset + said.bytes as u64;
-        i = i + 1;
+        offset += bytes as u64;
+        i += 1;
     }
 }
 
 // Watches the input by a list, which is refused before any input is read. Answers where the log ends.
-fn watch(outside: bool, list: &[u8], input: &[u8], answers: &[u8], log: &mut [u8]) -> usize
-    ensures { outside ≡ false → Logs 0 (handed (texts list.now input.now) answers.now) log.old result log.new }
+fn watch(ends: Ends<'_>, list: &[u8], log: &mut [u8]) -> usize
+    ensures { OnArrays ends.entry (λ input answers. Logs 0 (handed (texts list.now input) answers) log.old result log.new) }
 {
     let mut flow = [0u8; list_flow::FLOW_SIZE];
     let mut piece = io::buffer();
     let mut text = io::large_buffer();
     let said = begin(list, &mut flow, &mut text);
-    let taken = program_text::hand(outside, 1, &text[..said.length], answers, 0, log, 0);
+    let taken = program_text::hand(ends, &text[..said.length], 0, log, 0);
     let end = taken.end;
-    if said.last {
+    let Some(_) = said.next else {
         return end;
-    }
+    };
     if taken.cut {
         return end;
     }
-    run(
-        outside, list, &mut flow, &mut piece, &mut text, input, answers, log, end,
-    )
+    run(ends, list, &mut flow, &mut piece, &mut text, log, end)
 }
 
 // The program.
@@ -170,5 +157,5 @@ pub fn start(rt: &HostRuntime) {
     let mut list = program_text::list_buffer();
     let n = program_text::read_rules(rt, b"rules.bin", &mut list);
     let mut log = [0u8; 1];
-    watch(true, &list[..n], b"", b"", &mut log);
+    watch(STANDARD, &list[..n], &mut log);
 }

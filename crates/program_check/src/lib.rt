@@ -6,183 +6,175 @@
 ghost use Rattle.std.specs.Prelude.{◌≡◌, length};
 ghost use Rattle.program_turn.specs.State.{state_size};
 
-use std::fs::File;
+use program_files::{Ending, Unread};
+use program_turn::Kind;
+use std::alloc::AllocError;
+use std::fmt;
 
-// The highest signature.
-const MOST_SIGNATURE: u32 = 255;
+// The bytes of a list that are read: more than the longest has, so that a longer one is seen as too long.
+const MOST_READ: u64 = 65544;
 
-// Writes a word and a number, a line.
-fn put_count(word: &[u8], n: u64) {
-    io::write_all(program_files::OUT, word);
-    io::print_decimal(program_files::OUT, n);
-    io::write_all(program_files::OUT, b"\n");
+// What is not good about a box.
+#[derive(Clone, Copy, PartialEq, Eq, Debug)]
+enum Fault {
+    NamesTooLong,
+    NoName { line: u64 },
+    StateNotRead,
+    NoState,
+    OtherList,
+    BadRecord,
+    BadPlace,
+    OutOfMemory,
+}
+
+impl fmt::Display for Fault {
+    fn fmt<W: fmt::Write>(&self, f: &mut fmt::Formatter<W>) -> fmt::Result {
+        match *self {
+            Fault::NamesTooLong => write!(f, "names: this has more than 1,048,576 bytes"),
+            Fault::NoName { line } => write!(
+                f,
+                "names: line {line} is no number below 256, space and name"
+            ),
+            Fault::StateNotRead => write!(f, "the state cannot be read"),
+            Fault::NoState => write!(f, "this is no state: it has not 4,304 bytes"),
+            Fault::OtherList => write!(f, "the state is one of another list"),
+            Fault::BadRecord => write!(f, "the state has a record that the list refuses, with 4"),
+            Fault::BadPlace => write!(
+                f,
+                "the state has a kind or a held place that there is none of"
+            ),
+            Fault::OutOfMemory => write!(f, "out of memory"),
+        }
+    }
+}
+
+impl From<AllocError> for Fault {
+    fn from(_error: AllocError) -> Fault {
+        Fault::OutOfMemory
+    }
 }
 
 // ---- the list
 
-// Says how many states and records a list has, where it passes; answers the refusal.
-fn check_rules(list: &[u8]) -> u32 {
-    let refusal = list::check_list(list);
-    if refusal != rules::PASSED {
-        return refusal;
-    }
-    put_count(b"states ", list::state_count(list) as u64);
-    put_count(b"records ", list::records(list) as u64);
-    rules::PASSED
+// Says how many states and records a list has.
+fn say_list(rt: &HostRuntime, list: &[u8]) {
+    let _ = println!(rt; "states {}", list::state_count(list));
+    let _ = println!(rt; "records {}", list::records(list));
 }
 
 // ---- the names
 
 // Whether a line is a signature's number, a space and a name.
 fn is_name(line: &[u8]) -> bool {
-    let n = program_files::digits(line);
-    if n == 0 {
+    let Some((_signature, rest)) = program_files::split_number(line) else {
         return false;
-    }
-    if MOST_SIGNATURE < program_files::number(line, n) {
+    };
+    let Some(named) = rest.strip_prefix(b" ") else {
         return false;
-    }
-    if line.len() <= n {
-        return false;
-    }
-    if line[n] != b' ' {
-        return false;
-    }
-    if line.len() == n + 1 {
-        return false;
-    }
-    program_files::name_end(line, n + 1) == line.len()
+    };
+    let (name, rest) = program_files::split_name(named);
+    !name.is_empty() && rest.is_empty()
 }
 
-// Says that a line of the names is none.
-fn say_no_name(number: u64) {
-    io::write_all(program_files::SAYS, b"watch: names: line ");
-    io::print_decimal(program_files::SAYS, number);
-    io::write_all(
-        program_files::SAYS,
-        b" is no number below 256, space and name\n",
-    );
-}
-
-// Whether all lines of a file are names; says how many they are, or which is none.
-fn are_names(file: &[u8]) -> bool {
-    let mut at: usize = 0;
-    let mut number: u64 = 0;
-    while at < file.len() {
-        let end = program_files::line_end(file, at);
-        number = std::num::wrapping_add_u64(number, 1);
-        if !is_name(&file[at..end]) {
-            say_no_name(number);
-            return false;
+// Says how many names a file has, where each line is one.
+fn check_lines(rt: &HostRuntime, file: &[u8]) -> Result<(), Fault> {
+    let mut names: u64 = 0;
+    for line in file.split_inclusive(|c| *c == b'\n') {
+        names = names.saturating_add(1);
+        if !is_name(program_files::line_of(line)) {
+            return Err(Fault::NoName { line: names });
         }
-        at = end + 1;
     }
-    put_count(b"names ", number);
-    true
+    let _ = println!(rt; "names {names}");
+    Ok(())
 }
 
-// Whether the file of names at a path is good, where there is one.
-fn check_names(rt: &HostRuntime, path: &[u8]) -> bool {
-    match program_system::open_read(rt, path) {
-        Ok(names) => are_names_of(&names),
-        Err(_) => true,
+// Checks the file of names at a path, where there is one.
+fn check_names(rt: &HostRuntime, path: &str) -> Result<(), Fault> {
+    let file = match program_files::read_texts(rt, path) {
+        Ok(file) => file,
+        Err(Unread::NotOpened) => return Ok(()),
+        Err(Unread::OutOfMemory) => return Err(Fault::OutOfMemory),
+    };
+    if file.len() > program_files::MOST_TEXTS {
+        return Err(Fault::NamesTooLong);
     }
-}
-
-// Whether an open file of names is good.
-fn are_names_of(names: &File) -> bool {
-    let mut file = program_files::texts_buffer();
-    let n = io::read_full(program_system::number_of(names), &mut file);
-    if program_files::MOST_TEXTS < n {
-        program_files::fail(b"names: this has more than 1,048,576 bytes\n");
-        return false;
-    }
-    are_names(&file[..n])
+    check_lines(rt, file.as_slice())
 }
 
 // ---- the state
 
-// Whether a state has a record that goes on by a list, and a kind and a held place that there are; says its offset, or what is wrong.
-fn is_state(list: &[u8], state: &[u8]) -> bool
+// Says the offset of a state that has a record which goes on by a list, and a kind and a held place that there are.
+fn check_parts(rt: &HostRuntime, list: &[u8], state: &[u8]) -> Result<(), Fault>
     requires { length state.now ≡ state_size }
 {
     if !program_turn::is_state_of(list, state) {
-        program_files::fail(b"the state is one of another list\n");
-        return false;
+        return Err(Fault::OtherList);
     }
     let mut flow = [0u8; list_flow::FLOW_SIZE];
     program_turn::take_part(state, program_turn::FLOW_AT, &mut flow);
-    let offset = numbers::number_at(&flow, sets::BYTES, 4);
+    let offset = list_flow::offset_of(&flow);
     if list_flow::feed_refusal(list, &flow, offset, b"") != rules::PASSED {
-        program_files::fail(b"the state has a record that the list refuses, with 4\n");
-        return false;
+        return Err(Fault::BadRecord);
     }
     let held = numbers::number_at(state, program_turn::HELD_LENGTH_AT, 4);
     let kind = numbers::number_at(state, program_turn::KIND_AT, 4);
-    if ((segment::HELD_SIZE as u64) < held) | (program_turn::NUMBERED < kind) {
-        program_files::fail(b"the state has a kind or a held place that there is none of\n");
-        return false;
+    if held > segment::HELD_SIZE as u64 || Kind::of_number(kind).is_none() {
+        return Err(Fault::BadPlace);
     }
     let before = numbers::number_at(state, program_turn::BEFORE_AT, 8);
-    put_count(b"offset ", std::num::wrapping_add_u64(before, offset));
-    true
+    let _ = println!(rt; "offset {}", before.wrapping_add(offset));
+    Ok(())
 }
 
-// Whether the state at a path is one of a list.
-fn check_state(rt: &HostRuntime, list: &[u8], path: &[u8]) -> bool {
-    match program_system::open_read(rt, path) {
-        Ok(file) => is_state_in(list, &file),
-        Err(_) => {
-            program_files::fail(b"the state cannot be read\n");
-            false
-        }
+// Checks the state at a path, which is one of a list with nothing behind it.
+fn check_state(rt: &HostRuntime, list: &[u8], path: &str) -> Result<(), Fault> {
+    let state = match program_files::read_start(rt, path, program_turn::STATE_SIZE as u64 + 1) {
+        Ok(state) => state,
+        Err(Unread::NotOpened) => return Err(Fault::StateNotRead),
+        Err(Unread::OutOfMemory) => return Err(Fault::OutOfMemory),
+    };
+    if state.len() != program_turn::STATE_SIZE {
+        return Err(Fault::NoState);
     }
-}
-
-// Whether an open file has a state of a list, and nothing behind it.
-fn is_state_in(list: &[u8], file: &File) -> bool {
-    let mut state = program_turn::state_buffer();
-    let n = io::read_full(program_system::number_of(file), &mut state);
-    let mut behind = [0u8; 1];
-    let more = io::read_full(program_system::number_of(file), &mut behind);
-    if (n != program_turn::STATE_SIZE) | (more != 0) {
-        program_files::fail(b"this is no state: it has not 4,304 bytes\n");
-        return false;
-    }
-    is_state(list, &state)
+    check_parts(rt, list, state.as_slice())
 }
 
 // ---- the command
 
-// Ends the command: whether what is beside the list is good.
-fn end(good: bool) {
-    if good {
-        program_files::end_line(rules::PASSED);
-        return;
+// Checks what is in a folder, and a state where one is named.
+fn check_box(rt: &HostRuntime, folder: &str, state: Option<&str>) -> Result<Ending, Fault> {
+    let rules = format!(in rt.alloc(); "{folder}/rules.bin")?;
+    let names = format!(in rt.alloc(); "{folder}/names")?;
+    // A list that cannot be opened counts as an empty one.
+    let list = match program_files::read_start(rt, rules.as_str(), MOST_READ) {
+        Ok(list) => list,
+        Err(Unread::NotOpened) => Vec::new(rt.alloc()),
+        Err(Unread::OutOfMemory) => return Err(Fault::OutOfMemory),
+    };
+    let refusal = list::check_list(list.as_slice());
+    if refusal != rules::PASSED {
+        return Ok(Ending::RefusedBy(refusal));
     }
-    io::write_all(program_files::OUT, b"refused\n");
+    say_list(rt, list.as_slice());
+    check_names(rt, names.as_str())?;
+    if let Some(state) = state {
+        check_state(rt, list.as_slice(), state)?;
+    }
+    Ok(Ending::Passed)
 }
 
-// `watch check DIR [STATE]`; the state has no bytes where none is named.
-pub fn check_folder(rt: &HostRuntime, folder: &[u8], state: &[u8]) {
-    let mut rules_path = io::buffer();
-    let a = program_files::put_both(&mut rules_path, folder, b"/rules.bin");
-    let mut list = program_text::list_buffer();
-    let n = program_text::read_rules(rt, &rules_path[..a], &mut list);
-    let refusal = check_rules(&list[..n]);
-    if refusal != rules::PASSED {
-        program_files::end_line(refusal);
-        return;
-    }
-    let mut names_path = io::buffer();
-    let b = program_files::put_both(&mut names_path, folder, b"/names");
-    if !check_names(rt, &names_path[..b]) {
-        end(false);
-        return;
-    }
-    if state.len() == 0 {
-        end(true);
-        return;
-    }
-    end(check_state(rt, &list[..n], state));
+// `watch check DIR [STATE]`.
+pub fn check(rt: &HostRuntime, folder: &str, state: Option<&str>) {
+    let ending = match check_box(rt, folder, state) {
+        Ok(ending) => ending,
+        Err(fault) => {
+            let _ = eprintln!(rt; "watch: {fault}");
+            if fault == Fault::OutOfMemory {
+                return;
+            }
+            Ending::Refused
+        }
+    };
+    let _ = println!(rt; "{ending}");
 }

@@ -3,297 +3,324 @@
 // error, with a caret under the place; then nothing is written.
 #![tactic(auto)]
 
-ghost use Rattle.std.specs.Prelude.{◌≤◌, length};
+use program_files::{Ending, Unread};
+use program_lines::{Fault, Size};
+use std::alloc::{AllocError, AllocFailed, Global};
+use std::collections::BTreeMap;
+use std::fs::File;
+use std::io::Write;
+use std::{fmt, fs, io};
 
-// The list so far: how many lines were refused, the bytes of the list, and how many texts there are.
-#[derive(Clone, Copy)]
-struct Gathered {
-    bad: u64,
-    used: usize,
-    texts: u64,
-}
+// The most bytes of a list, and how many lines are said to be refused.
+const MOST_LIST: usize = 65536;
+
+const MOST_SAID: u64 = 20;
 
 // ---- the list
 
-// Copies a list into the front of a lent one: 28 where it has not the room.
-fn copy(list: &mut [u8], other: &[u8]) -> list_join::Joined {
-    if list.len() < other.len() {
-        return list_join::Joined {
-            refusal: rules::LIST_ROOM,
-            length: 0,
+// Why a line is not taken.
+#[derive(Clone, Copy, Debug)]
+enum Trouble {
+    Refused(Fault),
+    OutOfMemory,
+}
+
+impl From<Fault> for Trouble {
+    fn from(fault: Fault) -> Trouble {
+        Trouble::Refused(fault)
+    }
+}
+
+impl From<AllocError> for Trouble {
+    fn from(_error: AllocError) -> Trouble {
+        Trouble::OutOfMemory
+    }
+}
+
+impl<T: Drop> From<AllocFailed<T>> for Trouble {
+    fn from(_error: AllocFailed<T>) -> Trouble {
+        Trouble::OutOfMemory
+    }
+}
+
+// That a text's list and those before it are too many.
+fn too_many(refusal: u32, before: &[u8], own: &[u8]) -> Trouble {
+    Trouble::Refused(Fault::TooMany {
+        refusal,
+        before: Size::of(before),
+        own: Size::of(own),
+    })
+}
+
+// What is made of the lines so far: the list, the name of each signature, and how many texts were taken and lines refused. Beside it the places for one text's
+// list and for a folded one.
+#[derive(Drop)]
+struct Gathered<'a> {
+    list: Vec<u8>,
+    names: BTreeMap<u8, &'a str>,
+    texts: u64,
+    refused: u64,
+    one: Vec<u8>,
+    work: Vec<u8>,
+}
+
+impl<'a> Gathered<'a> {
+    fn new(alloc: Global) -> Result<Gathered<'a>, AllocError> {
+        Ok(Gathered {
+            list: Vec::new(alloc),
+            names: BTreeMap::new(alloc),
+            texts: 0,
+            refused: 0,
+            one: vec![in alloc; 0; MOST_LIST]?,
+            work: vec![in alloc; 0; MOST_LIST]?,
+        })
+    }
+
+    // Joins the list of a text to those before it, and folds the whole.
+    fn add(&mut self, length: usize) -> Result<(), Trouble> {
+        let one = &self.one[..length.min(self.one.len())];
+        if self.list.is_empty() {
+            self.list.extend_from_slice(one)?;
+            return Ok(());
+        }
+        let used = self.list.len();
+        self.list.resize(MOST_LIST, 0)?;
+        let joined = list_join::join(self.list.as_mut_slice(), used, one);
+        if joined.refusal != rules::PASSED {
+            self.list.truncate(used);
+            return Err(too_many(joined.refusal, self.list.as_slice(), one));
+        }
+        self.list.truncate(joined.length);
+        let folded = list_fold::fold(self.list.as_slice(), self.work.as_mut_slice());
+        if folded.refusal != rules::PASSED {
+            self.list.truncate(used);
+            return Err(too_many(folded.refusal, self.list.as_slice(), one));
+        }
+        self.list.clear();
+        self.list
+            .extend_from_slice(&self.work[..folded.length.min(self.work.len())])?;
+        Ok(())
+    }
+
+    // Takes a line: its name is kept, its text compiled, and, where no line was refused before, its list added.
+    fn take_line(&mut self, line: &'a [u8]) -> Result<(), Trouble> {
+        if line.is_empty() || line[0] == b'#' {
+            return Ok(());
+        }
+        let Some(front) = program_lines::read_line(line) else {
+            return Err(Trouble::Refused(Fault::NoFront));
         };
+        if let Some(name) = front.name {
+            let had = self.names.entry(front.signature)?.or_insert(name.word);
+            if *had != name.word {
+                return Err(Trouble::Refused(Fault::OtherName { at: name.at }));
+            }
+        }
+        let made = text_compile::compile(front.text, front.signature, self.one.as_mut_slice());
+        if made.refusal != rules::PASSED {
+            return Err(Trouble::Refused(Fault::of_text(
+                line,
+                front.text,
+                made.refusal,
+                made.place,
+            )));
+        }
+        if self.refused == 0 {
+            self.add(made.length)?;
+            self.texts = self.texts.saturating_add(1);
+        }
+        Ok(())
     }
-    list_join::Joined {
-        refusal: rules::PASSED,
-        length: program_text::put_bytes(list, 0, other),
-    }
-}
 
-// Folds the list that stands in the first n bytes of a lent list; `work` has as many bytes.
-fn fold_back(list: &mut [u8], n: usize, work: &mut [u8]) -> list_join::Joined {
-    let used = program_files::within(list, n);
-    let folded = list_fold::fold(&list[..used], work);
-    if folded.refusal != rules::PASSED {
-        return list_join::Joined {
-            refusal: folded.refusal,
-            length: 0,
-        };
+    // Takes the lines of a file of texts, and says which are refused.
+    fn take_lines(&mut self, rt: &HostRuntime, file: &'a [u8]) -> Result<(), Failure> {
+        let lines = file.split_inclusive(|c| *c == b'\n');
+        for (number, line) in (1..u64::MAX).zip(lines) {
+            let line = program_files::line_of(line);
+            match self.take_line(line) {
+                Ok(()) => {}
+                Err(Trouble::Refused(fault)) => {
+                    if self.refused < MOST_SAID {
+                        program_lines::say_fault(rt, number, line, &fault);
+                    }
+                    self.refused = self.refused.saturating_add(1);
+                }
+                Err(Trouble::OutOfMemory) => return Err(Failure::OutOfMemory),
+            }
+        }
+        Ok(())
     }
-    let left = program_files::within(work, folded.length);
-    copy(list, &work[..left])
-}
 
-// Joins a list to the one that stands in the first `used` bytes of a lent list, and folds the whole. Answers the refusal and the bytes of the new list.
-fn add(list: &mut [u8], used: usize, one: &[u8], work: &mut [u8]) -> list_join::Joined {
-    if used == 0 {
-        return copy(list, one);
-    }
-    let joined = list_join::join(list, used, one);
-    if joined.refusal != rules::PASSED {
-        return joined;
-    }
-    fold_back(list, joined.length, work)
-}
-
-// What was gathered, with one line more refused.
-fn spoiled(had: Gathered) -> Gathered {
-    Gathered {
-        bad: std::num::wrapping_add_u64(had.bad, 1),
-        used: had.used,
-        texts: had.texts,
-    }
-}
-
-// Adds the list of a text to those before it.
-fn add_text(number: u64, had: Gathered, list: &mut [u8], one: &[u8], work: &mut [u8]) -> Gathered {
-    let added = add(list, had.used, one, work);
-    if added.refusal != rules::PASSED {
-        let used = program_files::within(list, had.used);
-        program_lines::refuse_both(number, added.refusal, &list[..used], one);
-        return spoiled(had);
-    }
-    Gathered {
-        bad: 0,
-        used: added.length,
-        texts: std::num::wrapping_add_u64(had.texts, 1),
-    }
-}
-
-// Compiles a text, which begins at a place of its line, and adds its list.
-fn take_text(
-    g: u8,
-    line: &[u8],
-    begins: usize,
-    number: u64,
-    had: Gathered,
-    list: &mut [u8],
-    one: &mut [u8],
-    work: &mut [u8],
-) -> Gathered
-    requires { begins ≤ length line.now }
-{
-    let made = text_compile::compile(&line[begins..], g, one);
-    if made.refusal != rules::PASSED {
-        program_lines::refuse_text(had.bad, number, line, begins, made.refusal, made.place);
-        return spoiled(had);
-    }
-    if 0 < had.bad {
-        return had;
-    }
-    let m = program_files::within(one, made.length);
-    add_text(number, had, list, &one[..m], work)
-}
-
-// Takes a line, which stands in the file from `at` to `end`: its text is compiled, its list added and its name kept.
-fn take_line(
-    file: &[u8],
-    at: usize,
-    end: usize,
-    number: u64,
-    had: Gathered,
-    list: &mut [u8],
-    one: &mut [u8],
-    work: &mut [u8],
-    names: &mut [usize],
-) -> Gathered
-    requires { (at ≤ end) × (end ≤ length file.now) }
-{
-    if at == end {
-        return had;
-    }
-    if file[at] == b'#' {
-        return had;
-    }
-    let line = &file[at..end];
-    let f = program_lines::read_front(line);
-    if !f.good {
-        program_lines::say_wrong(
-            had.bad,
-            number,
-            b": no number below 256, or = and a name behind it, and space before a text\n",
-            line,
-            0,
-        );
-        return spoiled(had);
-    }
-    let name = std::num::wrapping_add_usize(at, f.name);
-    let named = std::num::wrapping_add_usize(at, f.named);
-    if !program_lines::give_name(file, names, f.signature, name, named) {
-        program_lines::say_wrong(
-            had.bad,
-            number,
-            b": the signature has another name already\n",
-            line,
-            f.name,
-        );
-        return spoiled(had);
-    }
-    if line.len() < f.text {
-        return spoiled(had);
-    }
-    take_text(f.signature, line, f.text, number, had, list, one, work)
-}
-
-// Takes the lines of a file of texts: the list stands in front of the lent one then.
-fn take_lines(
-    file: &[u8],
-    list: &mut [u8],
-    one: &mut [u8],
-    work: &mut [u8],
-    names: &mut [usize],
-) -> Gathered {
-    let mut bad: u64 = 0;
-    let mut used: usize = 0;
-    let mut texts: u64 = 0;
-    let mut at: usize = 0;
-    let mut number: u64 = 0;
-    while at < file.len() {
-        let end = program_files::line_end(file, at);
-        number = std::num::wrapping_add_u64(number, 1);
-        let had = Gathered {
-            bad: bad,
-            used: used,
-            texts: texts,
-        };
-        let got = take_line(file, at, end, number, had, list, one, work, names);
-        bad = got.bad;
-        used = got.used;
-        texts = got.texts;
-        at = end + 1;
-    }
-    Gathered {
-        bad: bad,
-        used: used,
-        texts: texts,
+    // The lines of the names, by their signatures.
+    fn names_text(&self, alloc: Global) -> Result<String, AllocError> {
+        let mut text = String::new(alloc);
+        for (signature, name) in &self.names {
+            writeln!(text, "{signature} {name}")?;
+        }
+        Ok(text)
     }
 }
 
 // ---- files
 
-// Writes a new file of names.
-fn write_new_names(rt: &HostRuntime, path: &[u8], file: &[u8], names: &[usize]) -> bool {
-    match program_system::open_overwrite(rt, path) {
-        Ok(beside) => {
-            let good = program_lines::write_names(program_system::number_of(&beside), file, names);
-            program_files::end_new(rt, beside, path, good)
-        }
-        Err(_) => false,
+// Whether a path is a folder that can be read.
+fn is_folder(rt: &HostRuntime, path: &str) -> Result<bool, AllocError> {
+    let inside = format!(in rt.alloc(); "{path}/.")?;
+    Ok(File::open(rt, inside.as_str()).is_ok())
+}
+
+// Writes bytes to a file, and waits until they have reached its device.
+fn write_synced(mut file: File, bytes: &[u8]) -> io::Result<()> {
+    file.write_all(bytes)?;
+    file.sync_all()
+}
+
+// Writes a new file, which stands on the disk then; where that fails, there is none.
+fn write_new(rt: &HostRuntime, path: &str, bytes: &[u8]) -> io::Result<()> {
+    let written = write_synced(File::create(rt, path)?, bytes);
+    if written.is_err() {
+        let _ = fs::remove_file(rt, path);
     }
+    written
 }
 
 // Writes a list and its names in the place of the old ones: both are whole before one takes its place.
 fn write_both(
     rt: &HostRuntime,
-    rules: &[u8],
-    names_path: &[u8],
+    rules: &str,
     list: &[u8],
-    file: &[u8],
-    names: &[usize],
-) -> bool {
-    let mut new_rules = io::buffer();
-    let a = program_files::put_both(&mut new_rules, rules, b".new");
-    let mut new_names = io::buffer();
-    let b = program_files::put_both(&mut new_names, names_path, b".new");
-    if !program_files::write_new(rt, &new_rules[..a], list) {
-        return false;
+    beside: &str,
+    names: &str,
+) -> Result<(), Failure> {
+    let new_rules = format!(in rt.alloc(); "{rules}.new")?;
+    let new_names = format!(in rt.alloc(); "{beside}.new")?;
+    write_new(rt, new_rules.as_str(), list)?;
+    if write_new(rt, new_names.as_str(), names.as_bytes()).is_err() {
+        let _ = fs::remove_file(rt, new_rules.as_str());
+        return Err(Failure::NotWritten);
     }
-    if !write_new_names(rt, &new_names[..b], file, names) {
-        program_system::unlink(rt, &new_rules[..a]);
-        return false;
+    if fs::rename(rt, new_rules.as_str(), rules).is_err() {
+        let _ = fs::remove_file(rt, new_rules.as_str());
+        let _ = fs::remove_file(rt, new_names.as_str());
+        return Err(Failure::NotWritten);
     }
-    if program_system::rename(rt, &new_rules[..a], rules).is_err() {
-        program_system::unlink(rt, &new_rules[..a]);
-        program_system::unlink(rt, &new_names[..b]);
-        return false;
-    }
-    program_system::rename(rt, &new_names[..b], names_path).is_ok()
+    fs::rename(rt, new_names.as_str(), beside)?;
+    Ok(())
 }
 
 // Writes a list to OUT, or to rules.bin where that is a folder, and the names beside it.
-fn write_out(rt: &HostRuntime, out: &[u8], list: &[u8], file: &[u8], names: &[usize]) -> bool {
-    let mut rules = io::buffer();
-    let mut beside = io::buffer();
-    if program_files::is_folder(rt, out) {
-        let a = program_files::put_both(&mut rules, out, b"/rules.bin");
-        let b = program_files::put_both(&mut beside, out, b"/names");
-        return write_both(rt, &rules[..a], &beside[..b], list, file, names);
+fn write_out(rt: &HostRuntime, out: &str, list: &[u8], names: &str) -> Result<(), Failure> {
+    let alloc = rt.alloc();
+    if is_folder(rt, out)? {
+        let rules = format!(in alloc; "{out}/rules.bin")?;
+        let beside = format!(in alloc; "{out}/names")?;
+        return write_both(rt, rules.as_str(), list, beside.as_str(), names);
     }
-    let e = program_files::within(out, program_files::folder_end(out));
-    let b = program_files::put_both(&mut beside, &out[..e], b"names");
-    write_both(rt, out, &beside[..b], list, file, names)
+    let beside = match out.rsplit_once('/') {
+        Some((folder, _)) => format!(in alloc; "{folder}/names")?,
+        None => String::from_str(alloc, "names")?,
+    };
+    write_both(rt, out, list, beside.as_str(), names)
 }
 
 // ---- the command
 
-// Ends the command where no list is made.
-fn end_refused() {
-    io::write_all(program_files::OUT, b"refused\n");
+// Why the command ends without a last line.
+#[derive(Clone, Copy, PartialEq, Eq, Debug)]
+enum Failure {
+    NotRead,
+    TooLong,
+    NotWritten,
+    OutOfMemory,
+}
+
+impl fmt::Display for Failure {
+    fn fmt<W: fmt::Write>(&self, f: &mut fmt::Formatter<W>) -> fmt::Result {
+        f.write_str(match *self {
+            Failure::NotRead => "the file is empty, or cannot be read",
+            Failure::TooLong => "the file has more than 1,048,576 bytes",
+            Failure::NotWritten => "cannot write the list or its names",
+            Failure::OutOfMemory => "out of memory",
+        })
+    }
+}
+
+impl From<AllocError> for Failure {
+    fn from(_error: AllocError) -> Failure {
+        Failure::OutOfMemory
+    }
+}
+
+impl From<Unread> for Failure {
+    fn from(unread: Unread) -> Failure {
+        match unread {
+            Unread::NotOpened => Failure::NotRead,
+            Unread::OutOfMemory => Failure::OutOfMemory,
+        }
+    }
+}
+
+impl From<io::Error> for Failure {
+    fn from(_error: io::Error) -> Failure {
+        Failure::NotWritten
+    }
+}
+
+// Says how many texts a list has been made of, and how large it is.
+fn say_list(rt: &HostRuntime, texts: u64, list: &[u8]) {
+    let size = Size::of(list);
+    let word = if texts == 1 { "text" } else { "texts" };
+    let _ = eprintln!(rt;
+        "watch: {texts} {word}, {} states, {} records",
+        size.states, size.records
+    );
 }
 
 // Compiles the texts of a file that is read; writes the list where `out` names a place.
-fn compile_texts(rt: &HostRuntime, file: &[u8], out: &[u8]) {
-    let mut list = io::large_buffer();
-    let mut one = io::large_buffer();
-    let mut work = io::large_buffer();
-    let mut names = [0usize; 512];
-    let got = take_lines(file, &mut list, &mut one, &mut work, &mut names);
-    if 0 < got.bad {
-        program_lines::say_more(got.bad);
-        end_refused();
-        return;
+fn compile_texts(rt: &HostRuntime, file: &[u8], out: Option<&str>) -> Result<Ending, Failure> {
+    let mut made = Gathered::new(rt.alloc())?;
+    made.take_lines(rt, file)?;
+    if made.refused > MOST_SAID {
+        let _ = eprintln!(rt;
+            "watch: {} more lines are refused",
+            made.refused - MOST_SAID
+        );
     }
-    let n = program_files::within(&list, got.used);
-    if n == 0 {
-        program_files::fail(b"no text in the file\n");
-        end_refused();
-        return;
+    if made.refused > 0 {
+        return Ok(Ending::Refused);
     }
-    program_lines::say_list(got.texts, &list[..n]);
-    if out.len() != 0 {
-        if !write_out(rt, out, &list[..n], file, &names) {
-            program_files::fail(b"cannot write the list or its names\n");
-            return;
-        }
+    if made.list.is_empty() {
+        let _ = eprintln!(rt; "watch: no text in the file");
+        return Ok(Ending::Refused);
     }
-    program_files::end_line(rules::PASSED);
+    say_list(rt, made.texts, made.list.as_slice());
+    if let Some(out) = out {
+        let names = made.names_text(rt.alloc())?;
+        write_out(rt, out, made.list.as_slice(), names.as_str())?;
+    }
+    Ok(Ending::Passed)
+}
+
+// Reads a file of texts, and compiles it.
+fn compile_file(rt: &HostRuntime, path: &str, out: Option<&str>) -> Result<Ending, Failure> {
+    let file = program_files::read_texts(rt, path)?;
+    if file.is_empty() {
+        return Err(Failure::NotRead);
+    }
+    if file.len() > program_files::MOST_TEXTS {
+        return Err(Failure::TooLong);
+    }
+    if list::check_list(file.as_slice()) == rules::PASSED {
+        let _ = eprintln!(rt; "watch: the file is a list, and no file of texts");
+        return Ok(Ending::Refused);
+    }
+    compile_texts(rt, file.as_slice(), out)
 }
 
 // `watch compile FILE [OUT]`.
-pub fn compile_file(rt: &HostRuntime, path: &[u8], out: &[u8]) {
-    let mut file = program_files::texts_buffer();
-    let n = program_text::read_rules(rt, path, &mut file);
-    if n == 0 {
-        program_files::fail(b"the file is empty, or cannot be read\n");
-        return;
-    }
-    if program_files::MOST_TEXTS < n {
-        program_files::fail(b"the file has more than 1,048,576 bytes\n");
-        return;
-    }
-    if list::check_list(&file[..n]) == rules::PASSED {
-        program_files::fail(b"the file is a list, and no file of texts\n");
-        end_refused();
-        return;
-    }
-    compile_texts(rt, &file[..n], out);
+pub fn compile(rt: &HostRuntime, path: &str, out: Option<&str>) {
+    let _ = match compile_file(rt, path, out) {
+        Ok(ending) => println!(rt; "{ending}"),
+        Err(failure) => eprintln!(rt; "watch: {failure}"),
+    };
 }

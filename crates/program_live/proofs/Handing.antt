@@ -6,7 +6,7 @@ use Rattle.program_text.specs.declared.Taken.{Taken}
 use Rattle.program_text.proofs.Texts.{puts_none, puts-after, puts_whole}
 use Rattle.program_text.proofs.Handed.{handed-at}
 use Rattle.program_turn.specs.State.{state_size, fresh_state}
-use Rattle.program_turn.specs.Turn.{Turn, turn_of, open_turn, Says}
+use Rattle.program_turn.specs.Turn.{Turn, turn_of, open_turn, comes, number_in, is_last, saves_next, Says}
 use Rattle.program_live.specs.Live.{Unit, no_unit_yet, next_of, less_by, less_of, most_turns, texts_from, texts, Stands}
 use Rattle.program_turn.specs.declared.Said as said
 use Rattle.program_live.specs.declared.Unit as unit
@@ -37,6 +37,9 @@ module _ (keeping : Bool) (L B answers : List ℕ) (saving₀ : Bool) (S₀ log�
       let q = puts_none log₀ begun l in
       record { here = no_unit_yet; stands = s; running = record { sofar = []; logged = (omega arith, q.1, q.2, q.3); ahead = refl } }
 
+  pub begins : (r : unit.Unit) (array : List ℕ) (n i : ℕ) → n ≡ most → i ≡ texts₀ → Stands no_unit_yet r array → begun ≤ length log₀ → Standing saving₀ S₀ log₀ r array n i begun
+  begins r array n i e f s l = rw (e, f) (standing r array s l)
+
   -- no turn is left: that was all
   pub finished : (saving : Bool) (S log : List ℕ) (r : unit.Unit) (array : List ℕ) (n i end : ℕ) → n ≡ 0 → Standing saving S log r array n i end
       → Puts (length all_handed) all_handed log₀ begun end log
@@ -49,7 +52,7 @@ module _ (keeping : Bool) (L B answers : List ℕ) (saving₀ : Bool) (S₀ log�
   -- a turn
   module _ (fits : begun + length all_handed ≤ length log₀) (saving : Bool) (S log : List ℕ) (u : Unit) (n m i end : ℕ) (count : n ≡ suc m) (r : Running saving S log u n i end)
       (v : unit.Unit) (array : List ℕ) (stands : Stands (next_of B saving u) v array) (s : said.Said) (buffer sv : List ℕ)
-      (says : Says (turn_of keeping saving L S v.more v.start (take (v.to - v.from) (drop v.from array))) s buffer sv) where
+      (says : Says (turn_of keeping saving L S (comes v.start) (number_in v.start) (take (v.to - v.from) (drop v.from array))) s buffer sv) where
     abbrev g : Unit
     g = next_of B saving u
 
@@ -91,7 +94,7 @@ module _ (keeping : Bool) (L B answers : List ℕ) (saving₀ : Bool) (S₀ log�
       over e = let w : all_handed ≡ r.sofar ++ text = split ∙ rw e (append-nil (r.sofar ++ text)) in rw w more
 
       -- the last text: that was all
-      pub over_last : s.last ≡ true → Puts (length all_handed) all_handed log₀ begun k.end left
+      pub over_last : is_last s.next ≡ true → Puts (length all_handed) all_handed log₀ begun k.end left
       unfolding joined handed
       over_last z = over (rw (sym says_so.last ∙ z) (go (is_cut (get_or answers i 0))))
         where
@@ -105,8 +108,8 @@ module _ (keeping : Bool) (L B answers : List ℕ) (saving₀ : Bool) (S₀ log�
       over-cut z = over (rw (sym takes.cut ∙ z))
 
       -- else the run goes on
-      pub goes_on : s.last ≡ false → k.cut ≡ false → (w : unit.Unit) → w ≡ less_of v s.done
-          → Standing s.saving sv left w array m (i + 1) k.end
+      pub goes_on : is_last s.next ≡ false → k.cut ≡ false → (w : unit.Unit) → w ≡ less_of v s.done
+          → Standing (saves_next s.next) sv left w array m (i + 1) k.end
       goes_on y z w e =
           record {
             here = less_by s.done g;
@@ -119,6 +122,10 @@ module _ (keeping : Bool) (L B answers : List ℕ) (saving₀ : Bool) (S₀ log�
                 };
           }
 
+      pub goes : is_last s.next ≡ false → k.cut ≡ false → (w : unit.Unit) → w ≡ less_of v s.done → (b : Bool) → b ≡ saves_next s.next → (j : ℕ) → j ≡ i + 1
+          → Standing b sv left w array m j k.end
+      goes y z w e b f j h = rw (f, h) (goes_on y z w e)
+
 -- ---- the opening, whose text is the first
 
 module _ (keeping : Bool) (kind : ℕ) (L B answers log S : List ℕ) (fresh : S ≡ fresh_state L kind (replicate state_size 0)) (s : said.Said) (buffer Q : List ℕ)
@@ -129,12 +136,12 @@ module _ (keeping : Bool) (kind : ℕ) (L B answers log S : List ℕ) (fresh : S
 
   -- the texts behind it that are handed over
   abbrev later : Bool → Bool → List (List ℕ)
-  later cut last = cond cut [] (handed (cond last [] (texts_from most_turns keeping L B s.saving Q no_unit_yet)) (drop 1 answers))
+  later cut last = cond cut [] (handed (cond last [] (texts_from most_turns keeping L B (saves_next s.next) Q no_unit_yet)) (drop 1 answers))
 
   abbrev all : List ℕ
   all = joined (handed (texts keeping kind L B) answers)
 
-  begun-split : all ≡ first ++ joined (later (is_cut (get_or answers 0 0)) s.last)
+  begun-split : all ≡ first ++ joined (later (is_cut (get_or answers 0 0)) (is_last s.next))
   unfolding texts joined
   begun-split =
       ap joined (handed-at t.text (cond t.last [] (texts_from most_turns keeping L B t.saving t.saved no_unit_yet)) answers 0)
@@ -146,19 +153,19 @@ module _ (keeping : Bool) (kind : ℕ) (L B answers log S : List ℕ) (fresh : S
       q : Says t s buffer Q
       q = rw fresh at says
 
-  begun-long : length all ≡ length first + length (joined (later (is_cut (get_or answers 0 0)) s.last))
-  begun-long = ap length begun-split ∙ length-append first (joined (later (is_cut (get_or answers 0 0)) s.last))
+  begun-long : length all ≡ length first + length (joined (later (is_cut (get_or answers 0 0)) (is_last s.next)))
+  begun-long = ap length begun-split ∙ length-append first (joined (later (is_cut (get_or answers 0 0)) (is_last s.next)))
 
   begun-takes : 0 + length all ≤ length log → Takes first answers 0 log 0 k left
   begun-takes l = takes (omega (arith, l, begun-long))
 
-  begun-over : 0 + length all ≤ length log → joined (later (is_cut (get_or answers 0 0)) s.last) ≡ [] → Puts (length all) all log 0 k.end left
+  begun-over : 0 + length all ≤ length log → joined (later (is_cut (get_or answers 0 0)) (is_last s.next)) ≡ [] → Puts (length all) all log 0 k.end left
   begun-over l e =
       let w : all ≡ first = begun-split ∙ rw e (append-nil first) in
       rw w (begun-takes l).puts
 
   -- the list is refused, or the text is cut: that was all
-  pub begun-last : s.last ≡ true → Logs 0 (handed (texts keeping kind L B) answers) log k.end left
+  pub begun-last : is_last s.next ≡ true → Logs 0 (handed (texts keeping kind L B) answers) log k.end left
   unfolding joined handed
   begun-last z l = begun-over l (rw z (go (is_cut (get_or answers 0 0))))
     where
@@ -171,11 +178,11 @@ module _ (keeping : Bool) (kind : ℕ) (L B answers log S : List ℕ) (fresh : S
   begun-cut z l = begun-over l (rw (sym (begun-takes l).cut ∙ z))
 
   -- else the run's texts follow
-  pub begun-then : s.last ≡ false → k.cut ≡ false → (end : ℕ) (after : List ℕ)
-      → Logs k.end (handed (texts_from most_turns keeping L B s.saving Q no_unit_yet) (drop 1 answers)) left end after → Logs 0 (handed (texts keeping kind L B) answers) log end after
+  pub begun-then : is_last s.next ≡ false → k.cut ≡ false → (end : ℕ) (after : List ℕ)
+      → Logs k.end (handed (texts_from most_turns keeping L B (saves_next s.next) Q no_unit_yet) (drop 1 answers)) left end after → Logs 0 (handed (texts keeping kind L B) answers) log end after
   begun-then y z end after h l =
       let t = begun-takes l in
-      let rest = joined (handed (texts_from most_turns keeping L B s.saving Q no_unit_yet) (drop 1 answers)) in
+      let rest = joined (handed (texts_from most_turns keeping L B (saves_next s.next) Q no_unit_yet) (drop 1 answers)) in
       let w : all ≡ first ++ rest = begun-split ∙ rw (y, sym t.cut ∙ z) in
       let n : length all ≡ length first + length rest = ap length w ∙ length-append first rest in
       let q = h (omega (arith, l, n, t.puts.0, t.puts.3)) in

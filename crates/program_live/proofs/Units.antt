@@ -1,5 +1,5 @@
 -- Laws of what is read: a unit of a recording, what is left of it, and the next one. Assumes nothing.
-use Rattle.std.proofs.Common.{◌≡◌, ℕ, suc, ◌+◌, ◌-◌, ◌<◌, ◌≤◌, Bool, true, false, List, length, take, drop, sym, refl, ap, ◌∙◌, lt_of_not-le, arith, length-drop, drop_of_length-le, length-take, drop-drop, le-ltb, lt-ltb, eq-eqb, ne_eqb, le-leb}
+use Rattle.std.proofs.Common.{◌≡◌, ℕ, suc, Some, ◌+◌, ◌-◌, ◌<◌, ◌≤◌, Bool, true, false, List, length, take, drop, sym, refl, ap, ◌∙◌, lt_of_not-le, arith, length-drop, drop_of_length-le, length-take, drop-drop, le-ltb, lt-ltb, eq-eqb, ne_eqb, le-leb}
 use native.Mathlib.Decide.{dec_lt}
 use borrow.Author.Tests.{lt-leb}
 use Rattle.numbers.proofs.Laws.{drop-take}
@@ -17,7 +17,7 @@ unit-none B at r array a e l =
 
 pub unit-is : (B : List ℕ) (at n start m to : ℕ) (array left : List ℕ) → n ≡ size_at B at → at + 6 + n ≤ length B → start ≡ short_at B at → length array ≡ most_unit → n ≤ 65535
     → Puts m (take (at + 6 + n - (at + 6)) (drop (at + 6) B)) array 0 to left
-    → Stands (unit_at B at) (record { more = true; start = start; from = 0; to = to; at = at + 6 + n }) left
+    → Stands (unit_at B at) (record { start = Some start; from = 0; to = to; at = at + 6 + n }) left
 unfolding unit_at
 unit-is B at n start m to array left e l s a b p =
     let d : at + 6 + n - (at + 6) ≡ n = omega arith in

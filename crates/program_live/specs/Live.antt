@@ -1,9 +1,11 @@
 -- A run: what is read, the texts of an undisturbed run from a state on, and from the opening on.
-use Rattle.std.specs.Prelude.{◌≡◌, ℕ, zero, suc, ◌+◌, ◌-◌, ◌%◌, ◌≤◌, Bool, true, false, cond, List, [], ◌∷◌, length, take, drop, replicate, ◌==◌, nat_le, nat_lt}
+use Rattle.std.specs.Prelude.{◌≡◌, ℕ, zero, suc, ⊤, Some, None, ◌+◌, ◌-◌, ◌%◌, ◌≤◌, Bool, true, false, cond, List, [], ◌∷◌, length, take, drop, replicate, ◌==◌, nat_le, nat_lt}
 use Rattle.numbers.specs.Number.{num}
 use Rattle.program_turn.specs.State.{state_size, short_at, fresh_state}
-use Rattle.program_turn.specs.Turn.{most_unit, head_size, turn_of, open_turn}
+use Rattle.program_turn.specs.Turn.{most_unit, head_size, turn_of, open_turn, comes, number_in}
 use Rattle.program_live.specs.declared.Unit as code
+use Rattle.program_live.specs.declared.Ends.{Ends}
+use Rattle.program_live.specs.declared.Ends.TheVariants.{Files, Arrays}
 
 -- ---- what is read
 
@@ -64,20 +66,25 @@ texts keeping kind L B =
 
 -- no unit; nothing left; n bytes more are done with, or all that are left
 abbrev pub none_at : ℕ → code.Unit
-none_at at = record { more = false; start = 0; from = 0; to = 0; at = at }
+none_at at = record { start = None; from = 0; to = 0; at = at }
 
 abbrev pub none_left : code.Unit
-none_left = record { more = true; start = 0; from = 0; to = 0; at = 0 }
+none_left = record { start = Some 0; from = 0; to = 0; at = 0 }
 
 abbrev pub less_of : code.Unit → ℕ → code.Unit
-less_of u n = record { more = u.more; start = u.start; from = cond (nat_lt (u.to - u.from) n) u.to (u.from + n); to = u.to; at = u.at }
+less_of u n = record { start = u.start; from = cond (nat_lt (u.to - u.from) n) u.to (u.from + n); to = u.to; at = u.at }
 
 -- the code's unit is u, whose bytes stand in the array
 pub record Stands (u : Unit) (r : code.Unit) (array : List ℕ) : Type 0 where
-  pub more : r.more ≡ u.more
-  pub start : r.start ≡ u.start
+  pub more : comes r.start ≡ u.more
+  pub start : number_in r.start ≡ u.start
   pub at : r.at ≡ u.at
   pub full : length array ≡ most_unit
   pub inside : r.from ≤ r.to
   pub short : r.to ≤ most_unit
   pub bytes : take (r.to - r.from) (drop r.from array) ≡ u.bytes
+
+-- what holds of a run on arrays, by its recording and the answers of the writes; of one on files nothing is said
+abbrev pub OnArrays : Ends → (List ℕ → List ℕ → Type 0) → Type 0
+OnArrays (Files r) P = ⊤
+OnArrays (Arrays input answers) P = P input.now answers.now

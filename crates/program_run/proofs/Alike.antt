@@ -1,5 +1,5 @@
 -- On records that stand alike, a feed by an engine that is checked for the list answers as the plain feed, and leaves records that stand alike. Assumes nothing.
-use Prim.Native.Nat.{ℕ, zero, suc, ◌+◌, ◌≤◌}
+use Prim.Native.Nat.{ℕ, ◌+◌, ◌≤◌}
 use mathlib.Core.Path.{◌≡◌, refl, sym, ap, ◌∙◌}
 use mathlib.Core.List.{List}
 use native.Mathlib.Omega.{arith}
@@ -25,13 +25,15 @@ use Rattle.list_feed.proofs.Lawful.{list-passes, reached-lt}
 use Rattle.list_feed.proofs.Lawful as list
 use Rattle.matrix.proofs.Lawful as matrix
 use Rattle.index.proofs.Lawful as index
-use Rattle.program_run.specs.Run.{means_of, Alike}
+use Rattle.program_run.specs.declared.By.{By}
+use Rattle.program_run.specs.declared.By.TheVariants.{Plain, Matrix, Index}
+use Rattle.program_run.specs.Run.{means_by, Alike}
 
 -- each engine is lawful
-pub lawful-of : (n : ℕ) (S X : List ℕ) (h : ℕ) → Lawful list_automata (means_of n S X h)
-lawful-of zero S X h = list.lawful
-lawful-of (suc zero) S X h = matrix.lawful X
-lawful-of (suc (suc n)) S X h = index.lawful 1 (λ F. 1) (λ F. omega arith) S X h
+pub lawful-of : (by : By) (S X : List ℕ) (h : ℕ) → Lawful list_automata (means_by by S X h)
+lawful-of Plain S X h = list.lawful
+lawful-of (Matrix n) S X h = matrix.lawful (take n X)
+lawful-of (Index m n) S X h = index.lawful 1 (λ F. 1) (λ F. omega arith) (take m S) (take n X) h
 
 -- ---- where a feed of the automaton that no rule refuses ends, at any cost
 

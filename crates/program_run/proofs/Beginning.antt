@@ -9,12 +9,12 @@ use Rattle.feed.specs.Opening.{Opening}
 use Rattle.feed.proofs.Opening.{opens, opening-refusal}
 use Rattle.list_flow.specs.Opening.{open_pairs, open_rules, opened, open_flow}
 use Rattle.program.specs.declared.Said.{Said}
-use Rattle.program.specs.App.{Turn, open_turn, no_words, no_record, Says}
+use Rattle.program.specs.App.{Turn, open_turn, no_words, no_record, is_last, Says}
 use Rattle.program.proofs.Feeding.{open-by}
 use Rattle.program_run.specs.Run.{Alike}
 use Rattle.program_run.proofs.Readying.{alike-opened}
 
-pub begun-alike : (L : List ℕ) (s : Said) (buffer Q : List ℕ) → Says (open_turn L no_record) s buffer Q → s.last ≡ false → Alike L Q Q
+pub begun-alike : (L : List ℕ) (s : Said) (buffer Q : List ℕ) → Says (open_turn L no_record) s buffer Q → is_last s.next ≡ false → Alike L Q Q
 begun-alike L s buffer Q says l = go (eqb p.refusal 0) refl
   where
     p : Opening

@@ -1,5 +1,5 @@
 -- A run by any engine beside 01's program: which engine it goes by, that it is checked for the list, and when two records stand alike.
-use Rattle.std.specs.Prelude.{ℕ, zero, suc, ◌≤◌, ◌≡◌, false, List, length, take}
+use Rattle.std.specs.Prelude.{ℕ, zero, ◌≤◌, ◌≡◌, false, List, length, take}
 use Rattle.feed.specs.Engine.{Outcome}
 use Rattle.feed.specs.Calls.{fed_by}
 use Rattle.feed.specs.Lawful.{Means, way_by, Reached}
@@ -10,26 +10,28 @@ use Rattle.index.specs.Means.{stand_means}
 use Rattle.program.specs.declared.Said.{Said}
 use Rattle.program.specs.App.{Turn, Says}
 use Rattle.program_run.specs.declared.By.{By}
+use Rattle.program_run.specs.declared.By.TheVariants.{Plain, Matrix, Index}
 
--- the engine of a number: 0 the list, 1 the matrix X, from 2 on the splits S with the index X from split h, at one row a byte
-abbrev pub means_of : ℕ → List ℕ → List ℕ → ℕ → Means (List ℕ) ℕ
-means_of zero S X h = list_means
-means_of (suc zero) S X h = matrix_means X
-means_of (suc (suc n)) S X h = stand_means 1 (λ F. 1) S X h
-
--- that of a run: it uses the fronts of the two places
-abbrev pub means_by : By → List ℕ → List ℕ → Means (List ℕ) ℕ
-means_by by S X = means_of by.engine (take by.splits S) (take by.index X) by.hint
+-- that of a run, over the fronts of the splits S and the index X that it uses, from split h, at one row a byte: the list, the matrix, or the index
+abbrev pub means_by : By → List ℕ → List ℕ → ℕ → Means (List ℕ) ℕ
+means_by Plain S X h = list_means
+means_by (Matrix n) S X h = matrix_means (take n X)
+means_by (Index m n) S X h = stand_means 1 (λ F. 1) (take m S) (take n X) h
 
 -- what a feed by it answers and leaves
-abbrev pub fed_of : List ℕ → By → List ℕ → List ℕ → List ℕ → ℕ → List ℕ → List ℕ → Outcome
-fed_of L by S X R at piece out = fed_by (way_by list_automata (means_by by S X) L) R at piece out
+abbrev pub fed_of : List ℕ → By → List ℕ → List ℕ → ℕ → List ℕ → ℕ → List ℕ → List ℕ → Outcome
+fed_of L by S X h R at piece out = fed_by (way_by list_automata (means_by by S X h) L) R at piece out
+
+-- it stands in its places
+abbrev pub Fits : By → List ℕ → List ℕ → Type 0
+Fits Plain S X = zero ≤ length X
+Fits (Matrix n) S X = n ≤ length X
+Fits (Index m n) S X = (m ≤ length S) × (n ≤ length X)
 
 -- what a run goes by stands in its places and is checked for the list, from any split
 pub record Readied (L S X : List ℕ) (by : By) : Type 0 where
-  pub splits : by.splits ≤ length S
-  pub index : by.index ≤ length X
-  pub checked : (h : ℕ) → (means_of by.engine (take by.splits S) (take by.index X) h).Checked L
+  pub fits : Fits by S X
+  pub checked : (h : ℕ) → (means_by by S X h).Checked L
 
 -- the record R of 01's program and the record Q of a run: one frontier, to which the automaton comes, one offset, and 4 takes the bytes of both
 pub record Alike (L R Q : List ℕ) : Type 0 where

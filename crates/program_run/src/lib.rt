@@ -2,17 +2,19 @@
 // the place of the index, else by the list. The opening's lines come first, then the list is prepared, then the input is read.
 // What is handed over is what 01's program (app) hands over, to the byte, for every list, every input and all answers of the writes: each engine answers as
 // the plain feed does, and the record that it leaves stands where the plain one does, but for the rows.
+// It has no heap, as `program` has none.
 #![tactic(auto)]
 
-ghost use Rattle.std.specs.Prelude.{◌≡◌, false, List, ℕ, suc, ◌<◌, ◌≤◌, length, take, drop};
+ghost use Rattle.std.specs.Prelude.{◌≡◌, List, ℕ, suc, ◌≤◌, length, take, drop, IfSome};
 ghost use Rattle.feed.specs.Fed.{Answers};
 ghost use Rattle.matrix.specs.Matrix.{filled};
-ghost use Rattle.program_text.specs.Hand.{handed, Logs};
+ghost use Rattle.program_text.specs.Hand.{handed, Logs, OnArrays};
 ghost use Rattle.program.specs.App.{text_size, piece_size, turn_of, texts_from, texts};
-ghost use Rattle.program_run.specs.Run.{fed_of, Readied, Alike, Spoken};
+ghost use Rattle.program_run.specs.Run.{fed_of, Fits, Readied, Alike, Spoken};
 
 use index_feed::Stood;
 use program::Said;
+use program_text::{Ends, STANDARD};
 
 // Words of the pairs buffer: room for 1,024 pairs, four times what one byte can tell.
 const PAIR_WORDS: usize = 2048;
@@ -20,20 +22,12 @@ const PAIR_WORDS: usize = 2048;
 // Bytes of a piece of the input.
 const PIECE: usize = 4096;
 
-// The engines: by the list, by its matrix, by its index.
-const BY_LIST: u8 = 0;
-
-const BY_MATRIX: u8 = 1;
-
-const BY_INDEX: u8 = 2;
-
-// By what a run goes: the engine, how many bytes of each place it uses, and the split where the flow may stand.
-#[derive(Clone, Copy)]
-struct By {
-    engine: u8,
-    splits: usize,
-    index: usize,
-    hint: usize,
+// By what a run goes: the list alone, its matrix or its index, and how many bytes of the two places these take.
+#[derive(Clone, Copy, PartialEq, Eq, Debug)]
+enum By {
+    Plain,
+    Matrix { index: usize },
+    Index { splits: usize, index: usize },
 }
 
 // What a turn says, and the split where the flow then stands.
@@ -43,20 +37,20 @@ struct Spoke {
     split: usize,
 }
 
-// Fills the matrix of a list into the front of a place; answers its bytes, 0 where it has not the room or the list is refused.
-fn fill_matrix(list: &[u8], index: &mut [u8]) -> usize
-    ensures { (length index.new ≡ length index.old) × (result ≤ length index.new)
-        × (0 < result → take result index.new ≡ filled list.now) }
+// Fills the matrix of a list into the front of a place; answers its bytes, none where it has not the room or the list is refused.
+fn fill_matrix(list: &[u8], index: &mut [u8]) -> Option<usize>
+    ensures { (length index.new ≡ length index.old)
+        × IfSome result (λ m. (m ≤ length index.new) × (take m index.new ≡ filled list.now)) }
 {
     let m = matrix::ROW_SIZE * list::state_count(list);
     if index.len() < m {
-        return 0;
+        return None;
     }
     let refusal = matrix::fill(list, &mut index[..m]);
     if refusal != rules::PASSED {
-        return 0;
+        return None;
     }
-    m
+    Some(m)
 }
 
 // Readies the fastest engine that a list admits.
@@ -65,71 +59,47 @@ fn ready(list: &[u8], splits: &mut [u8], index: &mut [u8]) -> By
 {
     let made = index_prepare::prepare(list, splits, index);
     if made.refusal == rules::PASSED {
-        return By {
-            engine: BY_INDEX,
+        return By::Index {
             splits: made.splits,
             index: made.index,
-            hint: 0,
         };
     }
-    let m = fill_matrix(list, index);
-    if m != 0 {
-        return By {
-            engine: BY_MATRIX,
-            splits: 0,
-            index: m,
-            hint: 0,
-        };
-    }
-    By {
-        engine: BY_LIST,
-        splits: 0,
-        index: 0,
-        hint: 0,
+    match fill_matrix(list, index) {
+        Some(m) => By::Matrix { index: m },
+        None => By::Plain,
     }
 }
 
-// The same engine, from another split.
-fn from_split(by: By, split: usize) -> By
-    ensures { result ≡ record { engine = by.engine; splits = by.splits; index = by.index; hint = split } }
-{
-    By {
-        engine: by.engine,
-        splits: by.splits,
-        index: by.index,
-        hint: split,
-    }
-}
-
-// Feeds a piece by an engine.
+// Feeds a piece by an engine, from the split where the flow may stand.
 fn feed_by(
     list: &[u8],
     by: By,
     splits: &[u8],
     index: &[u8],
+    split: usize,
     flow: &mut [u8],
     offset: u64,
     rest: &[u8],
     out: &mut [u32],
 ) -> Stood
-    requires { (by.splits ≤ length splits.now) × (by.index ≤ length index.now) }
-    ensures { Answers (fed_of list.now by splits.now index.now flow.old offset rest.now out.old)
+    requires { Fits by splits.now index.now }
+    ensures { Answers (fed_of list.now by splits.now index.now split flow.old offset rest.now out.old)
         result.fed out.new flow.new }
 {
-    if by.engine == BY_LIST {
-        let fed = list_feed::feed(list, flow, offset, rest, out);
-        return Stood { fed: fed, split: 0 };
-    }
-    let n = by.index;
-    if by.engine == BY_MATRIX {
-        let stepped = matrix::feed(list, &index[..n], flow, offset, rest, out);
-        return Stood {
-            fed: stepped,
+    match by {
+        By::Plain => Stood {
+            fed: list_feed::feed(list, flow, offset, rest, out),
             split: 0,
-        };
+        },
+        By::Matrix { index: n } => Stood {
+            fed: matrix::feed(list, &index[..n], flow, offset, rest, out),
+            split: 0,
+        },
+        By::Index {
+            splits: m,
+            index: n,
+        } => index_feed::feed(&splits[..m], &index[..n], split, flow, offset, rest, out),
     }
-    let m = by.splits;
-    index_feed::feed(&splits[..m], &index[..n], by.hint, flow, offset, rest, out)
 }
 
 // Feeds what is left of a piece once, and puts the lines of its pairs; where nothing is left, or the feed is refused, it puts the last line.
@@ -138,6 +108,7 @@ fn turn(
     by: By,
     splits: &[u8],
     index: &[u8],
+    split: usize,
     flow: &mut [u8],
     offset: u64,
     rest: &[u8],
@@ -149,8 +120,7 @@ fn turn(
 {
     if rest.len() == 0 {
         let ended = Said {
-            last: true,
-            bytes: 0,
+            next: None,
             length: program_text::put_last(text, rules::PASSED, offset),
         };
         return Spoke {
@@ -159,11 +129,10 @@ fn turn(
         };
     }
     let mut out = [0u32; PAIR_WORDS];
-    let stood = feed_by(list, by, splits, index, flow, offset, rest, &mut out);
+    let stood = feed_by(list, by, splits, index, split, flow, offset, rest, &mut out);
     if stood.fed.refusal != rules::PASSED {
         let refused = Said {
-            last: true,
-            bytes: 0,
+            next: None,
             length: program_text::put_last(text, stood.fed.refusal, offset),
         };
         return Spoke {
@@ -172,8 +141,7 @@ fn turn(
         };
     }
     let told = Said {
-        last: false,
-        bytes: stood.fed.bytes,
+        next: Some(stood.fed.bytes),
         length: program_text::put_pairs(text, &out, stood.fed.pairs),
     };
     Spoke {
@@ -184,7 +152,7 @@ fn turn(
 
 // Runs from an opened flow on, whose text was the first: each turn's text is handed over, up to the last one or the first that is cut. Answers where the log ends.
 fn run(
-    outside: bool,
+    ends: Ends<'_>,
     list: &[u8],
     by: By,
     splits: &[u8],
@@ -192,115 +160,82 @@ fn run(
     flow: &mut [u8],
     piece: &mut [u8],
     text: &mut [u8],
-    input: &[u8],
-    answers: &[u8],
     log: &mut [u8],
     begun: usize,
 ) -> usize
     requires { Readied list.now splits.now index.now by × Alike list.now flow.old flow.old × (length piece.old ≡ piece_size) × (text_size ≤ length text.old) × (begun ≤ length log.old) }
-    ensures { outside ≡ false
-        → Logs begun (handed (texts_from (suc (length input.now)) list.now input.now flow.old 0) (drop 1 answers.now))
-        log.old result log.new }
+    ensures { OnArrays ends.entry (λ input answers.
+        Logs begun (handed (texts_from (suc (length input)) list.now input flow.old 0) (drop 1 answers)) log.old result log.new) }
 {
     let mut offset: u64 = 0;
     let mut n: usize = 0;
     let mut i: usize = 1;
     let mut split: usize = 0;
     let mut end = begun;
+    // A loop, since how many turns there are is not known before.
     loop {
-        n = program::read_piece(outside, input, offset, piece, n);
+        n = program::read_piece(ends, offset, piece, n);
         let from = (offset % PIECE as u64) as usize;
         let spoke = turn(
             list,
-            from_split(by, split),
+            by,
             splits,
             index,
+            split,
             flow,
             offset,
             &piece[from..n],
             text,
         );
-        let taken = program_text::hand(
-            outside,
-            1,
-            &text[..spoke.said.length],
-            answers,
-            i,
-            log,
-            end,
-        );
+        let taken = program_text::hand(ends, &text[..spoke.said.length], i, log, end);
         end = taken.end;
-        if spoke.said.last {
+        let Some(bytes) = spoke.said.next else {
             return end;
-        }
+        };
         if taken.cut {
             return end;
         }
-        offset = offset + spoke.said.bytes as u64;
+        offset += bytes as u64;
         split = spoke.split;
-        i = i + 1;
+        i += 1;
     }
 }
 
 // Watches the input by a list, which is refused before any input is read; the two places are for what the engine needs. Answers where the log ends.
-fn watch(
-    outside: bool,
-    list: &[u8],
-    splits: &mut [u8],
-    index: &mut [u8],
-    input: &[u8],
-    answers: &[u8],
-    log: &mut [u8],
-) -> usize
-    ensures { outside ≡ false → Logs 0 (handed (texts list.now input.now) answers.now) log.old result log.new }
+fn watch(ends: Ends<'_>, list: &[u8], splits: &mut [u8], index: &mut [u8], log: &mut [u8]) -> usize
+    ensures { OnArrays ends.entry (λ input answers. Logs 0 (handed (texts list.now input) answers) log.old result log.new) }
 {
     let mut flow = [0u8; list_flow::FLOW_SIZE];
     let mut piece = io::buffer();
     let mut text = io::large_buffer();
     let said = program::begin(list, &mut flow, &mut text);
-    let taken = program_text::hand(outside, 1, &text[..said.length], answers, 0, log, 0);
+    let taken = program_text::hand(ends, &text[..said.length], 0, log, 0);
     let end = taken.end;
-    if said.last {
+    let Some(_) = said.next else {
         return end;
-    }
+    };
     if taken.cut {
         return end;
     }
     let by = ready(list, splits, index);
     run(
-        outside, list, by, splits, index, &mut flow, &mut piece, &mut text, input, answers, log,
-        end,
+        ends, list, by, splits, index, &mut flow, &mut piece, &mut text, log, end,
     )
 }
 
-// Zeros for the splits of a prepared list.
-fn splits_buffer() -> [u8; index_prepare::PREPARE_SPLITS]
-    ensures { 557056 ≡ length result }
+// Zeros for a place. Behind a call its length is known without its bytes.
+fn zeros<const N: usize>() -> [u8; N]
+    ensures { N ≡ length result }
 {
-    [0; index_prepare::PREPARE_SPLITS]
-}
-
-// Zeros for its index, or for a matrix.
-fn index_buffer() -> [u8; index_prepare::PREPARE_INDEX]
-    ensures { 4456576 ≡ length result }
-{
-    [0; index_prepare::PREPARE_INDEX]
+    [0; N]
 }
 
 // The program: watches standard input by the list of a path.
 pub fn start(rt: &HostRuntime, path: &[u8]) {
     let mut list = program_text::list_buffer();
     let n = program_text::read_rules(rt, path, &mut list);
-    let mut splits = splits_buffer();
-    let mut index = index_buffer();
+    let mut splits: [u8; index_prepare::PREPARE_SPLITS] = zeros();
+    let mut index: [u8; index_prepare::PREPARE_INDEX] = zeros();
     let mut log = [0u8; 1];
-    watch(
-        true,
-        &list[..n],
-        &mut splits,
-        &mut index,
-        b"",
-        b"",
-        &mut log,
-    );
+    watch(STANDARD, &list[..n], &mut splits, &mut index, &mut log);
 }

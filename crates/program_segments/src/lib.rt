@@ -4,5 +4,5 @@
 
 // The program.
 pub fn start(rt: &HostRuntime) {
-    program_live::recorded(rt, b"rules.bin");
+    program_live::watch_recorded(rt, "rules.bin");
 }

@@ -7,7 +7,7 @@ use native.Mathlib.Omega.{arith}
 use native.Mathlib.Nat.{one-le-pow, pow-suc}
 use native.Mathlib.Numerals.{add-one}
 use lib.ListN.{length, get_or, set, take, drop, length-append}
-use lib.Seq.{take_at, take-suc}
+use lib.Seq.{take_at}
 use lib.Dec.{ltb}
 use borrow.Author.Tests.{lt-ltb, le-ltb}
 use Rattle.io.specs.Digits.{last_digits, IsDigitCount}
@@ -51,15 +51,6 @@ puts-after m n xs ys text at next left last end l p q =
     let e : end ≡ placed text at (xs ++ ys) =
     q.2 ∙ ap (λ (t : List ℕ). placed t next ys) p.2 ∙ placed-after text at xs ys next p.0 (omega (arith, p.0, p.1, q.1)) in
     (omega (arith, p.0, q.0), omega (arith, p.1, q.1), e, q.3 ∙ p.3)
-
--- one more byte of a list
-pub puts-next : (xs text : List ℕ) (at i : ℕ) (left : List ℕ) → at + i < length text → i < length xs
-    → Puts i (take i xs) text at (at + i) left → Puts (i + 1) (take (i + 1) xs) text at (at + (i + 1)) (set left (at + i) (get_or xs i 0))
-puts-next xs text at i left l h p =
-    let e : at + (i + 1) ≡ at + i + 1 = omega arith in
-    let t : take (i + 1) xs ≡ take i xs ++ (get_or xs i 0 ∷ []) = ap (λ (k : ℕ). take k xs) (add-one i) ∙ take-suc xs i 0 h in
-    rw (e, t)
-    (puts-after i 1 (take i xs) (get_or xs i 0 ∷ []) text at (at + i) left _ _ (omega arith) p (puts-byte left (at + i) (get_or xs i 0) (omega (arith, p.3))))
 
 -- one more line
 pub puts-line : (ws text : List ℕ) (i at : ℕ) (left : List ℕ) (next : ℕ) (end : List ℕ) → line_size * (i + 1) ≤ length text

@@ -1,7 +1,9 @@
 -- Which of some texts are handed over, where a write may not be whole; and what handing a text over to a log does.
-use Rattle.std.specs.Prelude.{ℕ, ◌+◌, ◌≤◌, ◌≡◌, Bool, cond, List, [], ◌∷◌, ◌++◌, length, get_or, eqb}
+use Rattle.std.specs.Prelude.{ℕ, ⊤, ◌+◌, ◌≤◌, ◌≡◌, Bool, cond, List, [], ◌∷◌, ◌++◌, length, get_or, eqb}
 use Rattle.program_text.specs.Text.{Puts}
 use Rattle.program_text.specs.declared.Taken.{Taken}
+use Rattle.program_text.specs.declared.Ends.{Ends}
+use Rattle.program_text.specs.declared.Ends.TheVariants.{Descriptors, Arrays}
 
 -- ---- what is handed over
 
@@ -28,3 +30,8 @@ pub record Takes (text answers : List ℕ) (i : ℕ) (log : List ℕ) (end : ℕ
 -- the texts, where there is room for them all, stand at a place of a log, which ends at `end`
 abbrev pub Logs : ℕ → List (List ℕ) → List ℕ → ℕ → List ℕ → Type 0
 Logs at ts log end left = at + length (joined ts) ≤ length log → Puts (length (joined ts)) (joined ts) log at end left
+
+-- what holds of a run on arrays, by its input and the answers of the writes; of one on descriptors nothing is said
+abbrev pub OnArrays : Ends → (List ℕ → List ℕ → Type 0) → Type 0
+OnArrays (Descriptors input output) P = ⊤
+OnArrays (Arrays input answers) P = P input.now answers.now

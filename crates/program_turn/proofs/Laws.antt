@@ -1,5 +1,5 @@
 -- Laws of the state's parts, its checksum, and the texts of a turn. Assumes nothing.
-use Rattle.std.proofs.Common.{◌≡◌, ℕ, ◌+◌, ◌-◌, ◌*◌, ◌%◌, ◌<◌, ◌≤◌, Bool, true, false, eqb, List, [], ◌∷◌, ◌++◌, length, get_or, take, drop, sym, refl, ap, ◌∙◌, append_assoc, append-nil, add-one, arith, length-drop, drop_of_length-le, length-take, take-suc, eq-eqb, ne_eqb, le-leb}
+use Rattle.std.proofs.Common.{◌≡◌, ℕ, Option, Some, None, ◌+◌, ◌-◌, ◌*◌, ◌%◌, ◌<◌, ◌≤◌, Bool, true, false, eqb, List, [], ◌∷◌, ◌++◌, length, get_or, take, drop, sym, refl, ap, ◌∙◌, append_assoc, append-nil, add-one, arith, length-drop, drop_of_length-le, length-take, take-suc, eq-eqb, ne_eqb, le-leb}
 use lib.Seq.{take-length}
 use borrow.Author.Tests.{lt-leb}
 use Rattle.io.specs.Counts.{IsPrefixLen}
@@ -19,7 +19,7 @@ use Rattle.segment_feed.proofs.Looking.{segment-fits}
 use Rattle.program_text.specs.Text.{most_digits, line_size, decimal, line, last_line, Puts}
 use Rattle.program_text.proofs.Texts.{puts_none, puts-after, puts-less}
 use Rattle.program_turn.specs.State.{kept_state, whole_numbers, long_at, word_at, short_at, flow_of, held_of, flow_offset, kind_at, first_at, held_start_at, held_length_at, before_at, flow_at, held_at, near, plus_number, numbered, renew_on, sum_from}
-use Rattle.program_turn.specs.Turn.{Gives, Says, plain_given, segment_given, given_of, passed_of, over_of, lines_from, again_word, again_text, last_turn}
+use Rattle.program_turn.specs.Turn.{Gives, Says, plain_given, segment_given, given_of, passed_of, over_of, lines_from, again_word, again_of, sent_again, last_turn}
 use Rattle.program_turn.specs.declared.Given as given
 
 -- a part that is put over a whole array
@@ -64,14 +64,14 @@ puts-line-from before ws text i at left next end k l q p r =
 pub plus-is : (S : List ℕ) (at n v w : ℕ) (T : List ℕ) → v ≡ long_at S at → w ≡ (v + n) % whole_numbers → T ≡ placed S at (digits 8 8 w) → T ≡ plus_number S at n
 plus-is S at n v w T a b e = e ∙ rw (b, a)
 
-pub numbered-not : (start : ℕ) (S : List ℕ) (k : ℕ) → k ≡ word_at S kind_at → (k ≡ 1 → ⊥) → S ≡ numbered start S
+pub numbered-not : (start : ℕ) (S : List ℕ) (b : Bool) → b ≡ eqb (word_at S kind_at) 1 → b ≡ false → S ≡ numbered start S
 unfolding numbered
-numbered-not start S k e h = rw (ne_eqb (word_at S kind_at) 1 (λ y. h (e ∙ y)))
+numbered-not start S b e h = rw (sym e ∙ h)
 
-pub numbered_is : (start : ℕ) (S : List ℕ) (k : ℕ) (T U : List ℕ) → k ≡ word_at S kind_at → k ≡ 1 → T ≡ placed S first_at (digits 8 4 start)
-    → U ≡ placed T kind_at (digits 8 4 2) → U ≡ numbered start S
+pub numbered_is : (start : ℕ) (S : List ℕ) (b : Bool) (n : ℕ) (T U : List ℕ) → b ≡ eqb (word_at S kind_at) 1 → b ≡ true → n ≡ 2 → T ≡ placed S first_at (digits 8 4 start)
+    → U ≡ placed T kind_at (digits 8 4 n) → U ≡ numbered start S
 unfolding numbered
-numbered_is start S k T U e h t u = rw (eq-eqb (word_at S kind_at) 1 (sym e ∙ h)) (u ∙ rw t)
+numbered_is start S b n T U e h m t u = rw (sym e ∙ h) (u ∙ rw (t, m))
 
 pub kept-is : (S flow held : List ℕ) (start n : ℕ) (T U Y W : List ℕ) → T ≡ placed S flow_at flow → U ≡ placed T held_at held
     → Y ≡ placed U held_start_at (digits 8 4 start) → W ≡ placed Y held_length_at (digits 8 4 n) → W ≡ kept_state S flow held start n
@@ -112,8 +112,8 @@ module _ (S F : List ℕ) (n : ℕ) (part : F ≡ take n (drop flow_at S)) (size
   -- ---- what is fed
 
   pub gives-plain : (L rest out ws Q T : List ℕ) (f : Fed) → Answers (plain_feed L F o rest out) f ws Q → T ≡ placed S flow_at Q
-      → Gives (plain_given L S rest out) (record { refusal = f.refusal; pairs = f.pairs; done = f.bytes; moved = f.bytes; again = false }) ws T
-  gives-plain L rest out ws Q T f a t =
+      → (start : ℕ) → Gives (plain_given L S rest out) start (record { refusal = f.refusal; pairs = f.pairs; done = f.bytes; moved = f.bytes; again = None }) ws T
+  gives-plain L rest out ws Q T f a t start =
       let b : Answers (plain_feed L (flow_of S) (offset_of (flow_of S)) rest out) f ws Q = rw (reads-it, whole) at a in
       let e = each-feed (plain_way L) (flow_of S) (offset_of (flow_of S)) rest out in
       record {
@@ -132,9 +132,9 @@ pub gives-segment : (L S F H : List ℕ) (n m : ℕ) → F ≡ take n (drop flow
     → (first place len start : ℕ) → first ≡ short_at S first_at → place ≡ short_at S held_start_at → len ≡ short_at S held_length_at
     → (bytes out ws Q J T : List ℕ) (h : Heard) → Hears (plain_segment L (sent first start bytes) (kept F H place len) out) h ws Q J
     → T ≡ kept_state S Q J h.start h.length → (p d v : ℕ) → p ≡ passed_of h.refusal → d ≡ over_of h.all h.refusal (length bytes)
-    → v ≡ over_of h.all h.refusal (length bytes + 6)
-    → Gives (segment_given L S start bytes out) (record { refusal = p; pairs = h.pairs; done = d; moved = v; again = eqb h.refusal 18 }) ws T
-gives-segment L S F H n m f fn g gm first place len start a b c bytes out ws Q J T h k t p d v q r s =
+    → v ≡ over_of h.all h.refusal (length bytes + 6) → (again : Option ℕ) → again ≡ sent_again (eqb h.refusal 18) start
+    → Gives (segment_given L S start bytes out) start (record { refusal = p; pairs = h.pairs; done = d; moved = v; again = again }) ws T
+gives-segment L S F H n m f fn g gm first place len start a b c bytes out ws Q J T h k t p d v q r s again x =
     let F-is : F ≡ flow_of S = f ∙ rw fn in
     let H-is : H ≡ held_of S = g ∙ rw gm in
     let w : Hears (plain_segment L (sent (short_at S first_at) start bytes) (kept (flow_of S) (held_of S) (short_at S held_start_at) (short_at S held_length_at)) out) h ws Q J =
@@ -145,40 +145,38 @@ gives-segment L S F H n m f fn g gm first place len start a b c bytes out ws Q J
       pairs = w.pairs;
       done = r ∙ rw (w.all, w.refusal);
       moved = s ∙ rw (w.all, w.refusal);
-      again = ap (λ (n : ℕ). eqb n 18) w.refusal;
+      again = x ∙ ap (λ (n : ℕ). sent_again (eqb n 18) start) w.refusal;
       words = w.words;
       saved = t ∙ rw (w.flow, w.held, w.start, w.length);
       fits = omega (arith, w.pairs, ap length w.words, fits.0, fits.1);
     }
 
 -- by the kind of the line
-module _ (L S : List ℕ) (start : ℕ) (rest out ws T : List ℕ) (r : given.Given) (k : ℕ) (e : k ≡ word_at S kind_at) where
-  pub by-plain : k ≡ 0 → Gives (plain_given L S rest out) r ws T → Gives (given_of L S start rest out) r ws T
+module _ (L S : List ℕ) (start : ℕ) (rest out ws T : List ℕ) (r : given.Given) (b : Bool) (e : b ≡ eqb (word_at S kind_at) 0) where
+  pub by-plain : b ≡ true → Gives (plain_given L S rest out) start r ws T → Gives (given_of L S start rest out) start r ws T
   unfolding given_of
-  by-plain z g = rw (eq-eqb (word_at S kind_at) 0 (sym e ∙ z)) g
+  by-plain z g = rw (sym e ∙ z) g
 
-  pub by-segment : (k ≡ 0 → ⊥) → Gives (segment_given L S start rest out) r ws T → Gives (given_of L S start rest out) r ws T
+  pub by-segment : b ≡ false → Gives (segment_given L S start rest out) start r ws T → Gives (given_of L S start rest out) start r ws T
   unfolding given_of
-  by-segment z g = rw (ne_eqb (word_at S kind_at) 0 (λ y. z (e ∙ y))) g
+  by-segment z g = rw (sym e ∙ z) g
 
 -- ---- texts
 
-pub again-none : (text : List ℕ) (at start : ℕ) (told : Bool) → told ≡ false → at ≤ length text → Puts line_size (again_text told start) text at at text
-unfolding again_text
-again-none text at start told e l =
+pub again-none : (text : List ℕ) (at : ℕ) → at ≤ length text → Puts line_size [] text at at text
+again-none text at l =
     let z : at + 0 ≡ at = omega arith in
     let p = puts_none text at l in
-    rw e (sym z, omega arith, p.2, refl)
+    (sym z, omega arith, p.2, refl)
 
-pub again-line : (text : List ℕ) (at start : ℕ) (told : Bool) (m a b d : ℕ) (T U Y : List ℕ) → told ≡ true → at + line_size ≤ length text → m ≤ 6
-    → Puts m again_word text at a T → Puts most_digits (decimal start) T a b U → Puts 1 (10 ∷ []) U b d Y → Puts line_size (again_text told start) text at d Y
-unfolding again_text
-again-line text at start told m a b d T U Y e l k p q r =
+pub again-line : (text : List ℕ) (at start : ℕ) (m a b d : ℕ) (T U Y : List ℕ) → at + line_size ≤ length text → m ≤ 6
+    → Puts m again_word text at a T → Puts most_digits (decimal start) T a b U → Puts 1 (10 ∷ []) U b d Y → Puts line_size (again_of (Some start)) text at d Y
+again-line text at start m a b d T U Y l k p q r =
     let x = puts-after m most_digits again_word (decimal start) text at a T b U (omega (arith, l, k)) p q in
     let y = puts-after (m + most_digits) 1 (again_word ++ decimal start) (10 ∷ []) text at b U d Y (omega (arith, l, k)) x r in
-    rw (e, ← append_assoc again_word (decimal start) (10 ∷ [])) (puts-less (m + most_digits + 1) line_size ((again_word ++ decimal start) ++ (10 ∷ [])) text at d Y (omega (arith, k)) y)
+    rw (← append_assoc again_word (decimal start) (10 ∷ [])) (puts-less (m + most_digits + 1) line_size ((again_word ++ decimal start) ++ (10 ∷ [])) text at d Y (omega (arith, k)) y)
 
 -- the last line
 pub says_last : (S : List ℕ) (refusal at n : ℕ) (buffer : List ℕ) → at ≡ flow_offset S → IsPrefixLen n buffer → take n buffer ≡ last_line refusal at
-    → Says (last_turn refusal S) (record { last = true; saving = false; done = 0; length = n; again = false }) buffer S
+    → Says (last_turn refusal S) (record { length = n; next = None; done = 0; again = None }) buffer S
 says_last S refusal at n buffer e c t = record { last = refl; saving = refl; done = refl; counts = c; text = t ∙ rw e; saved = refl }

@@ -1,5 +1,5 @@
 -- One turn of a run: what feeding a unit gives, the text of its lines, and the state after it.
-use Rattle.std.specs.Prelude.{◌≡◌, ℕ, zero, suc, ◌+◌, ◌*◌, ◌%◌, ◌≤◌, Bool, true, false, cond, List, [], ◌∷◌, ◌++◌, length, take, replicate, ◌==◌, slice_index}
+use Rattle.std.specs.Prelude.{◌≡◌, ℕ, zero, suc, Option, Some, None, ◌+◌, ◌*◌, ◌%◌, ◌≤◌, Bool, true, false, cond, List, [], ◌∷◌, ◌++◌, length, take, replicate, ◌==◌, slice_index}
 use Rattle.io.specs.Counts.{IsPrefixLen}
 use Rattle.numbers.specs.Number.{placed}
 use Rattle.list_flow.specs.Flow.{flow_size, offset_of}
@@ -8,9 +8,13 @@ use Rattle.list_feed.specs.Plain.{plain_feed}
 use Rattle.segment_feed.specs.Ways.{plain_segment}
 use Rattle.segment_feed.specs.Post.{sent, kept}
 use Rattle.program_text.specs.Text.{decimal, line, line_size, last_line}
-use Rattle.program_turn.specs.State.{kept_state, whole_numbers, long_at, word_at, short_at, flow_of, held_of, flow_offset, kind_at, first_at, held_start_at, held_length_at, before_at, place_at, lines_at, flow_at, bytes_kind, plus_number, numbered, renew_on}
+use Rattle.program_turn.specs.State.{kept_state, whole_numbers, long_at, word_at, short_at, flow_of, held_of, flow_offset, kind_at, first_at, held_start_at, held_length_at, before_at, place_at, lines_at, flow_at, bytes_kind, segments_kind, numbered_kind, plus_number, numbered, renew_on}
 use Rattle.program_turn.specs.declared.Given as given
 use Rattle.program_turn.specs.declared.Said as said
+use Rattle.program_turn.specs.declared.Kind.{Kind}
+use Rattle.program_turn.specs.declared.Kind.TheVariants.{Bytes, Segments, Numbered}
+use Rattle.program_turn.specs.declared.Next.{Next}
+use Rattle.program_turn.specs.declared.Next.TheVariants.{Save, Feed}
 
 -- the most pairs of a turn; the most bytes of a unit, and what is recorded before them; the most bytes of a text
 abbrev pub most_pairs : ℕ
@@ -140,21 +144,64 @@ open_turn keeping L S =
 
 -- ---- what the code does
 
--- the code answers r, and leaves words and a state; the pairs fit the words
-pub record Gives (g : Given) (r : given.Given) (ws sv : List ℕ) : Type 0 where
+-- the number of a line's kind in a state
+abbrev pub number_of : Kind → ℕ
+number_of Bytes = bytes_kind
+number_of Segments = segments_kind
+number_of Numbered = numbered_kind
+
+-- a unit that is read has a number; none where no unit is
+abbrev pub comes : Option ℕ → Bool
+comes None = false
+comes (Some n) = true
+
+abbrev pub number_in : Option ℕ → ℕ
+number_in None = 0
+number_in (Some n) = n
+
+-- the number of a segment, where it has to be sent again
+abbrev pub sent_again : Bool → ℕ → Option ℕ
+sent_again again start = cond again (Some start) None
+
+-- what of it is told
+abbrev pub told_of : Bool → Option ℕ → Option ℕ
+told_of keeping again = cond keeping None again
+
+-- and the text of that
+abbrev pub again_of : Option ℕ → List ℕ
+again_of None = []
+again_of (Some start) = again_word ++ decimal start ++ (10 ∷ [])
+
+-- whether the state comes next
+abbrev pub saves : Next → Bool
+saves Save = true
+saves Feed = false
+
+-- whether a text is the last: nothing comes next
+abbrev pub is_last : Option Next → Bool
+is_last None = true
+is_last (Some n) = false
+
+-- whether the state does
+abbrev pub saves_next : Option Next → Bool
+saves_next None = false
+saves_next (Some n) = saves n
+
+-- the code answers r, and leaves words and a state; the pairs fit the words; the segment has the number `start`
+pub record Gives (g : Given) (start : ℕ) (r : given.Given) (ws sv : List ℕ) : Type 0 where
   pub refusal : r.refusal ≡ g.refusal
   pub pairs : r.pairs ≡ g.pairs
   pub done : r.done ≡ g.done
   pub moved : r.moved ≡ g.moved
-  pub again : r.again ≡ g.again
+  pub again : r.again ≡ sent_again g.again start
   pub words : ws ≡ g.words
   pub saved : sv ≡ g.saved
   pub fits : 2 * r.pairs ≤ length ws
 
 -- the code says s, with the text at the start of a buffer, and leaves the state `sv`: a turn
 pub record Says (t : Turn) (s : said.Said) (buffer sv : List ℕ) : Type 0 where
-  pub last : s.last ≡ t.last
-  pub saving : s.saving ≡ t.saving
+  pub last : is_last s.next ≡ t.last
+  pub saving : saves_next s.next ≡ t.saving
   pub done : s.done ≡ t.done
   pub counts : IsPrefixLen s.length buffer
   pub text : take s.length buffer ≡ t.text

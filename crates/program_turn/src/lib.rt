@@ -1,16 +1,18 @@
 // One turn of a live line or of a recorded one. What is known of a line is its state, bytes of one size: what list it goes by, the flow's record, the held
 // place, and three counts of 64 bits: the bytes before the last renewal, the place in the line, and the lines' length.
 // A turn feeds what one read gave, or one segment, and makes the text of its lines; where a state is kept the next turn's text is the state behind them.
+// A state is lent as a slice, and `turn`, `begin` and `fresh_state` ask that it has its size: an array's type in its place would ask more of callers.
+// Records, words and texts stand in arrays: so a turn can't run out of memory.
 #![tactic(auto)]
 
-ghost use Rattle.std.specs.Prelude.{◌≡◌, ◌+◌, ◌*◌, ◌%◌, ◌<◌, ◌≤◌, length, take, drop, replicate};
+ghost use Rattle.std.specs.Prelude.{◌≡◌, ◌==◌, ℕ, Bool, false, true, ◌+◌, ◌*◌, ◌%◌, ◌<◌, ◌≤◌, ◌++◌, length, take, drop, replicate, MatchOption};
 ghost use Rattle.io.specs.Counts.{IsPrefixLen};
 ghost use Rattle.numbers.specs.Number.{placed};
 ghost use Rattle.list_flow.specs.Flow.{flow_size};
 ghost use Rattle.segment.specs.Resend.{held_size};
-ghost use Rattle.program_text.specs.Text.{line_size, line, Puts};
-ghost use Rattle.program_turn.specs.State.{state_size, kept_state, whole_numbers, sum_of, short_at, flow_offset, plus_number, numbered, renew_on, is_state_of, fresh_state};
-ghost use Rattle.program_turn.specs.Turn.{most_pairs, most_unit, text_size, lines_from, again_text, turn_text, passed_of, over_of, is_end, is_told, plain_given, segment_given, given_of, last_turn, lines_turn, feed_turn, turn_of, open_turn, Gives, Says};
+ghost use Rattle.program_text.specs.Text.{line_size, Puts};
+ghost use Rattle.program_turn.specs.State.{state_size, kind_at, word_at, kept_state, whole_numbers, sum_of, short_at, flow_offset, plus_number, numbered, renew_on, is_state_of, fresh_state};
+ghost use Rattle.program_turn.specs.Turn.{number_of, most_pairs, most_unit, text_size, lines_from, again_of, sent_again, told_of, saves, comes, number_in, passed_of, over_of, is_end, plain_given, segment_given, given_of, last_turn, lines_turn, feed_turn, turn_of, open_turn, Gives, Says};
 
 // The places of the state: length and checksum of the list, the kind of the line, the held place, the number of the flow's first byte, the three counts, the
 // record, and the held buffer.
@@ -38,12 +40,8 @@ pub const FLOW_AT: usize = 64;
 
 pub const HELD_AT: usize = 208;
 
-// The kinds of a line: bytes; segments, of which none came yet; segments, and the first came.
-pub const OF_BYTES: u64 = 0;
-
-pub const SEGMENTS: u64 = 1;
-
-pub const NUMBERED: u64 = 2;
+// The largest number of a kind.
+const NUMBERED: u64 = 2;
 
 // From an offset past this one on a record is renewed before it is fed: a segment and the held bytes would come to the largest.
 const NEAR: u64 = 4294897664;
@@ -62,25 +60,40 @@ const PAIR_WORDS: usize = 2048;
 // What is recorded before a segment's bytes: its number, 4 bytes, and its length, 2 bytes.
 pub const HEAD: usize = 6;
 
-// What feeding a unit gave: a refusal's number or 0, the pairs told, the bytes that are done with, how far the place in the line moves, and whether the segment has to
-// be sent again.
+// The kind of a line: bytes; segments, of which none came yet; segments, and the first came.
+#[derive(Clone, Copy, PartialEq, Eq, Debug)]
+pub enum Kind {
+    Bytes,
+    Segments,
+    Numbered,
+}
+
+// What a turn does: it saves the state, or feeds a unit.
+#[derive(Clone, Copy, PartialEq, Eq, Debug)]
+pub enum Next {
+    Save,
+    Feed,
+}
+
+// What feeding a unit gave: a refusal's number or 0, the pairs told, the bytes that are done with, how far the place in the line moves, and the number of a segment
+// that has to be sent again.
 #[derive(Clone, Copy)]
 struct Given {
     refusal: u32,
     pairs: usize,
     done: usize,
     moved: usize,
-    again: bool,
+    again: Option<u32>,
 }
 
-// What a turn says: whether its text is the last, whether the state comes next, the bytes that are done with, and the length of the text.
+// What a turn says: the length of its text, what the next turn does, none where the text is the last, the bytes that are done with, and the number of a segment that
+// has to be sent again.
 #[derive(Clone, Copy)]
 pub struct Said {
-    pub last: bool,
-    pub saving: bool,
-    pub done: usize,
     pub length: usize,
-    pub again: bool,
+    pub next: Option<Next>,
+    pub done: usize,
+    pub again: Option<u32>,
 }
 
 // ---- the state
@@ -89,9 +102,9 @@ pub struct Said {
 fn sum_of(list: &[u8]) -> u64
     ensures { result ≡ sum_of list.now }
 {
-    let mut sum: u64 = 0;
-    for i in 0..list.len() {
-        sum = next_sum(sum, list[i]);
+    let mut sum = 0;
+    for b in list {
+        sum = next_sum(sum, *b);
     }
     sum
 }
@@ -127,7 +140,7 @@ fn plus_number(state: &mut [u8], at: usize, n: u64)
     ensures { state.new ≡ plus_number state.old at n }
 {
     let v = numbers::number_at(state, at, 8);
-    numbers::put_number(state, at, 8, std::num::wrapping_add_u64(v, n));
+    numbers::put_number(state, at, 8, v.wrapping_add(n));
 }
 
 // A number of 4 bytes of the state.
@@ -137,16 +150,48 @@ pub fn short_number(state: &[u8], at: usize) -> u32
     (numbers::number_at(state, at, 4) % CIRCLE) as u32
 }
 
+impl Kind {
+    // Its number in a state.
+    pub fn number(self) -> u64
+        ensures { result ≡ number_of self }
+    {
+        match self {
+            Kind::Bytes => 0,
+            Kind::Segments => 1,
+            Kind::Numbered => NUMBERED,
+        }
+    }
+
+    // The kind of a number in a state; none where there is none of that number.
+    pub fn of_number(number: u64) -> Option<Kind>
+        ensures { MatchOption result (2 < number) (λ k. number_of k ≡ number) }
+    {
+        match number {
+            0 => Some(Kind::Bytes),
+            1 => Some(Kind::Segments),
+            NUMBERED => Some(Kind::Numbered),
+            _ => None,
+        }
+    }
+}
+
+// Whether a state is one of a line of that kind.
+pub fn is_kind(state: &[u8], kind: Kind) -> bool
+    ensures { result ≡ (word_at state.now kind_at == number_of kind) }
+{
+    numbers::number_at(state, KIND_AT, 4) == kind.number()
+}
+
 // The first segment's number is that of the flow's first byte.
 fn number(state: &mut [u8], start: u32)
     requires { length state.old ≡ state_size }
     ensures { state.new ≡ numbered start state.old }
 {
-    if numbers::number_at(state, KIND_AT, 4) != SEGMENTS {
+    if !is_kind(state, Kind::Segments) {
         return;
     }
     numbers::put_number(state, FIRST_AT, 4, start as u64);
-    numbers::put_number(state, KIND_AT, 4, NUMBERED);
+    numbers::put_number(state, KIND_AT, 4, Kind::Numbered.number());
 }
 
 // Renews the record where its offset comes near the largest: the bytes since the last renewal are added to those before, and to the first number.
@@ -164,7 +209,7 @@ fn renew(state: &mut [u8])
     if refusal != rules::PASSED {
         return;
     }
-    let first = std::num::wrapping_add_u32(short_number(state, FIRST_AT), (offset % CIRCLE) as u32);
+    let first = short_number(state, FIRST_AT).wrapping_add((offset % CIRCLE) as u32);
     put_part(state, FLOW_AT, &flow);
     plus_number(state, BEFORE_AT, offset);
     numbers::put_number(state, FIRST_AT, 4, first as u64);
@@ -192,22 +237,11 @@ pub fn is_state_of(list: &[u8], state: &[u8]) -> bool
 
 // ---- texts
 
-// Puts the line of a pair: signature, a space, offset, a line feed.
-fn put_line(text: &mut [u8], at: usize, signature: u32, offset: u64) -> usize
-    requires { at + line_size ≤ length text.old }
-    ensures { Puts line_size (line signature offset) text.old at result text.new }
-{
-    let a = program_text::put_number(text, at, signature as u64);
-    let b = program_text::put_byte(text, a, b' ');
-    let c = program_text::put_number(text, b, offset);
-    program_text::put_byte(text, c, b'\n')
-}
-
 // An offset of the flow: the bytes before the last renewal and those since.
 fn raised(before: u64, offset: u32) -> u64
     ensures { result ≡ (before + offset) % whole_numbers }
 {
-    std::num::wrapping_add_u64(before, offset as u64)
+    before.wrapping_add(offset as u64)
 }
 
 // Puts the lines of the first n pairs of the words at the text's start, with the bytes before the last renewal added to each offset; answers where they end.
@@ -216,33 +250,35 @@ fn put_lines(text: &mut [u8], out: &[u32], n: usize, before: u64) -> usize
     ensures { Puts (line_size * n) (lines_from before out.now n) text.old 0 result text.new }
 {
     let mut at: usize = 0;
+    // By index: a pair is two words, and the promise counts pairs.
     for i in 0..n {
-        at = put_line(text, at, out[2 * i], raised(before, out[2 * i + 1]));
+        let offset = raised(before, out[2 * i + 1]);
+        at = program_text::put_line(text, at, out[2 * i], offset);
     }
     at
 }
 
-// Puts `again` and the number of a segment at a place, where it has to be sent again and that is told; answers the place after it.
-fn put_again(text: &mut [u8], at: usize, told: bool, start: u32) -> usize
+// Puts `again` and the number of a segment at a place, where one is told that has to be sent again; answers the place after it.
+fn put_again(text: &mut [u8], at: usize, told: Option<u32>) -> usize
     requires { at + line_size ≤ length text.old }
-    ensures { Puts line_size (again_text told start) text.old at result text.new }
+    ensures { Puts line_size (again_of told) text.old at result text.new }
 {
-    if !told {
+    let Some(start) = told else {
         return at;
-    }
+    };
     let a = program_text::put_bytes(text, at, b"again ");
     let b = program_text::put_number(text, a, start as u64);
     program_text::put_byte(text, b, b'\n')
 }
 
 // Puts the text of a turn: the lines of its pairs, and `again` where that is told.
-fn put_turn(text: &mut [u8], out: &[u32], n: usize, before: u64, told: bool, start: u32) -> usize
+fn put_turn(text: &mut [u8], out: &[u32], n: usize, before: u64, told: Option<u32>) -> usize
     requires { (2 * n ≤ length out.now) × (n ≤ most_pairs) × (text_size ≤ length text.old) }
     ensures prefix_len { IsPrefixLen result text.new }
-    ensures text_after { take result text.new ≡ turn_text before out.now n told start }
+    ensures text_after { take result text.new ≡ lines_from before out.now n ++ again_of told }
 {
     let a = put_lines(text, out, n, before);
-    put_again(text, a, told, start)
+    put_again(text, a, told)
 }
 
 // ---- a turn
@@ -250,7 +286,7 @@ fn put_turn(text: &mut [u8], out: &[u32], n: usize, before: u64, told: bool, sta
 // Feeds bytes to the state's flow.
 fn give_plain(list: &[u8], state: &mut [u8], rest: &[u8], out: &mut [u32]) -> Given
     requires { length state.old ≡ state_size }
-    ensures { Gives (plain_given list.now state.old rest.now out.old) result out.new state.new }
+    ensures { (start : ℕ) → Gives (plain_given list.now state.old rest.now out.old) start result out.new state.new }
 {
     let mut flow = [0u8; list_flow::FLOW_SIZE];
     take_part(state, FLOW_AT, &mut flow);
@@ -262,7 +298,7 @@ fn give_plain(list: &[u8], state: &mut [u8], rest: &[u8], out: &mut [u32]) -> Gi
         pairs: fed.pairs,
         done: fed.bytes,
         moved: fed.bytes,
-        again: false,
+        again: None,
     }
 }
 
@@ -292,19 +328,28 @@ fn passed(refusal: u32) -> u32
 fn over(all: bool, refusal: u32, n: usize) -> usize
     ensures { result ≡ over_of all refusal n }
 {
-    if all {
-        return n;
+    if all || refusal == segment::NOT_TAKEN {
+        n
+    } else {
+        0
     }
+}
+
+// The number of a segment that has to be sent again, by its refusal.
+fn again(refusal: u32, start: u32) -> Option<u32>
+    ensures { result ≡ sent_again (refusal == 18) start }
+{
     if refusal == segment::NOT_TAKEN {
-        return n;
+        Some(start)
+    } else {
+        None
     }
-    0
 }
 
 // Feeds a segment to the state's flow.
 fn give_segment(list: &[u8], state: &mut [u8], start: u32, bytes: &[u8], out: &mut [u32]) -> Given
     requires { (length state.old ≡ state_size) × (length bytes.now ≤ most_unit) }
-    ensures { Gives (segment_given list.now state.old start bytes.now out.old) result out.new state.new }
+    ensures { Gives (segment_given list.now state.old start bytes.now out.old) start result out.new state.new }
 {
     let mut flow = [0u8; list_flow::FLOW_SIZE];
     let mut held = io::buffer();
@@ -327,42 +372,44 @@ fn give_segment(list: &[u8], state: &mut [u8], start: u32, bytes: &[u8], out: &m
         pairs: heard.pairs,
         done: over(heard.all, heard.refusal, bytes.len()),
         moved: over(heard.all, heard.refusal, bytes.len() + HEAD),
-        again: heard.refusal == segment::NOT_TAKEN,
+        again: again(heard.refusal, start),
     }
 }
 
 // Feeds a unit to the state's flow, by the kind of the line.
 fn give(list: &[u8], state: &mut [u8], start: u32, rest: &[u8], out: &mut [u32]) -> Given
     requires { (length state.old ≡ state_size) × (length rest.now ≤ most_unit) }
-    ensures { Gives (given_of list.now state.old start rest.now out.old) result out.new state.new }
+    ensures { Gives (given_of list.now state.old start rest.now out.old) start result out.new state.new }
 {
-    if numbers::number_at(state, KIND_AT, 4) == OF_BYTES {
-        return give_plain(list, state, rest, out);
+    if is_kind(state, Kind::Bytes) {
+        give_plain(list, state, rest, out)
+    } else {
+        give_segment(list, state, start, rest, out)
     }
-    give_segment(list, state, start, rest, out)
 }
 
-// Whether nothing more comes: no unit was read, or, of bytes, none came.
-fn is_end(state: &[u8], more: bool, n: usize) -> bool
-    ensures { result ≡ is_end state.now more n }
+// Whether a unit that was read says that nothing more comes: of bytes, none came.
+fn is_end(state: &[u8], rest: &[u8]) -> bool
+    ensures { result ≡ is_end state.now true (length rest.now) }
 {
-    if !more {
-        return true;
-    }
-    if n > 0 {
+    if !rest.is_empty() {
         return false;
     }
-    numbers::number_at(state, KIND_AT, 4) == OF_BYTES
+    is_kind(state, Kind::Bytes)
 }
 
-// Whether `again` is told among the lines: where no state is kept. Where one is, what is sent again depends on when the run was cut, and the lines shall not.
-fn is_told(keeping: bool, again: bool) -> bool
-    ensures { result ≡ is_told keeping again }
+// What of `again` is told among the lines: all where no state is kept. Where one is, what is sent again depends on when the run was cut, and the lines shall not.
+fn told(keeping: bool, again: Option<u32>) -> Option<u32>
+    ensures { result ≡ told_of keeping again }
 {
-    if keeping {
-        return false;
-    }
-    again
+    if keeping { None } else { again }
+}
+
+// What comes behind lines: where a state is kept, that.
+fn behind_lines(keeping: bool) -> Next
+    ensures { saves result ≡ keeping }
+{
+    if keeping { Next::Save } else { Next::Feed }
 }
 
 // The offset of a state's flow.
@@ -373,7 +420,7 @@ fn offset_of(state: &[u8]) -> u64
     let mut flow = [0u8; list_flow::FLOW_SIZE];
     take_part(state, FLOW_AT, &mut flow);
     let before = numbers::number_at(state, BEFORE_AT, 8);
-    std::num::wrapping_add_u64(before, segment_feed::offset_of(&flow))
+    before.wrapping_add(segment_feed::offset_of(&flow))
 }
 
 // Says the last line: `end` and the offset, or `refused` and the number.
@@ -383,36 +430,28 @@ fn say_last(text: &mut [u8], state: &[u8], refusal: u32) -> Said
 {
     let offset = offset_of(state);
     Said {
-        last: true,
-        saving: false,
-        done: 0,
         length: program_text::put_last(text, refusal, offset),
-        again: false,
+        next: None,
+        done: 0,
+        again: None,
     }
 }
 
 // Says the lines of the pairs that a unit gave, and counts them and the bytes.
-fn say_lines(
-    keeping: bool,
-    text: &mut [u8],
-    out: &[u32],
-    state: &mut [u8],
-    given: Given,
-    start: u32,
-) -> Said
+fn say_lines(keeping: bool, text: &mut [u8], out: &[u32], state: &mut [u8], given: Given) -> Said
     requires { (length state.old ≡ state_size) × (text_size ≤ length text.old) × (2 * given.pairs ≤ length out.now) × (given.pairs ≤ most_pairs) }
-    ensures { Says (lines_turn keeping given.pairs given.done given.moved given.again out.now state.old start) result text.new state.new }
+    ensures { (again : Bool) (start : ℕ) → given.again ≡ sent_again again start
+        → Says (lines_turn keeping given.pairs given.done given.moved again out.now state.old start) result text.new state.new }
 {
     let before = numbers::number_at(state, BEFORE_AT, 8);
-    let told = is_told(keeping, given.again);
-    let length = put_turn(text, out, given.pairs, before, told, start);
+    let told = told(keeping, given.again);
+    let length = put_turn(text, out, given.pairs, before, told);
     plus_number(state, PLACE_AT, given.moved as u64);
     plus_number(state, LINES_AT, length as u64);
     Said {
-        last: false,
-        saving: keeping,
+        length,
+        next: Some(behind_lines(keeping)),
         done: given.done,
-        length: length,
         again: given.again,
     }
 }
@@ -436,33 +475,50 @@ fn feed_turn(
     if given.refusal != rules::PASSED {
         return say_last(text, state, given.refusal);
     }
-    say_lines(keeping, text, &out, state, given, start)
+    say_lines(keeping, text, &out, state, given)
 }
 
-// Makes the text of a turn: the state, where that comes next; the last line, where nothing more comes; else a unit is fed.
+// Makes the text of a turn: the state, where that comes next; the last line, where nothing more comes, as no unit was read; else a unit is fed, of which the first byte
+// has a number.
 pub fn turn(
     keeping: bool,
-    saving: bool,
+    next: Next,
     list: &[u8],
     state: &mut [u8],
-    more: bool,
+    start: Option<u32>,
+    rest: &[u8],
+    text: &mut [u8],
+) -> Said
+    requires { (length state.old ≡ state_size) × (length rest.now ≤ most_unit) × (text_size ≤ length text.old) }
+    ensures { Says (turn_of keeping (saves next) list.now state.old (comes start) (number_in start) rest.now) result text.new state.new }
+{
+    match next {
+        Next::Save => Said {
+            length: program_text::put_bytes(text, 0, state),
+            next: Some(Next::Feed),
+            done: 0,
+            again: None,
+        },
+        Next::Feed => match start {
+            Some(start) => next_turn(keeping, list, state, start, rest, text),
+            None => say_last(text, state, rules::PASSED),
+        },
+    }
+}
+
+// Feeds a unit that was read, or says the last line where nothing more comes.
+fn next_turn(
+    keeping: bool,
+    list: &[u8],
+    state: &mut [u8],
     start: u32,
     rest: &[u8],
     text: &mut [u8],
 ) -> Said
     requires { (length state.old ≡ state_size) × (length rest.now ≤ most_unit) × (text_size ≤ length text.old) }
-    ensures { Says (turn_of keeping saving list.now state.old more start rest.now) result text.new state.new }
+    ensures { Says (turn_of keeping false list.now state.old true start rest.now) result text.new state.new }
 {
-    if saving {
-        return Said {
-            last: false,
-            saving: false,
-            done: 0,
-            length: program_text::put_bytes(text, 0, state),
-            again: false,
-        };
-    }
-    if is_end(state, more, rest.len()) {
+    if is_end(state, rest) {
         return say_last(text, state, rules::PASSED);
     }
     feed_turn(keeping, list, state, start, rest, text)
@@ -485,9 +541,9 @@ pub fn begin(keeping: bool, list: &[u8], state: &mut [u8], text: &mut [u8]) -> S
         pairs: opened.pairs,
         done: 0,
         moved: 0,
-        again: false,
+        again: None,
     };
-    say_lines(keeping, text, &out, state, given, 0)
+    say_lines(keeping, text, &out, state, given)
 }
 
 // Zeros for a state.

@@ -1,9 +1,10 @@
 // Resends: segments by 32-bit sequence number. Which bytes are due next, and the one place where a segment that comes too early is held.
+// The numbers are those of the definitions, one by one; `take` and `due` have them as C gives them.
 #![tactic(auto)]
 
-ghost use Rattle.std.specs.Prelude.{◌≡◌, ◌≤◌, ◌++◌, length, drop};
+ghost use Rattle.std.specs.Prelude.{◌≡◌, ◌&&◌, ◌||◌, length};
 ghost use Rattle.segment.specs.Resend.{distance, ahead, has_next, all_before, bad_sizes, early, full, up_to, taking, part_due, due};
-ghost use Rattle.segment.specs.Post.{Takes, Finds};
+ghost use Rattle.segment.specs.Post.{Takes, number_of, Finds};
 
 // The most bytes of a segment, and the bytes of the held buffer.
 pub const MOST_SEGMENT: usize = 65535;
@@ -27,83 +28,93 @@ pub struct Held {
     pub length: u32,
 }
 
-// The part that is due: of the held buffer (1) or of the segment (2), from a place on; or nothing (0).
-#[derive(Clone, Copy)]
+// Where bytes that are due come from.
+#[derive(Clone, Copy, PartialEq, Eq, Debug)]
+pub enum Source {
+    Buffer,
+    Segment,
+}
+
+// The number of a source, as C and the replay's tape have it: 1 the held buffer, 2 the segment; 0 says that nothing is due.
+pub fn source_number(source: Source) -> u32
+    ensures { result ≡ number_of source }
+{
+    match source {
+        Source::Buffer => 1,
+        Source::Segment => 2,
+    }
+}
+
+// A part that is due: of the held buffer or of the segment, from a place on.
+#[derive(Clone, Copy, PartialEq, Eq, Debug)]
 pub struct Part {
-    pub source: u32,
+    pub source: Source,
     pub at: usize,
     pub length: usize,
 }
 
-// A number of 32 bits as a length.
-fn wide(x: u32) -> usize
-    ensures { result ≡ x }
-{
-    x as usize
-}
-
 // How far `to` lies past `from`, round the circle.
+#[tactic(auto, unfolding(crate::specs::Resend::distance))]
 fn distance(from: u32, to: u32) -> u32
     ensures { result ≡ distance from to }
 {
-    std::num::wrapping_sub_u32(to, from)
+    to.wrapping_sub(from)
 }
 
 // Says whether number p comes after the next one.
+#[tactic(auto, unfolding(crate::specs::Resend::ahead))]
 fn ahead(next: u32, p: u32) -> bool
     ensures { result ≡ ahead next p }
 {
     let d = distance(next, p);
-    (0 < d) & (d < HALF)
+    0 < d && d < HALF
 }
 
 // Says whether the next byte is one of n from number p on.
+#[tactic(auto, unfolding(crate::specs::Resend::has_next))]
 fn has_next(next: u32, p: u32, n: usize) -> bool
     ensures { result ≡ has_next next p n }
 {
-    wide(distance(p, next)) < n
+    (distance(p, next) as usize) < n
 }
 
 // Says whether n bytes from number p on all came before, or are none.
+#[tactic(auto, unfolding(crate::specs::Resend::all_before))]
 fn all_before(next: u32, p: u32, n: usize) -> bool
     ensures { result ≡ all_before next p n }
 {
-    let begins = ahead(next, p);
-    let has = has_next(next, p, n);
-    (n == 0) | !(begins | has)
+    n == 0 || !(ahead(next, p) || has_next(next, p, n))
 }
 
 // Says whether the lengths of the held buffer, of what is held, or of the segment are refused.
+#[tactic(auto, unfolding(crate::specs::Resend::bad_sizes))]
 pub fn bad_sizes(h: usize, n: usize, s: usize) -> bool
     ensures { result ≡ bad_sizes h n s }
 {
-    (MOST_SEGMENT < s) | !(h == HELD_SIZE) | (HELD_SIZE < n)
+    MOST_SEGMENT < s || h != HELD_SIZE || HELD_SIZE < n
 }
 
 // Says whether a segment of s bytes begins ahead.
+#[tactic(auto, unfolding(crate::specs::Resend::early))]
 fn early(next: u32, q: u32, s: usize) -> bool
     ensures { result ≡ early next q s }
 {
-    let begins = ahead(next, q);
-    (0 < s) & begins
+    0 < s && ahead(next, q)
 }
 
 // Says whether a segment of s bytes can't be held.
+#[tactic(auto, unfolding(crate::specs::Resend::full))]
 fn full(next: u32, p: u32, n: usize, s: usize) -> bool
     ensures { result ≡ full next p n s }
 {
-    let free = all_before(next, p, n);
-    !free | (HELD_SIZE < s)
+    !all_before(next, p, n) || HELD_SIZE < s
 }
 
-// Copies the segment to the front of the held buffer.
-fn copy(held: &mut [u8], segment: &[u8])
-    requires { length segment.now ≤ length held.old }
-    ensures { held.new ≡ segment.now ++ drop (length segment.now) held.old }
+// Says whether a segment of s bytes from number q on is refused.
+fn refuses(next: u32, h: usize, p: u32, n: usize, q: u32, s: usize) -> bool
+    ensures { result ≡ (bad_sizes h n s || early next q s && full next p n s) }
 {
-    for i in 0..segment.len() {
-        held[i] = segment[i];
-    }
+    bad_sizes(h, n, s) || early(next, q, s) && full(next, p, n, s)
 }
 
 // Takes a segment whose first byte has number `start`, where the next byte due has number `next`: drops it, holds it, or refuses it with 18.
@@ -118,46 +129,43 @@ pub fn take(
 ) -> Held
     ensures { Takes (taking next held.old held_start held_length start segment.now) result held.new }
 {
-    let n = wide(held_length);
-    let begins = early(next, start, segment.len());
-    if bad_sizes(held.len(), n, segment.len())
-        | (begins & full(next, held_start, n, segment.len()))
-    {
+    let n = held_length as usize;
+    if refuses(next, held.len(), held_start, n, start, segment.len()) {
         return Held {
             refusal: NOT_TAKEN,
             start: held_start,
             length: held_length,
         };
     }
-    if begins {
-        copy(held, segment);
+    if early(next, start, segment.len()) {
+        held[..segment.len()].copy_from_slice(segment);
         return Held {
-            refusal: 0,
-            start: start,
+            refusal: rules::PASSED,
+            start,
             length: segment.len() as u32,
         };
     }
     if all_before(next, held_start, n) {
         return Held {
-            refusal: 0,
+            refusal: rules::PASSED,
             start: held_start,
             length: FREE,
         };
     }
     Held {
-        refusal: 0,
+        refusal: rules::PASSED,
         start: held_start,
         length: held_length,
     }
 }
 
 // Of m bytes from the next on, those before a held part.
+#[tactic(auto, unfolding(crate::specs::Resend::up_to))]
 fn up_to(next: u32, p: u32, n: usize, m: usize) -> usize
     ensures { result ≡ up_to next p n m }
 {
-    let begins = ahead(next, p);
-    let d = wide(distance(next, p));
-    if (0 < n) & begins & (d < m) {
+    let d = distance(next, p) as usize;
+    if 0 < n && ahead(next, p) && d < m {
         return d;
     }
     m
@@ -171,38 +179,30 @@ pub fn part_due(
     held_length: u32,
     start: u32,
     segment_size: usize,
-) -> Part
+) -> Option<Part>
     ensures { Finds (part_due next held_size held_start held_length start segment_size) result }
 {
-    let n = wide(held_length);
+    let n = held_length as usize;
     if bad_sizes(held_size, n, segment_size) {
-        return Part {
-            source: 0,
-            at: 0,
-            length: 0,
-        };
+        return None;
     }
     if has_next(next, held_start, n) {
-        let a = wide(distance(held_start, next));
-        return Part {
-            source: 1,
-            at: a,
-            length: n - a,
-        };
+        let at = distance(held_start, next) as usize;
+        return Some(Part {
+            source: Source::Buffer,
+            at,
+            length: n - at,
+        });
     }
     if has_next(next, start, segment_size) {
-        let b = wide(distance(start, next));
-        return Part {
-            source: 2,
-            at: b,
-            length: up_to(next, held_start, n, segment_size - b),
-        };
+        let at = distance(start, next) as usize;
+        return Some(Part {
+            source: Source::Segment,
+            at,
+            length: up_to(next, held_start, n, segment_size - at),
+        });
     }
-    Part {
-        source: 0,
-        at: 0,
-        length: 0,
-    }
+    None
 }
 
 // The bytes that are due next: a part of the held buffer or of the arriving segment, whichever has them. Nothing is copied.
@@ -216,7 +216,7 @@ pub fn due<'a>(
 ) -> &'a [u8]
     ensures { result.now ≡ due next held.now held_start held_length start segment.now }
 {
-    let d = part_due(
+    let part = part_due(
         next,
         held.len(),
         held_start,
@@ -224,10 +224,11 @@ pub fn due<'a>(
         start,
         segment.len(),
     );
-    let at = d.at;
-    let end = at + d.length;
-    if d.source == 1 {
-        return &held[at..end];
+    match part {
+        None => &segment[..0],
+        Some(p) => match p.source {
+            Source::Buffer => &held[p.at..p.at + p.length],
+            Source::Segment => &segment[p.at..p.at + p.length],
+        },
     }
-    &segment[at..end]
 }

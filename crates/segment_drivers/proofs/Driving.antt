@@ -1,11 +1,9 @@
 -- The drivers: what their calls answered and left is what the theorems say. Assumes nothing.
-use Rattle.std.proofs.Common.{◌≡◌, ℕ, ◌+◌, ◌-◌, ◌*◌, ◌%◌, ◌<◌, ◌≤◌, Bool, true, false, ◌||◌, eqb, List, [], ◌∷◌, ◌++◌, length, get_or, take, sym, refl, ap, ◌∙◌, subst, ap₂, append_assoc, append-nil, add-one, arith, length-take-le, take_all, take-suc, ne_eqb, eqb-true}
+use Rattle.std.proofs.Common.{◌≡◌, ℕ, ◌+◌, ◌-◌, ◌*◌, ◌%◌, ◌<◌, ◌≤◌, Bool, true, false, List, [], ◌∷◌, ◌++◌, length, get_or, take, sym, refl, ap, ◌∙◌, ap₂, append_assoc, append-nil, add-one, arith, length-take-le, take_all, take-suc}
 use lib.Seq.{take-append-add, take-append-le}
-use borrow.Author.Tests.{eqb-false}
 use borrow.Rule.Slice.PartMut.{mid_of, put_mid, post_of, same_len_mid, mid_len}
 use Rattle.rules.specs.Rules.{Refuses}
 use Rattle.rules.proofs.Rules.{refuses}
-use Rattle.rules.proofs.Scanning.{neither}
 use Rattle.feed.specs.Calls.{Bytes, Way, Asked, record_after, all_told, Along}
 use Rattle.feed.specs.Fed.{Answers}
 use Rattle.feed.specs.declared.Fed.{Fed}
@@ -20,7 +18,7 @@ use Rattle.list_flow.specs.Opening.{open_rules, open_pairs, opened, open_flow}
 use Rattle.list_feed.specs.Plain.{plain_feed}
 use Rattle.table.specs.Table.{Table, table_refusal}
 use Rattle.laws.proofs.Demand1.{demand-1}
-use Rattle.laws.specs.Calls.{Call, ListBy, Via, by_list, Checked, way_of, OnList}
+use Rattle.laws.specs.Calls.{Call, Via, by_list, Checked, way_of, OnList}
 use Rattle.segment.specs.Resend.{circle, taking, due}
 use Rattle.segment.specs.Post.{Takes}
 use Rattle.segment.specs.declared.Held.{Held}
@@ -29,9 +27,10 @@ use Rattle.segment_feed.specs.Segment.{Sent, Kept, Look, take_of, due_of, fed_of
 use Rattle.segment_feed.specs.Post.{Hears, sent, kept}
 use Rattle.segment_feed.specs.declared.Heard.{Heard}
 use Rattle.segment_feed.specs.Calls.{handed, Fits, door_of}
-use Rattle.segment_feed.specs.Streamed.{fresh, Far, whole, placed, Glance, glancing}
+use Rattle.segment_feed.specs.Streamed.{fresh, Far, whole, placed, torn, glancing}
 use Rattle.segment_feed.proofs.Said.{refused-not-all, door-refused, taking-answers}
 use Rattle.segment_feed.proofs.Looking.{look-idle, look-busy, segment-fits}
+use Rattle.segment_drivers.specs.declared.Reach.{Reach}
 use Rattle.segment_drivers.specs.Drivers.{SegmentKept, by_flag, numbers_of, Turned, far_by, SegmentsDriven, LooksDriven}
 use Rattle.segment_drivers.specs.declared.Standing.{Standing}
 use Rattle.segment_laws.proofs.Streams.{list-streams, list-restarts}
@@ -178,13 +177,7 @@ module _ (L : List ℕ) (b : ℕ) (T : Table) (s : ℕ) (numbers : List ℕ) whe
 
 -- ---- one look of a caller who is killed
 
-far-placed : (n : ℕ) → eqb n 1 ≡ true → far_by n ≡ placed
-far-placed n e = rw e
-
-far-whole : (n : ℕ) → eqb n 1 ≡ false → (n ≡ 2 → ⊥) → far_by n ≡ whole
-far-whole n e z = rw (e, ne_eqb n 2 z)
-
-module _ (L : List ℕ) (s start : ℕ) (piece : List ℕ) (so : Standing) (v : ℕ) (ws R H : List ℕ) (low : so.words ≤ v) (high : v ≤ length ws) (far at next : ℕ) (h : Held) (J : List ℕ)
+module _ (L : List ℕ) (s start : ℕ) (piece : List ℕ) (so : Standing) (v : ℕ) (ws R H : List ℕ) (low : so.words ≤ v) (high : v ≤ length ws) (at next : ℕ) (h : Held) (J : List ℕ)
     (offset : at ≡ offset_of R) (number : next ≡ (s + at) % circle) (takes : Takes (taking next H so.start so.length start piece) h J) where
   abbrev W : Way
   W = way_of (record { list = L; via = by_list })
@@ -198,66 +191,55 @@ module _ (L : List ℕ) (s start : ℕ) (piece : List ℕ) (so : Standing) (v : 
   abbrev out : List ℕ
   out = mid_of so.words (v - so.words) ws
 
-  abbrev glance_by : Glance ListBy
-  glance_by = record { call = segment_by L by_list s start piece so v ws R H low high; far = far_by far }
+  -- a look that came as far as t says
+  abbrev Came : Far → Standing → List ℕ → List ℕ → Type 0
+  Came t r vs Q = Turned (glancing way_of s (record { call = segment_by L by_list s start piece so v ws R H low high; far = t })) S so ws r vs Q J
 
   takes-here : Takes (take_of W g S) h J
   takes-here = rw (number, offset) at takes
 
-  pub glanced-torn : far ≡ 2 → Turned (glancing way_of s glance_by) S so ws so ws R J
-  glanced-torn e =
-      rw e (record { left = rw takes-here.bytes; told = sym (append-nil (take so.words ws)); room = omega arith })
+  placed-here : kept R J h.start h.length ≡ kept_of W g S R
+  placed-here = let t = takes-here in rw (t.bytes, t.start, t.length)
+
+  pub glanced-torn : Came torn so ws R
+  glanced-torn = record { left = rw takes-here.bytes; told = sym (append-nil (take so.words ws)); room = omega arith }
+
+  pub glanced-placed : Came placed (record { start = h.start; length = h.length; words = so.words }) ws R
+  glanced-placed = record { left = placed-here; told = sym (append-nil (take so.words ws)); room = omega arith }
 
   module _ (d : List ℕ) (dues : d ≡ due next J h.start h.length start piece) where
     due-here : d ≡ due_of W g S
     due-here = let t = takes-here in dues ∙ rw (number, offset, t.bytes, t.start, t.length)
 
-    placed-here : kept R J h.start h.length ≡ kept_of W g S R
-    placed-here = let t = takes-here in rw (t.bytes, t.start, t.length)
-
-    -- a look that came as far as t says
-    abbrev Came : Far → Standing → List ℕ → List ℕ → Type 0
-    Came t r vs Q = Turned (glancing way_of s (record { call = segment_by L by_list s start piece so v ws R H low high; far = t })) S so ws r vs Q J
-
-    -- the place is saved, or nothing is due
-    pub glanced-placed : (far ≡ 2 → ⊥) → (eqb far 1 || eqb (length d) 0) ≡ true
-        → Turned (glancing way_of s glance_by) S so ws (record { start = h.start; length = h.length; words = so.words }) ws R J
-    glanced-placed n e = go (eqb far 1) refl e
-      where
-        go : (b : Bool) → eqb far 1 ≡ b → (b || eqb (length d) 0) ≡ true → Came (far_by far) (record { start = h.start; length = h.length; words = so.words }) ws R
-        go true q t =
-            subst (λ (f : Far). Came f (record { start = h.start; length = h.length; words = so.words }) ws R) (sym (far-placed far q))
-            (record { left = placed-here; told = sym (append-nil (take so.words ws)); room = omega arith })
-        go false q t =
-            let i : look W g S out ≡ idle W g S out = look-idle W g S out (ap length (sym due-here) ∙ eqb-true (length d) 0 t) in
-            subst (λ (f : Far). Came f (record { start = h.start; length = h.length; words = so.words }) ws R) (sym (far-whole far q n))
-            (record {
-              left = placed-here ∙ ap (λ (l : Look). l.heard.kept) (sym i);
-              told = sym (append-nil (take so.words ws)) ∙ ap (λ (l : Look). take so.words ws ++ take (2 * l.heard.pairs) l.heard.words) (sym i);
-              room = omega arith;
-            })
+    -- nothing is due
+    pub glanced-none : length d ≡ 0 → Came whole (record { start = h.start; length = h.length; words = so.words }) ws R
+    glanced-none e =
+        let i : look W g S out ≡ idle W g S out = look-idle W g S out (ap length (sym due-here) ∙ e) in
+        record {
+          left = placed-here ∙ ap (λ (l : Look). l.heard.kept) (sym i);
+          told = sym (append-nil (take so.words ws)) ∙ ap (λ (l : Look). take so.words ws ++ take (2 * l.heard.pairs) l.heard.words) (sym i);
+          room = omega arith;
+        }
 
     -- what is due is fed
-    pub glanced-whole : (far ≡ 2 → ⊥) → (eqb far 1 || eqb (length d) 0) ≡ false → (f : Fed) (ys Q : List ℕ) → Answers (plain_feed L R at d out) f ys Q
-        → Turned (glancing way_of s glance_by) S so ws (record { start = h.start; length = h.length; words = so.words + 2 * f.pairs }) (put_mid so.words (v - so.words) ws ys) Q J
-    glanced-whole n e f ys Q given =
+    pub glanced-whole : (length d ≡ 0 → ⊥) → (f : Fed) (ys Q : List ℕ) → Answers (plain_feed L R at d out) f ys Q
+        → Came whole (record { start = h.start; length = h.length; words = so.words + 2 * f.pairs }) (put_mid so.words (v - so.words) ws ys) Q
+    glanced-whole n f ys Q given =
         let t = takes-here in
-        let q = neither (eqb far 1) (eqb (length d) 0) e in
         let a : Answers (fed_of W g S out) f ys Q = rw (due-here, offset) at given in
         let o = each-feed W R (offset_of R) (due_of W g S) out in
         let m : length out ≡ v - so.words = mid_len so.words v ws high in
         let l : length (put_mid so.words (v - so.words) ws ys) ≡ length ws = same_len_mid so.words (v - so.words) ws ys (ap length a.words ∙ o.words-many) in
-        let i : look W g S out ≡ busy W g S (fed_of W g S out) = look-busy W g S out (λ y. eqb-false (length d) 0 q.1 (ap length due-here ∙ y)) in
+        let i : look W g S out ≡ busy W g S (fed_of W g S out) = look-busy W g S out (λ y. n (ap length due-here ∙ y)) in
         let left : kept Q J h.start h.length ≡ kept_of W g S (fed_of W g S out).saved = rw (a.saved, t.bytes, t.start, t.length) in
-        subst (λ (u : Far). Came u (record { start = h.start; length = h.length; words = so.words + 2 * f.pairs }) (put_mid so.words (v - so.words) ws ys) Q) (sym (far-whole far q.0 n))
-        (record {
+        record {
           left = left ∙ ap (λ (l : Look). l.heard.kept) (sym i);
           told =
               told-behind so.words (v - so.words) ws ys (2 * f.pairs) (omega arith) (omega (arith, o.pairs-fit, o.words-many, a.pairs, ap length a.words))
               ∙ ap₂ (λ (k : ℕ) (vs : List ℕ). take so.words ws ++ take (2 * k) vs) a.pairs a.words
               ∙ ap (λ (l : Look). take so.words ws ++ take (2 * l.heard.pairs) l.heard.words) (sym i);
           room = omega (arith, o.pairs-fit, a.pairs, m, l);
-        })
+        }
 
 -- ---- the driver of looks
 
@@ -266,7 +248,7 @@ abbrev pub Looking : List ℕ → ℕ → List ℕ → Kept → List ℕ → ℕ
 Looking L s numbers = Led (glancing way_of s) (λ v. v.call.at) (λ S v. Fits (OnList L v.call.by) v.call) numbers
 
 module _ (L : List ℕ) (s : ℕ) (numbers : List ℕ) where
-  pub looking-more : (S : Kept) (begun : List ℕ) (i : ℕ) (so : Standing) (ws Q H : List ℕ) (far start : ℕ) (piece out : List ℕ) (r : Standing) (vs R J : List ℕ)
+  pub looking-more : (S : Kept) (begun : List ℕ) (i : ℕ) (so : Standing) (ws Q H : List ℕ) (far : Reach) (start : ℕ) (piece out : List ℕ) (r : Standing) (vs R J : List ℕ)
       → Looking L s numbers S begun i so ws Q H → i < length numbers → start ≡ get_or numbers i 0 → start < circle → Bytes piece
       → Turned (glancing way_of s (record { call = record { by = record { list = L; via = by_list }; at = start; piece = piece; out = out }; far = far_by far })) (kept Q H so.start so.length) so ws r vs R J
       → Looking L s numbers S begun (i + 1) r vs R J

@@ -1,5 +1,5 @@
 -- What the drivers promise: the theorems on segments said of the numbers that the code answered and the buffers that it left.
-use Rattle.std.specs.Prelude.{◌≡◌, ℕ, ◌*◌, ◌≤◌, Bool, false, cond, List, [], ◌∷◌, ◌++◌, length, take, ◌==◌, ◌≢◌}
+use Rattle.std.specs.Prelude.{◌≡◌, ℕ, ◌*◌, ◌≤◌, Bool, false, cond, List, [], ◌∷◌, ◌++◌, length, take, ◌≢◌}
 use Rattle.rules.specs.Rules.{verdict, Refuses}
 use Rattle.list.specs.Automaton.{start, accepted}
 use Rattle.feed.specs.Calls.{Way, Asked, record_after, all_told}
@@ -16,6 +16,8 @@ use Rattle.segment_feed.specs.declared.Heard.{Heard}
 use Rattle.segment_feed.specs.Post.{kept}
 use Rattle.segment_feed.specs.Calls.{handed, looks_at}
 use Rattle.segment_feed.specs.Streamed.{fresh, Streamed, Far, whole, placed, torn, glancing, glance_at}
+use Rattle.segment_drivers.specs.declared.Reach.{Reach}
+use Rattle.segment_drivers.specs.declared.Reach.TheVariants.{Whole, Placed, Torn}
 use Rattle.segment_drivers.specs.declared.Standing.{Standing}
 
 -- ---- one segment
@@ -44,9 +46,11 @@ pub record Turned (a : Asked Kept) (S : Kept) (so : Standing) (ws : List ℕ) (r
 abbrev pub by_flag : Bool → ℕ → Table → Via
 by_flag flag b T = cond flag (by_table b T) by_list
 
--- how far a look of the driver comes, by a number
-abbrev pub far_by : ℕ → Far
-far_by n = cond (n == 1) placed (cond (n == 2) torn whole)
+-- how far a look of the driver comes
+abbrev pub far_by : Reach → Far
+far_by Whole = whole
+far_by Placed = placed
+far_by Torn = torn
 
 -- the numbers that calls state
 abbrev pub numbers_of : {A : Type 0} → (A → ℕ) → List A → List ℕ

@@ -31,23 +31,9 @@ struct DroveSegments {
     stands: Standing,
 }
 
-// The number at a place; past the end that is 0.
-fn number_at(numbers: &[usize], i: usize) -> usize {
-    if i < numbers.len() { numbers[i] } else { 0 }
-}
-
-// The number, or the nearest to it of those from `low` to `high`.
-fn within(low: usize, x: usize, high: usize) -> usize
-    requires { low ≤ high }
-    ensures { (low ≤ result) × (result ≤ high) }
-{
-    if x < low {
-        return low;
-    }
-    if high < x {
-        return high;
-    }
-    x
+// What a list says at a place; past its end that is the default.
+fn at_or<T: Copy>(list: &[T], i: usize, default: T) -> T {
+    list.get(i).copied().unwrap_or(default)
 }
 
 // What the calls of `drive_each` answered.
@@ -110,10 +96,7 @@ fn drive_each(
         segment,
         split_pairs,
     );
-    DroveEach {
-        plain: plain,
-        split: split,
-    }
+    DroveEach { plain, split }
 }
 
 // Feeds a segment through the table where the flag says so, else by the list alone.
@@ -239,7 +222,7 @@ fn drive_segments(
     first: u32,
     held: &mut [u8],
     numbers: &[u32],
-    flags: &[usize],
+    flags: &[bool],
     from: &[usize],
     to: &[usize],
     rooms: &[usize],
@@ -257,30 +240,31 @@ fn drive_segments(
         length: 0,
         words: 2 * opened.pairs,
     };
+    // By index: each list says what it says of segment i at place i.
     for i in 0..numbers.len() {
-        let n = within(0, number_at(from, i), bytes.len());
-        let e = within(n, number_at(to, i), bytes.len());
-        let v = within(so.words, number_at(rooms, i), pairs.len());
-        let through = number_at(flags, i) == 1;
+        let n = at_or(from, i, 0).min(bytes.len());
+        let e = at_or(to, i, 0).clamp(n, bytes.len());
+        let v = at_or(rooms, i, 0).clamp(so.words, pairs.len());
+        let through = at_or(flags, i, false);
         so = turn(
             list, bound, classes, parts, rows, splits, through, flow, first, held, so, numbers[i],
             bytes, n, e, pairs, v,
         );
     }
     DroveSegments {
-        checked: checked,
-        opened: opened,
+        checked,
+        opened,
         stands: so,
     }
 }
 
-// How far a look comes before its caller is killed: the held place is saved too, or the held buffer alone.
-const PLACED: usize = 1;
-
-const TORN: usize = 2;
-
-// As many numbers as there are.
-const CIRCLE: u64 = 4294967296;
+// How far a look comes before its caller is killed: to its end, until the held place is saved too, or until the held buffer alone is.
+#[derive(Clone, Copy, PartialEq, Eq, Debug)]
+enum Reach {
+    Whole,
+    Placed,
+    Torn,
+}
 
 // One look of a caller who takes the segment himself, the bytes from n to e: he saves the held buffer, then the held place, feeds what is due with the words
 // behind those told, up to word v, and saves the record; `far` says where he is killed.
@@ -290,7 +274,7 @@ fn glance(
     first: u32,
     held: &mut [u8],
     so: Standing,
-    far: usize,
+    far: Reach,
     start: u32,
     segment: &[u8],
     pairs: &mut [u32],
@@ -312,25 +296,29 @@ fn glance(
         (kept flow.old held.old so.start so.length) so pairs.old result pairs.new flow.new held.new }
 {
     let at = segment_feed::offset_of(flow);
-    let next = std::num::wrapping_add_u32(first, (at % CIRCLE) as u32);
+    let next = segment_feed::next_of(first, at);
     let taken = segment::take(next, held, so.start, so.length, start, segment);
-    if far == TORN {
-        return so;
-    }
     let w = so.words;
-    let due = segment::due(next, held, taken.start, taken.length, start, segment);
-    if (far == PLACED) | (due.len() == 0) {
-        return Standing {
-            start: taken.start,
-            length: taken.length,
-            words: w,
-        };
-    }
-    let fed = list_feed::feed(list, flow, at, due, &mut pairs[w..v]);
-    Standing {
+    let placed = Standing {
         start: taken.start,
         length: taken.length,
-        words: w + 2 * fed.pairs,
+        words: w,
+    };
+    match far {
+        Reach::Torn => so,
+        Reach::Placed => placed,
+        Reach::Whole => {
+            let due = segment::due(next, held, taken.start, taken.length, start, segment);
+            if due.len() == 0 {
+                return placed;
+            }
+            let fed = list_feed::feed(list, flow, at, due, &mut pairs[w..v]);
+            Standing {
+                start: taken.start,
+                length: taken.length,
+                words: w + 2 * fed.pairs,
+            }
+        }
     }
 }
 
@@ -349,7 +337,7 @@ fn drive_looks(
     first: u32,
     held: &mut [u8],
     numbers: &[u32],
-    fars: &[usize],
+    fars: &[Reach],
     from: &[usize],
     to: &[usize],
     rooms: &[usize],
@@ -365,11 +353,12 @@ fn drive_looks(
         length: 0,
         words: 2 * opened.pairs,
     };
+    // By index: each list says what it says of segment i at place i.
     for i in 0..numbers.len() {
-        let n = within(0, number_at(from, i), bytes.len());
-        let e = within(n, number_at(to, i), bytes.len());
-        let v = within(so.words, number_at(rooms, i), pairs.len());
-        let far = number_at(fars, i);
+        let n = at_or(from, i, 0).min(bytes.len());
+        let e = at_or(to, i, 0).clamp(n, bytes.len());
+        let v = at_or(rooms, i, 0).clamp(so.words, pairs.len());
+        let far = at_or(fars, i, Reach::Whole);
         so = glance(
             list,
             flow,
@@ -383,8 +372,5 @@ fn drive_looks(
             v,
         );
     }
-    DroveLooks {
-        opened: opened,
-        stands: so,
-    }
+    DroveLooks { opened, stands: so }
 }

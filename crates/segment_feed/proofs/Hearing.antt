@@ -1,5 +1,5 @@
 -- The code of one look more leads on as the definition does, and what it has heard at the door and in the end. Assumes nothing.
-use Rattle.std.proofs.Common.{◌≡◌, ℕ, ◌+◌, ◌-◌, ◌*◌, ◌%◌, ◌≤◌, true, false, cond, eqb, List, [], ◌++◌, length, take, drop, sym, refl, ap, ◌∙◌, append-nil, add-one, arith, length-append, length-drop, take-append-drop, take_all}
+use Rattle.std.proofs.Common.{◌≡◌, ℕ, ◌+◌, ◌-◌, ◌*◌, ◌%◌, ◌≤◌, Bool, true, false, cond, eqb, List, [], ◌++◌, length, take, drop, sym, refl, ap, ◌∙◌, append-nil, add-one, arith, length-append, length-drop, take-append-drop, take_all}
 use lib.Seq.{drop-length}
 use borrow.Rule.Slice.PartMut.{mid_of, put_mid, Post-is}
 use Rattle.rules.specs.Rules.{verdict}
@@ -12,8 +12,9 @@ use Rattle.segment.specs.Post.{Takes}
 use Rattle.segment.specs.declared.Held.{Held}
 use Rattle.segment.proofs.Parts.{due-short}
 use Rattle.segment_feed.specs.Segment.{Sent, Kept, Look, next_of, take_of, due_of, fed_of, look, behind, more, looked, most_looks, door_rules, at_door, feed_segment}
-use Rattle.segment_feed.specs.Post.{Hears, Looks, More, Roomy, kept, heard_as, begun_as, idle_as, busy_as}
-use Rattle.segment_feed.specs.declared.Looked.{Looked}
+use Rattle.std.specs.declared.ops.ControlFlow.TheVariants.{Continue}
+use Rattle.segment_feed.specs.Post.{Hears, Looked, Looks, More, Roomy, heard_as, follows, going, begun_as, idle_as, busy_as}
+use Rattle.segment_feed.specs.declared.Heard as code
 use Rattle.segment_feed.proofs.Looking.{look-idle, look-busy, feed-most, fed-down, more-on, more-off, looked-fitting}
 
 -- the end of the words is their rest, and what is put there stands behind the front
@@ -26,14 +27,18 @@ put-end w xs ys h =
 
 -- ---- one look more
 
+looks-going : (b : Bool) (r : code.Heard) (o : Look) (ws R H : List ℕ) → b ≡ o.on → Hears o.heard r ws R H → Looks o (going b r) ws R H
+looks-going true r o ws R H e h = record { on = e; heard = h }
+looks-going false r o ws R H e h = record { on = e; heard = h }
+
 -- no look follows
-pub looks-off : (W : Way) (g : Sent) (so : Looked) (ws R H : List ℕ) → so.on ≡ false → (l : Look) → Looks l so ws R H → Looks (more W g l) so ws R H
+pub looks-off : (W : Way) (g : Sent) (so : Looked) (ws R H : List ℕ) → follows so ≡ false → (l : Look) → Looks l so ws R H → Looks (more W g l) so ws R H
 looks-off W g so ws R H t l k = rw (more-off W g l (sym k.on ∙ t)) k
 
 -- one does: by what the offset, the next number, the taking and the part that is due are promised to be
-module _ (W : Way) (g : Sent) (so : Looked) (ws R H : List ℕ) (t : so.on ≡ true) (at next : ℕ) (h : Held) (J d : List ℕ)
+module _ (W : Way) (g : Sent) (so : code.Heard) (ws R H : List ℕ) (at next : ℕ) (h : Held) (J d : List ℕ)
     (offset : at ≡ W.layout.offset R) (number : next ≡ (g.first + at) % circle) (takes : Takes (taking next H so.start so.length g.start g.bytes) h J)
-    (dues : d ≡ due next J h.start h.length g.start g.bytes) (l : Look) (k : Looks l so ws R H) where
+    (dues : d ≡ due next J h.start h.length g.start g.bytes) (l : Look) (k : Looks l (Continue so) ws R H) where
   next_here : next ≡ next_of W g l.heard.kept
   next_here = number ∙ ap (λ (n : ℕ). (g.first + n) % circle) (offset ∙ ap W.layout.offset k.heard.flow)
 
@@ -44,7 +49,7 @@ module _ (W : Way) (g : Sent) (so : Looked) (ws R H : List ℕ) (t : so.on ≡ t
   due-here = let t = takes-here in dues ∙ rw (next_here, t.bytes, t.start, t.length)
 
   here : more W g l ≡ record { on = (look W g l.heard.kept (drop (2 * l.heard.pairs) l.heard.words)).on; heard = behind l.heard (look W g l.heard.kept (drop (2 * l.heard.pairs) l.heard.words)).heard }
-  here = more-on W g l (sym k.on ∙ t)
+  here = more-on W g l (sym k.on)
 
   -- nothing is due
   pub looks-idle : length d ≡ 0 → Looks (more W g l) (idle_as so h) ws R J
@@ -83,24 +88,21 @@ module _ (W : Way) (g : Sent) (so : Looked) (ws R H : List ℕ) (t : so.on ≡ t
         let t = takes-here in
         let a = fed-here in
         rw (here, look-busy W g l.heard.kept (drop (2 * l.heard.pairs) l.heard.words) (λ y. z (ap length due-here ∙ y)))
+        (looks-going f.all _ _ _ _ _ a.all
         (record {
-          on = a.all;
-          heard =
-              record {
-                refusal = a.refusal;
-                bytes = rw (length-append, k.heard.bytes, a.bytes, fed-down W g l.heard.kept (drop (2 * l.heard.pairs) l.heard.words));
-                pairs = rw (k.heard.pairs, a.pairs);
-                all = refl;
-                start = t.start;
-                length = t.length;
-                words = put-end (2 * so.pairs) ws ys roomy ∙ rw (k.heard.pairs, k.heard.words, a.words);
-                flow = a.saved;
-                held = t.bytes;
-              };
-        })
+          refusal = a.refusal;
+          bytes = rw (length-append, k.heard.bytes, a.bytes, fed-down W g l.heard.kept (drop (2 * l.heard.pairs) l.heard.words));
+          pairs = rw (k.heard.pairs, a.pairs);
+          all = refl;
+          start = t.start;
+          length = t.length;
+          words = put-end (2 * so.pairs) ws ys roomy ∙ rw (k.heard.pairs, k.heard.words, a.words);
+          flow = a.saved;
+          held = t.bytes;
+        }))
 
 -- what was fed is few, and so is what is then heard
-pub fed-few : (W : Way) (so : Looked) (ws R : List ℕ) (at next : ℕ) (J : List ℕ) (p n q : ℕ) (seg d : List ℕ) → Roomy so (length ws) → d ≡ due next J p n q seg → (f : Fed) (ys Q : List ℕ)
+pub fed-few : (W : Way) (so : code.Heard) (ws R : List ℕ) (at next : ℕ) (J : List ℕ) (p n q : ℕ) (seg d : List ℕ) → Roomy so (length ws) → d ≡ due next J p n q seg → (f : Fed) (ys Q : List ℕ)
     → Answers (fed_by W R at d (mid_of (2 * so.pairs) (length ws - 2 * so.pairs) ws)) f ys Q
     → (so.bytes + f.bytes ≤ most_segment * (most_looks + 1)) × (2 * (so.pairs + f.pairs) ≤ length ws)
 fed-few W so ws R at next J p n q seg d r e f ys Q a =
@@ -126,12 +128,10 @@ module _ (W : Way) (g : Sent) (S : Kept) (out : List ℕ) where
   pub stands-begun : (n : ℕ) → n ≡ verdict (door_rules W g S) → Stands 0 (begun_as n S.start S.length) out S.flow S.held
   unfolding looked
   stands-begun n e =
-      record {
-        on = ap (λ (m : ℕ). eqb m 0) e;
-        heard = record { refusal = e; bytes = refl; pairs = refl; all = refl; start = refl; length = refl; words = refl; flow = refl; held = refl };
-      }
+      looks-going (eqb n 0) _ _ _ _ _ (ap (λ (m : ℕ). eqb m 0) e)
+      (record { refusal = e; bytes = refl; pairs = refl; all = refl; start = refl; length = refl; words = refl; flow = refl; held = refl })
 
-  pub roomy : (i : ℕ) (so : Looked) (ws R H : List ℕ) → i ≤ most_looks → Stands i so ws R H → Roomy so (length ws)
+  pub roomy : (i : ℕ) (so : Looked) (ws R H : List ℕ) → i ≤ most_looks → Stands i so ws R H → Roomy (heard_as so) (length ws)
   roomy i so ws R H l k =
       let f = looked-fitting W g (length out) i (at_door W g S out) (record { pairs = omega arith; words = refl; bytes = omega arith }) in
       (omega (arith, f.pairs, f.words, k.heard.pairs, ap length k.heard.words), omega (arith, f.bytes, k.heard.bytes))

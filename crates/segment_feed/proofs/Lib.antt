@@ -5,3 +5,4 @@ pub mod Unique
 pub mod Streams
 pub mod Same
 pub mod Said
+pub mod Noting

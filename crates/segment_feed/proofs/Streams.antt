@@ -1,5 +1,5 @@
 -- Any segments on a flow, by any way that goes as its automaton goes: what was heard is what some feeds told, and what some looks passed down. Assumes nothing.
-use Rattle.std.proofs.Common.{◌≡◌, ℕ, zero, suc, ◌+◌, ◌*◌, ◌<◌, ◌≤◌, Bool, true, false, cond, eqb, List, [], ◌∷◌, ◌++◌, length, get_or, take, drop, sym, refl, ap, ◌∙◌, append_assoc, append-nil, arith, eqb-true}
+use Rattle.std.proofs.Common.{◌≡◌, ℕ, zero, suc, ◌*◌, ◌<◌, ◌≤◌, Bool, true, false, cond, eqb, List, [], ◌∷◌, ◌++◌, length, get_or, take, drop, sym, refl, ap, ◌∙◌, append_assoc, append-nil, arith, eqb-true}
 use Rattle.rules.specs.Rules.{verdict}
 use Rattle.feed.specs.Engine.{Engine, Layout}
 use Rattle.feed.specs.Calls.{Bytes, Way, Asked, Call, ruled, asked, record_after, all_told, all_bytes, Along, Pieces}

@@ -3,3 +3,4 @@ pub mod Ways
 pub mod Post
 pub mod Calls
 pub mod Streamed
+pub mod Noted

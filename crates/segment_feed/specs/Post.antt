@@ -1,12 +1,13 @@
 -- What the code answers and leaves, against what the definitions say is heard.
-use Rattle.std.specs.Prelude.{◌≡◌, ℕ, ◌+◌, ◌*◌, ◌≤◌, false, List, length, ◌==◌}
+use Rattle.std.specs.Prelude.{◌≡◌, ℕ, ◌+◌, ◌*◌, ◌≤◌, Bool, true, false, cond, List, length, ◌==◌}
+use Rattle.std.specs.declared.ops.ControlFlow.{ControlFlow}
+use Rattle.std.specs.declared.ops.ControlFlow.TheVariants.{Continue, Break}
 use Rattle.feed.specs.Calls.{Way}
 use Rattle.feed.specs.declared.Fed.{Fed}
 use Rattle.segment.specs.Resend.{most_segment}
 use Rattle.segment.specs.declared.Held.{Held}
 use Rattle.segment_feed.specs.Segment as segment
 use Rattle.segment_feed.specs.declared.Heard.{Heard}
-use Rattle.segment_feed.specs.declared.Looked.{Looked}
 
 -- the code answers r, and leaves the words `ws`, the record R and the held buffer H
 pub record Hears (o : segment.Heard) (r : Heard) (ws R H : List ℕ) : Type 0 where
@@ -20,13 +21,25 @@ pub record Hears (o : segment.Heard) (r : Heard) (ws R H : List ℕ) : Type 0 wh
   pub flow : R ≡ o.kept.flow
   pub held : H ≡ o.kept.held
 
--- what the code answers, of what it has heard so far
+-- what the code has heard so far, and whether a look follows
+abbrev pub Looked : Type 0
+Looked = ControlFlow Heard Heard
+
 abbrev pub heard_as : Looked → Heard
-heard_as so = record { refusal = so.refusal; bytes = so.bytes; pairs = so.pairs; all = so.all; start = so.start; length = so.length }
+heard_as (Continue h) = h
+heard_as (Break h) = h
+
+abbrev pub follows : Looked → Bool
+follows (Continue h) = true
+follows (Break h) = false
+
+-- h is heard, and a look follows where b says so
+abbrev pub going : Bool → Heard → Looked
+going b h = cond b (Continue h) (Break h)
 
 -- so far the code has heard r, and a look follows where the definition says so
 pub record Looks (o : segment.Look) (r : Looked) (ws R H : List ℕ) : Type 0 where
-  pub on : r.on ≡ o.on
+  pub on : follows r ≡ o.on
   pub heard : Hears o.heard (heard_as r) ws R H
 
 -- a segment, and what is kept, by what the code is handed
@@ -43,18 +56,17 @@ abbrev pub More : Way → segment.Sent → Looked → List ℕ → List ℕ → 
 More W g so ws R H r vs Q J = (l : segment.Look) → Looks l so ws R H → Looks (segment.more W g l) r vs Q J
 
 -- the pairs told so far fit n words, and the bytes passed down are few
-abbrev pub Roomy : Looked → ℕ → Type 0
+abbrev pub Roomy : Heard → ℕ → Type 0
 Roomy so n = (2 * so.pairs ≤ n) × (so.bytes ≤ most_segment * segment.most_looks)
 
 -- a segment at the door, where the rules answered n
 abbrev pub begun_as : ℕ → ℕ → ℕ → Looked
-begun_as n start len = record { on = (n == 0); refusal = n; bytes = 0; pairs = 0; all = false; start = start; length = len }
+begun_as n start len = going (n == 0) (record { refusal = n; bytes = 0; pairs = 0; all = false; start = start; length = len })
 
 -- nothing is due; something is, and was fed
-abbrev pub idle_as : Looked → Held → Looked
-idle_as so h =
-    record { on = false; refusal = h.refusal; bytes = so.bytes; pairs = so.pairs; all = (h.refusal == 0); start = h.start; length = h.length }
+abbrev pub idle_as : Heard → Held → Looked
+idle_as so h = Break (record { refusal = h.refusal; bytes = so.bytes; pairs = so.pairs; all = (h.refusal == 0); start = h.start; length = h.length })
 
-abbrev pub busy_as : Looked → Held → Fed → Looked
+abbrev pub busy_as : Heard → Held → Fed → Looked
 busy_as so h f =
-    record { on = f.all; refusal = f.refusal; bytes = so.bytes + f.bytes; pairs = so.pairs + f.pairs; all = false; start = h.start; length = h.length }
+    going f.all (record { refusal = f.refusal; bytes = so.bytes + f.bytes; pairs = so.pairs + f.pairs; all = false; start = h.start; length = h.length })

@@ -1,68 +1,56 @@
-// Feeding a flow by segments by its index: what a segment does around the feed is that of every engine; here is the look with the feed by an index in it,
-// which says beside the rest at which split the flow then stands.
+// Feeding a flow by segments by its index: what a segment does is the same for every engine; here is how the index feeds, which leaves in its note
+// at which split the flow then stands.
 #![tactic(auto)]
 
-ghost use Rattle.std.specs.Prelude.{◌≡◌, length};
-ghost use Rattle.segment_feed.specs.Post.{Hears, Roomy, sent, kept};
-ghost use Rattle.segment_index.specs.Standing.{stand_segment, stood_by};
-ghost use Rattle.segment_index.specs.Post.{MoreAt};
+ghost use Rattle.std.specs.Prelude.{◌≡◌};
+ghost use Rattle.index.specs.Stand.{stood_at};
+ghost use Rattle.segment_feed.specs.Post.{Hears, sent, kept};
+ghost use Rattle.segment_index.specs.Standing.{stand_way, stand_segment, stood_by};
 
-use segment_feed::{Heard, Looked};
+use feed::Fed;
+use segment_feed::{Feeds, Heard};
 
 // What feeding a segment by an index answers: as every segment, and the split where the flow then stands.
+// The split is a number, as C has it, which hands it in again as the hint.
 #[derive(Clone, Copy)]
 pub struct HeardAt {
     pub heard: Heard,
     pub split: usize,
 }
 
-// What is heard so far, and the split where the flow then stands.
 #[derive(Clone, Copy)]
-struct LookedAt {
-    so: Looked,
-    split: usize,
+struct ByIndex<'a> {
+    splits: &'a [u8],
+    index: &'a [u8],
+    hint: usize,
 }
 
-// One look more where one follows: the segment is taken, and what is then due is fed from the hint, with the words behind the pairs told.
-fn look(
-    splits: &[u8],
-    index: &[u8],
-    hint: usize,
-    flow: &mut [u8],
-    first: u32,
-    held: &mut [u8],
-    there: LookedAt,
-    start: u32,
-    segment: &[u8],
-    pairs: &mut [u32],
-) -> LookedAt
-    requires { Roomy there.so (length pairs.old) }
-    ensures { MoreAt splits.now index.now hint (sent first start segment.now) there pairs.old flow.old held.old
-        result pairs.new flow.new held.new }
-{
-    let so = there.so;
-    let on = so.on;
-    if !on {
-        return there;
+impl<'a> Feeds for ByIndex<'a> {
+    type Note = usize;
+
+    ghost way = { λ s. stand_way s.splits.now s.index.now s.hint };
+
+    ghost says = { λ s. stood_at s.splits.now s.index.now s.hint };
+
+    fn offset(&self, flow: &[u8]) -> u64 {
+        segment_feed::offset_of(flow)
     }
-    let at = segment_feed::offset_of(flow);
-    let next = segment_feed::next_of(first, at);
-    let taken = segment::take(next, held, so.start, so.length, start, segment);
-    let due = segment::due(next, held, taken.start, taken.length, start, segment);
-    if due.len() == 0 {
-        let unfed = segment_feed::idle(so, taken);
-        return LookedAt {
-            so: unfed,
-            split: there.split,
-        };
+
+    fn refusal(&self, flow: &[u8], at: u64, piece: &[u8]) -> u32 {
+        index_feed::refusal(self.splits, self.index, self.hint, flow, at, piece)
     }
-    let w = 2 * so.pairs;
-    let stood = index_feed::feed(splits, index, hint, flow, at, due, &mut pairs[w..]);
-    let fed = stood.fed;
-    let led = segment_feed::busy(so, taken, fed);
-    LookedAt {
-        so: led,
-        split: stood.split,
+
+    fn feed(
+        &self,
+        note: &mut usize,
+        flow: &mut [u8],
+        at: u64,
+        piece: &[u8],
+        pairs: &mut [u32],
+    ) -> Fed {
+        let stood = index_feed::feed(self.splits, self.index, self.hint, flow, at, piece, pairs);
+        *note = stood.split;
+        stood.fed
     }
 }
 
@@ -87,23 +75,23 @@ pub fn feed_segment(
         × (result.split ≡ stood_by splits.now index.now hint (sent first start segment.now)
         (kept flow.old held.old held_start held_length) pairs.old) }
 {
-    let at = segment_feed::offset_of(flow);
-    let met = index_feed::refusal(splits, index, hint, flow, at, &segment[0..0]);
-    let refusal = segment_feed::door(met, held.len(), held_length, segment.len());
-    let begun = segment_feed::begun(refusal, held_start, held_length);
-    let mut there = LookedAt {
-        so: begun,
-        split: hint,
+    let engine = ByIndex {
+        splits,
+        index,
+        hint,
     };
-    for i in 0..segment_feed::MOST_LOOKS {
-        there = look(
-            splits, index, hint, flow, first, held, there, start, segment, pairs,
-        );
-    }
-    let so = there.so;
-    let heard = segment_feed::answered(so);
-    HeardAt {
-        heard: heard,
-        split: there.split,
-    }
+    let mut split = hint;
+    let heard = segment_feed::feed_by(
+        &engine,
+        &mut split,
+        flow,
+        first,
+        held,
+        held_start,
+        held_length,
+        start,
+        segment,
+        pairs,
+    );
+    HeardAt { heard, split }
 }

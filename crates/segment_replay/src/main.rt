@@ -1,203 +1,178 @@
 // The program of the vectors of resends and renewals: it replays the commands of standard input through the library, and writes a line for each that answers.
 #![tactic(auto)]
 
-ghost use Rattle.std.specs.Prelude.{◌≡◌, length};
+use replay::{Hearer, Place, Segment};
+use replay_tape::{Buffer, MOST_WORDS, Program, Table, TableBuffer};
 
-use replay::{Call, Place};
-use replay_tape::Table;
+// Room for a segment, 65,535 bytes and 257 more, and for the lists of a table, one after the other.
+const SEGMENT_ROOM: usize = 65792;
 
-// How many bytes of each buffer are in use, the number of the flow's first byte and the held place, and whether commands are left.
+// Room for the held buffer, 4,096 bytes and 256 more, for a record and for a list.
+const HELD_ROOM: usize = 4352;
+
+// By what a segment is fed: the list alone or a table, as its bound says, an automaton with bits and counters, or an index.
 #[derive(Clone, Copy)]
-struct Sizes {
-    more: bool,
-    list: usize,
-    table: Table,
-    flow: usize,
-    held: usize,
-    segment: usize,
+enum By {
+    ListOrTable,
+    Machine,
+    Index,
+}
+
+// A command. A segment is taken at any letter that has no other meaning, with which the line begins.
+#[derive(Clone, Copy)]
+enum Command {
+    ReadList,
+    ReadTable,
+    ReadRecord,
+    SowHeld,
+    SowSegment,
+    ReadSegment,
+    Open,
+    Hear(By),
+    Renew,
+    Offset,
+    Due,
+    Take(u8),
+}
+
+// A list, a table, the record of a flow, what is held, a segment, and the place.
+#[derive(Drop)]
+struct Flow<'a> {
+    list: Buffer<'a>,
+    table: TableBuffer<'a>,
+    flow: Buffer<'a>,
+    held: Buffer<'a>,
+    segment: Buffer<'a>,
     place: Place,
 }
 
-// Zeros for a segment, 65,535 bytes and 257 more, and for the lists of a table, one after the other.
-fn segment_buffer() -> [u8; 65792]
-    ensures { 65792 ≡ length result }
-{
-    [0; 65792]
-}
-
-// Zeros for the held buffer, 4,096 bytes and 256 more, for a record and for a list.
-fn held_buffer() -> [u8; 4352]
-    ensures { 4352 ≡ length result }
-{
-    [0; 4352]
-}
-
-// Replays feeding a segment, by the letter: the input says the bound or the hint, how many words there are, and the segment's start.
-fn hear(
-    letter: u8,
-    list: &[u8],
-    table: &[u8],
-    flow: &mut [u8],
-    held: &mut [u8],
-    segment: &[u8],
-    mut s: Sizes,
-) -> Sizes {
-    let bound = replay_tape::read_word();
-    let words = replay_tape::read_number(4) as usize;
-    let start = replay_tape::read_number(4);
-    let t = s.table;
-    let call = Call {
-        letter: letter,
-        bound: bound as u64,
-        hint: bound,
-        start: start,
-        table: t,
-    };
-    let mut out = replay_tape::word_buffer();
-    let k = replay_tape::within_words(&out, words);
-    let place = s.place;
-    let left = replay::hear(call, place, list, table, flow, held, segment, &mut out[..k]);
-    s.place = left;
-    s
-}
-
-// Replays an opening: nothing is held then, and the flow's first byte has the number that follows.
-fn open(list: &[u8], flow: &mut [u8], mut s: Sizes) -> Sizes {
-    let place = Place {
-        first: replay_tape::read_word(),
-        start: 0,
-        length: 0,
-    };
-    s.place = place;
-    let mut out = replay_tape::word_buffer();
-    replay::open_silent(list, flow, &mut out);
-    s
-}
-
-// Replays a renewal.
-fn renew(flow: &mut [u8], mut s: Sizes) -> Sizes {
-    let place = s.place;
-    let left = replay::renew(place, flow);
-    s.place = left;
-    s
-}
-
-// Replays a command that answers, on what is in use.
-fn answer(
-    command: u8,
-    list: &[u8],
-    table: &[u8],
-    flow: &mut [u8],
-    held: &mut [u8],
-    segment: &[u8],
-    s: Sizes,
-) -> Sizes {
-    if command == b'o' {
-        return open(list, flow, s);
+// By what a segment is fed, and the letter of its line. A number is the bound, which is 0 for the list alone, or the hint. The moves and programs of an
+// automaton stand in the place of the table's parts and rows, and an index in the place of its rows.
+fn hearer<'a>(by: By, number: u32, list: &'a [u8], table: Table<'a>) -> (u8, Hearer<'a>) {
+    match by {
+        By::ListOrTable if number == 0 => (b'g', Hearer::List { list }),
+        By::ListOrTable => {
+            let bound = u64::from(number);
+            (b'g', Hearer::Table { list, bound, table })
+        }
+        By::Machine => {
+            let moves = table.parts;
+            let programs = table.rows;
+            (b'x', Hearer::Machine { moves, programs })
+        }
+        By::Index => {
+            let splits = table.splits;
+            let index = table.rows;
+            let hint = number as usize;
+            let by_index = Hearer::Index {
+                splits,
+                index,
+                hint,
+            };
+            (b'p', by_index)
+        }
     }
-    if (command == b'g') | (command == b'p') | (command == b'x') {
-        return hear(command, list, table, flow, held, segment, s);
-    }
-    if command == b'n' {
-        return renew(flow, s);
-    }
-    if command == b'z' {
-        replay::offset(flow);
-        return s;
-    }
-    replay::take(command, held, segment);
-    s
 }
 
-// Reads a list, a table, a record, a held buffer or a segment, by its letter; at the end of the input, where the letter is 0, no commands are left.
-fn load(
-    command: u8,
-    list: &mut [u8],
-    table: &mut [u8],
-    flow: &mut [u8],
-    held: &mut [u8],
-    segment: &mut [u8],
-    mut s: Sizes,
-) -> Sizes {
-    if command == b'L' {
-        s.list = replay_tape::read_field(list);
-    } else if command == b'T' {
-        let t = replay_tape::read_table(table);
-        s.table = t;
-    } else if command == b'R' {
-        s.flow = replay_tape::read_field(flow);
-    } else if command == b'H' {
-        s.held = replay_tape::read_sown(held);
-    } else if command == b'S' {
-        s.segment = replay_tape::read_sown(segment);
-    } else if command == b'P' {
-        s.segment = replay_tape::read_field(segment);
-    } else {
-        s.more = false;
-    }
-    s
-}
-
-// Replays one command; answers the sizes after it.
-fn replay_one(
-    list: &mut [u8],
-    table: &mut [u8],
-    flow: &mut [u8],
-    held: &mut [u8],
-    segment: &mut [u8],
-    s: Sizes,
-) -> Sizes {
-    let command = replay_tape::read_command();
-    if command < b'a' {
-        return load(command, list, table, flow, held, segment, s);
-    }
-    let f = replay_tape::within(flow, s.flow);
-    let h = replay_tape::within(held, s.held);
-    answer(
-        command,
-        replay_tape::front(list, s.list),
-        table,
-        &mut flow[..f],
-        &mut held[..h],
-        replay_tape::front(segment, s.segment),
-        s,
-    )
-}
-
-// Replays the commands of the input.
-fn replay(list: &mut [u8], table: &mut [u8], flow: &mut [u8], held: &mut [u8], segment: &mut [u8]) {
-    let mut s = Sizes {
-        more: true,
-        list: 0,
-        table: Table {
-            classes: 0,
-            parts: 0,
-            rows: 0,
-            splits: 0,
-        },
-        flow: 0,
-        held: 0,
-        segment: 0,
-        place: Place {
-            first: 0,
+impl<'a> Flow<'a> {
+    // Replays an opening: nothing is held then, and the flow's first byte has the number that follows.
+    fn open(&mut self) {
+        self.place = Place {
+            first: replay_tape::read_u32(),
             start: 0,
             length: 0,
-        },
-    };
-    for _ in 0..replay_tape::MOST_COMMANDS {
-        s = replay_one(list, table, flow, held, segment, s);
-        if !s.more {
-            return;
+        };
+        let mut words = [0; MOST_WORDS];
+        replay::open_silent(self.list.bytes(), self.flow.bytes_mut(), &mut words);
+    }
+
+    // Replays feeding a segment: the input says the bound or the hint, how many words there are, and the segment's start.
+    fn hear(&mut self, by: By) {
+        let number = replay_tape::read_u32();
+        let mut words = [0; MOST_WORDS];
+        let words = replay_tape::front(&mut words, replay_tape::read_size());
+        let start = replay_tape::read_u32();
+        let (letter, hearer) = hearer(by, number, self.list.bytes(), self.table.table());
+        self.place = replay::hear(
+            letter,
+            hearer,
+            self.flow.bytes_mut(),
+            self.place,
+            self.held.bytes_mut(),
+            Segment {
+                start,
+                bytes: self.segment.bytes(),
+            },
+            words,
+        );
+    }
+
+    // Replays a renewal.
+    fn renew(&mut self) {
+        self.place.first = replay::renew(self.place.first, self.flow.bytes_mut());
+    }
+}
+
+impl<'a> Program for Flow<'a> {
+    type Command = Command;
+
+    fn command(letter: u8) -> Option<Command> {
+        match letter {
+            b'L' => Some(Command::ReadList),
+            b'T' => Some(Command::ReadTable),
+            b'R' => Some(Command::ReadRecord),
+            b'H' => Some(Command::SowHeld),
+            b'S' => Some(Command::SowSegment),
+            b'P' => Some(Command::ReadSegment),
+            b'o' => Some(Command::Open),
+            b'g' => Some(Command::Hear(By::ListOrTable)),
+            b'p' => Some(Command::Hear(By::Index)),
+            b'x' => Some(Command::Hear(By::Machine)),
+            b'n' => Some(Command::Renew),
+            b'z' => Some(Command::Offset),
+            b'd' => Some(Command::Due),
+            b'a'.. => Some(Command::Take(letter)),
+            _ => None,
+        }
+    }
+
+    fn replay(&mut self, command: Command) {
+        match command {
+            Command::ReadList => self.list.read_field(),
+            Command::ReadTable => self.table.read(),
+            Command::ReadRecord => self.flow.read_field(),
+            Command::SowHeld => self.held.read_sown(),
+            Command::SowSegment => self.segment.read_sown(),
+            Command::ReadSegment => self.segment.read_field(),
+            Command::Open => self.open(),
+            Command::Hear(by) => self.hear(by),
+            Command::Renew => self.renew(),
+            Command::Offset => replay::offset(self.flow.bytes()),
+            Command::Due => replay::due(self.held.bytes(), self.segment.bytes()),
+            Command::Take(letter) => {
+                replay::take(letter, self.held.bytes_mut(), self.segment.bytes());
+            }
         }
     }
 }
 
 // The program.
 fn main() {
-    let mut list = held_buffer();
-    let mut table = segment_buffer();
-    let mut flow = held_buffer();
-    let mut held = held_buffer();
-    let mut segment = segment_buffer();
-    replay(&mut list, &mut table, &mut flow, &mut held, &mut segment);
+    let mut list = [0; HELD_ROOM];
+    let mut table = [0; SEGMENT_ROOM];
+    let mut flow = [0; HELD_ROOM];
+    let mut held = [0; HELD_ROOM];
+    let mut segment = [0; SEGMENT_ROOM];
+    replay_tape::replay(&mut Flow {
+        list: Buffer::new(&mut list),
+        table: TableBuffer::new(&mut table),
+        flow: Buffer::new(&mut flow),
+        held: Buffer::new(&mut held),
+        segment: Buffer::new(&mut segment),
+        place: Place {
+            first: 0,
+            start: 0,
+            length: 0,
+        },
+    });
 }

@@ -6,18 +6,18 @@ use native.Mathlib.Omega.{arith}
 use lib.ListN.{length, get_or, take, drop, drop_of_length-le}
 use lib.Seq.{take-take, drop-drop}
 use Rattle.numbers.specs.Number.{num, digits}
-use Rattle.sets.specs.Set.{set_words, set_size, bytes_at, set_at}
+use Rattle.sets.specs.Set.{set_words, set_size, bytes_at, read_at, set_at}
 use Rattle.numbers.proofs.Laws.{Small, small-drop, small-take, num-drop, num-low, drop-take, digits-at, num-digits}
 use Rattle.sets.proofs.Sets.{set-at-lt}
 use Rattle.numbers.proofs.Bytes.{words-made}
 
 pub set-at-past : (b : List ℕ) (at : ℕ) → length b ≤ at → 0 ≡ set_at b at
-unfolding set_at num
+unfolding read_at num
 set-at-past b at l = rw (drop_of_length-le b l)
 
 -- word i of the set
 word_in : (b : List ℕ) (at i : ℕ) → Small 8 b → i < set_words → set_at b at / 2 ^ (64 * i) % 2 ^ 64 ≡ num 8 (take 8 (drop (at + 8 * i) b))
-unfolding set_at
+unfolding read_at
 word_in b at i h l =
     let s : Small 8 (bytes_at b at) = small-take 8 set_size (drop at b) (small-drop 8 at b h) in
     let p : 64 * i ≡ 8 * (8 * i) = omega arith in
@@ -43,5 +43,5 @@ words-in-at b at i h l = digits-at 64 set_words (set_at b at) i l ∙ word_in b 
 
 pub words-from : (a b : List ℕ) (at : ℕ) → length a ≡ set_words
     → ((j : ℕ) → j < set_words → get_or a j 0 ≡ num 8 (take 8 (drop (at + 8 * j) b))) → num 64 a ≡ set_at b at
-unfolding set_at
+unfolding read_at
 words-from a b at l h = words-made a b at (λ j k. h j (omega arith)) ∙ ap (λ (n : ℕ). num 8 (take (8 * n) (drop at b))) l

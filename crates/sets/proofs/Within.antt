@@ -69,7 +69,7 @@ module _ (m : ℕ) (a b : List ℕ) (va : Words m a) (vb : Words m b) where
           )
 
   -- what they have beyond, laid over one another
-  within_all : (extra : ℕ) → Laid (λ j. beyond (get_or a j 0) (get_or b j 0)) m extra → eqb extra 0 ≡ within (num 64 a) (num 64 b)
+  pub within_all : (extra : ℕ) → Laid (λ j. beyond (get_or a j 0) (get_or b j 0)) m extra → eqb extra 0 ≡ within (num 64 a) (num 64 b)
   within_all extra h = go (ℕ_discrete extra 0)
     where
       go : Dec (extra ≡ 0) → eqb extra 0 ≡ within (num 64 a) (num 64 b)

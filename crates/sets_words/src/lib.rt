@@ -1,8 +1,9 @@
 // Sets by whole words: the next member from a place on, the bytes from one to another, those that are not in a set, and a set with every member
-// further on. A word without members costs one test.
+// further on. A word without members costs one test. Where a member is sought and there is none, the answer is the end: there each caller's loop
+// ends. Loops go by index where a word's place is an argument.
 #![tactic(auto)]
 
-ghost use Rattle.std.specs.Prelude.{◌≡◌, true, false, ◌&&◌, ◌||◌, not, ℕ, ◌+◌, ◌-◌, ◌*◌, ◌^◌, ◌<◌, ◌≤◌, leb, length, get_or};
+ghost use Rattle.std.specs.Prelude.{◌≡◌, true, false, ◌&&◌, ◌||◌, not, ℕ, ◌+◌, ◌-◌, ◌*◌, ◌^◌, ◌<◌, ◌≤◌, leb, length};
 ghost use Rattle.numbers.specs.Number.{num};
 ghost use Rattle.sets.specs.Set.{states, byte_count, set_words, set_of, byte_set_of, holds};
 ghost use Rattle.sets_words.specs.inner.Next.{Next};
@@ -25,15 +26,12 @@ fn bit_ahead(w: &[u64], from: usize) -> usize
     requires { (from ≤ length w.now) × (length w.now < 2 ^ 32) }
     ensures { Next (num 64 w.now) (64 * from) (64 * length w.now) result }
 {
-    let mut i = from;
-    while i < w.len() {
-        let x = w[i];
-        if x != 0 {
-            return 64 * i + lowest(x);
+    for i in from..w.len() {
+        if w[i] != 0 {
+            return 64 * i + lowest(w[i]);
         }
-        i = i + 1;
     }
-    64 * i
+    64 * w.len()
 }
 
 // The first bit that is 1 from bit s on.
@@ -83,13 +81,6 @@ fn ones_between(a: usize, b: usize) -> u64
     (ALL >> (63 - (b - a))) << a
 }
 
-// How far a number stands past another; where it does not, 0.
-fn past(n: usize, m: usize) -> usize
-    ensures { result ≡ n - m }
-{
-    if m < n { n - m } else { 0 }
-}
-
 // The bits of word i that stand from low to high.
 fn ones_in(low: usize, high: usize, i: usize) -> u64
     requires { i < 2 ^ 32 }
@@ -104,7 +95,7 @@ fn ones_in(low: usize, high: usize, i: usize) -> u64
     if 64 * i + 63 < low {
         return 0;
     }
-    let a = past(low, 64 * i);
+    let a = low.saturating_sub(64 * i);
     if high < 64 * i + 63 {
         return ones_between(a, high - 64 * i);
     }
@@ -127,22 +118,14 @@ pub fn span(set: ByteSet, low: usize, high: usize) -> ByteSet
 pub fn others(set: ByteSet) -> ByteSet
     ensures { (c : ℕ) → c < 256 → holds (byte_set_of result) c ≡ not (holds (byte_set_of set) c) }
 {
-    let a = set.words;
-    let mut w = a;
-    for i in 0..sets::BYTE_WORDS {
-        w[i] = a[i] ^ ALL;
+    let mut w = set.words;
+    for x in &mut w {
+        *x ^= ALL;
     }
     ByteSet::of_words(w)
 }
 
 // ---- every member further on
-
-// Word i; past the end that is 0.
-fn word_of(w: &[u64], i: usize) -> u64
-    ensures { result ≡ get_or w.now i 0 }
-{
-    if i < w.len() { w[i] } else { 0 }
-}
 
 // The high bits of one word and the low bits of the next, as one word.
 fn straddle(high: u64, low: u64, b: usize) -> u64
@@ -164,11 +147,11 @@ fn word_further(w: &[u64], d: usize, i: usize) -> u64
     if i < j {
         return 0;
     }
-    let high = word_of(w, i - j);
+    let high = sets::word_of(w, i - j);
     if i == j {
         return straddle(high, 0, d % 64);
     }
-    straddle(high, word_of(w, i - j - 1), d % 64)
+    straddle(high, sets::word_of(w, i - j - 1), d % 64)
 }
 
 // Each state of a set, d further on.

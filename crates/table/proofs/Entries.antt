@@ -11,7 +11,7 @@ use native.Mathlib.Decide.{dec_lt}
 use lib.ListN.{length, get_or, drop, length-take, length-drop, drop_of_length-le}
 use lib.Seq.{drop-cons, get_or-drop}
 use Rattle.numbers.specs.Number.{num, digits, before}
-use Rattle.sets.specs.Set.{states, set_size, holds, set_bytes, bytes_at, set_at}
+use Rattle.sets.specs.Set.{states, set_size, holds, set_bytes, bytes_at, set_at, read_at}
 use Rattle.numbers.proofs.Laws.{Small, small-take, digits-num}
 use Rattle.sets.proofs.Sets.{set-at-holds}
 use Rattle.sets.proofs.Standing.{set-at-past}
@@ -162,7 +162,7 @@ row_inside n k p q h l = omega (arith, mul-le-mul_right {m = suc p} {n = n} k h,
 -- ---- the bytes of a set that stands in a list of bytes
 
 pub set-bytes : (b : List ℕ) (at : ℕ) → Small 8 b → at + set_size ≤ length b → set_bytes (set_at b at) ≡ bytes_at b at
-unfolding set_at
+unfolding read_at
 set-bytes b at s h =
     let l : length (bytes_at b at) ≡ set_size = simp (length-take, length-drop) (omega arith) in
     let t : Small 8 (bytes_at b at) = small-take 8 set_size (drop at b) (λ i. rw (get_or-drop at b i 0) (s (at + i))) in

@@ -7,8 +7,9 @@ use native.Mathlib.Omega.{arith}
 use lib.ListN.{length}
 use lib.Dec.{eqb}
 use borrow.Author.Tests.{eq-eqb, ne_eqb}
+use Rattle.std.specs.declared.cmp.Ordering.TheVariants.{Less, Equal}
 use Rattle.numbers.specs.Number.{num, before, compare}
-use Rattle.sets.specs.Set.{set_size, set_bytes, bytes_at}
+use Rattle.sets.specs.Set.{set_size, set_bytes, set_at, bytes_at}
 use Rattle.numbers.proofs.Laws.{Small, num-digits, length_digits}
 use Rattle.sets.proofs.Sets.{set-at-lt}
 use Rattle.numbers.proofs.Order.{before-trans, compare-exactly}
@@ -33,6 +34,11 @@ pub splits-rise : (S : List ℕ) → Small 8 S → every (split_count S) (in_ord
     → before (set_bytes (split_set S i)) (set_bytes (split_set S j)) ≡ true
 splits-rise S s o i j l h = rw (split-bytes S i s (omega arith), split-bytes S j s h) (rise S o i j l h)
 
+-- ---- sets at the front of entries, as strings
+
+abbrev pub set_strings : List ℕ → ℕ → ℕ → List ℕ
+set_strings b size i = set_bytes (set_at b (size * i))
+
 -- ---- among the splits, by halving
 
 -- their sets as strings
@@ -52,19 +58,29 @@ between_none S F lo hi b e =
     sym (first-none (split_count S) (λ i. eqb (split_set S i) F)
     (some-none (split_count S) (λ i. eqb (split_set S i) F) (λ i h. ne_eqb (split_set S i) F (λ q. between-other (split_strings S) (split_count S) (set_bytes F) lo hi b e i h (ap (λ (x : ℕ). set_bytes x) q)))))
 
+-- what the search among their sets says: a place that is found, or none
+pub found-there : (S : List ℕ) → Small 8 S → every (split_count S) (in_order S) ≡ true → (F i : ℕ) → i < split_count S → set_at S (split_size * i) ≡ F → i ≡ split_of S F
+unfolding split_set
+found-there S s o F i h e = between-found S s o F i h e
+
+pub found_none : (S : List ℕ) (F i : ℕ) → i ≤ split_count S → ((j : ℕ) → j < i → before (set_strings S split_size j) (set_bytes F) ≡ true)
+    → ((j : ℕ) → i ≤ j → j < split_count S → before (set_bytes F) (set_strings S split_size j) ≡ true) → split_of S F ≡ split_count S
+unfolding split_set
+found_none S F i l b a = sym (between_none S F i i (record { order = omega arith; most = l; below = b; above = a }) (omega arith))
+
 pub split-lt : (S : List ℕ) → Small 8 S → (m : ℕ) → split_set S m < 2 ^ (8 * set_size)
 unfolding split_set
 split-lt S s m = set-at-lt S (split_size * m) s
 
--- ---- how one set stands to another, by the comparison's number
+-- ---- how one set stands to another
 
 pub same_length : (x F : ℕ) → length (set_bytes x) ≡ length (set_bytes F)
 same_length x F = length_digits 8 set_size x ∙ sym (length_digits 8 set_size F)
 
 module _ (x F : ℕ) (g : x < 2 ^ (8 * set_size)) (f : F < 2 ^ (8 * set_size)) where
-  pub compared_same : compare (set_bytes x) (set_bytes F) ≡ 0 → x ≡ F
+  pub compared_same : compare (set_bytes x) (set_bytes F) ≡ Equal → x ≡ F
   compared_same e =
       sym (num-digits 8 set_size x g) ∙ ap (num 8) ((compare-exactly (set_bytes x) (set_bytes F) (same_length x F)).0.0 e) ∙ num-digits 8 set_size F f
 
-  pub compared-before : compare (set_bytes x) (set_bytes F) ≡ 1 → before (set_bytes x) (set_bytes F) ≡ true
+  pub compared-before : compare (set_bytes x) (set_bytes F) ≡ Less → before (set_bytes x) (set_bytes F) ≡ true
   compared-before e = (compare-exactly (set_bytes x) (set_bytes F) (same_length x F)).1.0 e

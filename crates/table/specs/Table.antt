@@ -1,8 +1,8 @@
 -- The split table: four lists of bytes. What their entries are, and the rules 7 to 13.
-use Rattle.std.specs.Prelude.{ℕ, zero, suc, ◌+◌, ◌*◌, ◌/◌, ◌%◌, max, Bool, true, ◌&&◌, ◌||◌, not, cond, List, [], ◌∷◌, ◌++◌, length, get_or, leb, ltb, eqb}
+use Rattle.std.specs.Prelude.{ℕ, zero, suc, ◌+◌, ◌*◌, ◌/◌, ◌%◌, ◌<◌, ◌≡◌, max, Bool, true, ◌&&◌, ◌||◌, not, cond, List, [], ◌∷◌, ◌++◌, length, get_or, leb, ltb, eqb}
 use Rattle.numbers.specs.Number.{before}
 pub use Rattle.numbers.specs.Number.{byte_values}
-use Rattle.sets.specs.Set.{set_size, bytes_at, set_at, join}
+use Rattle.sets.specs.Set.{set_size, bytes_at, set_at, set_bytes, join}
 use Rattle.rules.specs.Scan.{some, every, first, rising}
 use Rattle.rules.specs.Rules.{Rule, verdict}
 use Rattle.list.specs.List.{word, list_rules}
@@ -99,6 +99,10 @@ joined f (x ∷ xs) = join (f x) (joined f xs)
 -- F is the set of some split
 abbrev pub is_split : List ℕ → ℕ → Bool
 is_split S F = some (split_count S) (λ i. eqb (split_set S i) F)
+
+-- the first n sets of the list rise, as strings of bytes, each at the front of an entry of `size` bytes
+abbrev pub SetsRise : List ℕ → ℕ → ℕ → Type 0
+SetsRise b size n = (i j : ℕ) → i < j → j < n → before (set_bytes (set_at b (size * i))) (set_bytes (set_at b (size * j))) ≡ true
 
 -- the first split whose set equals F; the number of splits where there is none
 unfoldable pub split_of : List ℕ → ℕ → ℕ

@@ -1,18 +1,22 @@
-// The split table: the reads of its four lists, and its check.
+// The split table: the reads of its four lists, and its check. Loops go by index, since the place of a split, a part or a byte is an argument; the
+// arrays have one place for each byte, on the stack: the library has no heap.
+// The lists are lent one by one, as C lends them.
 #![tactic(auto)]
 
-ghost use Rattle.std.specs.Prelude.{◌≡◌, true, false, ◌&&◌, cond, ◌+◌, ◌*◌, ◌^◌, ◌<◌, ◌≤◌, max, length, get_or, ltb, eqb};
-ghost use Rattle.sets.specs.Set.{set_size, set_of, set_at, join};
+ghost use Rattle.std.specs.Prelude.{◌≡◌, true, false, ◌&&◌, cond, ◌++◌, ◌+◌, ◌-◌, ◌*◌, ◌^◌, ◌<◌, ◌≤◌, length, get_or, drop, ltb, eqb, ℕ, IfSome, IfNone, IfOk, IfErr};
+ghost use Rattle.numbers.specs.Number.{before};
+ghost use Rattle.sets.specs.Set.{set_size, set_of, set_at, set_bytes, join};
 ghost use Rattle.rules.specs.Scan.{every};
 ghost use Rattle.rules.specs.Rules.{verdict};
 ghost use Rattle.list.specs.List.{list_refusal};
 ghost use Rattle.list.specs.Automaton.{step};
 ghost use Rattle.list_alike.specs.inner.Alike.{Alikes};
 ghost use Rattle.table.specs.Table.{table, byte_values, most_parts, largest, class_count, part_count, split_count, part, row_at, row, split_set};
-ghost use Rattle.table.specs.Table.{slots, unused_slot, used_slots, all_below, joined, is_split, split_of};
+ghost use Rattle.table.specs.Table.{slots, unused_slot, used_slots, all_below, joined, is_split, SetsRise, split_of};
 ghost use Rattle.table.specs.Table.{bad_classes, bad_count, bad_rows_length, bad_lengths, good_slots, in_order, size_rules, rising_rules, table_refusal};
 
 use sets::StateSet;
+use std::cmp::Ordering;
 
 // Bytes that a piece may have; each has a class.
 pub const BYTE_VALUES: usize = 256;
@@ -36,20 +40,13 @@ pub const UNUSED: usize = 65535;
 // Bytes in a split: its set, then its slots of two bytes.
 pub const SPLIT_SIZE: usize = sets::BYTES + 2 * SLOTS;
 
-// The larger of two bytes.
-fn larger(x: u8, y: u8) -> u8
-    ensures { result ≡ max x y }
-{
-    if x < y { y } else { x }
-}
-
 // The largest byte of a list; 0 where it is empty.
 fn largest(b: &[u8]) -> u8
     ensures { result ≡ largest b.now }
 {
     let mut m = 0u8;
-    for i in 0..b.len() {
-        m = larger(m, b[i]);
+    for x in b {
+        m = m.max(*x);
     }
     m
 }
@@ -75,15 +72,21 @@ pub fn split_count(splits: &[u8]) -> usize
     splits.len() / SPLIT_SIZE
 }
 
+// Copies what a list has from a place on to the front of another, which is as long or longer.
+fn copy_end(b: &[u8], at: usize, block: &mut [u8])
+    requires { (at ≤ length b.now) × (length b.now ≤ at + length block.old) }
+    ensures { block.new ≡ drop at b.now ++ drop (length b.now - at) block.old }
+{
+    block[..b.len() - at].copy_from_slice(&b[at..]);
+}
+
 // The set at the end of a list, from a place on behind which no whole set stands; bytes past the list's end are 0.
 fn end_set(b: &[u8], at: usize) -> StateSet
     requires { (at ≤ length b.now) × (length b.now < at + set_size) }
     ensures { set_of result ≡ set_at b.now at }
 {
     let mut block = [0u8; sets::BYTES];
-    for i in 0..b.len() - at {
-        block[i] = b[at + i];
-    }
+    copy_end(b, at, &mut block);
     StateSet::from_bytes(&block, 0)
 }
 
@@ -216,7 +219,7 @@ fn good_slots(splits: &[u8], i: usize, n: usize, bound: u64) -> bool
                 return false;
             }
             least = x + 1;
-            left = left - 1;
+            left -= 1;
         }
     }
     true
@@ -267,11 +270,7 @@ fn slots_good(splits: &[u8], n: usize, bound: u64) -> bool
 fn splits_good(splits: &[u8], n: usize, bound: u64) -> bool
     ensures { result ≡ every (split_count splits.now) (λ i. good_slots n bound (slots splits.now i) && in_order splits.now i) }
 {
-    if ordered(splits) {
-        slots_good(splits, n, bound)
-    } else {
-        false
-    }
+    ordered(splits) && slots_good(splits, n, bound)
 }
 
 // Says whether the byte that a list has for c is lower and of c's class.
@@ -279,11 +278,7 @@ fn same_as_lower(classes: &[u8], lowers: &[u8], c: u8) -> bool
     ensures { result ≡ (ltb (get_or lowers.now c 0) c && eqb (get_or classes.now (get_or lowers.now c 0) 0) (get_or classes.now c 0)) }
 {
     let d = list::byte_at(lowers, c as usize);
-    if d < c {
-        list::byte_at(classes, d as usize) == list::byte_at(classes, c as usize)
-    } else {
-        false
-    }
+    d < c && list::byte_at(classes, d as usize) == list::byte_at(classes, c as usize)
 }
 
 // Says whether rule 10 passes the rows of part p, whose set is f. A byte that is of the class of a lower one, on which the list steps alike, is not stepped again.
@@ -400,27 +395,39 @@ fn unions_good(parts: &[u8], splits: &[u8]) -> bool
     true
 }
 
-// The split whose set is f, by halving, where the splits are in order; the number of splits where there is none.
-pub fn find_sorted(splits: &[u8], f: StateSet) -> usize
-    requires { every (split_count splits.now) (in_order splits.now) ≡ true }
-    ensures { result ≡ split_of splits.now (set_of f) }
+// Seeks f by halving among the first n sets of a list, which rise, each at the front of an entry of `size` bytes: its place, or as an error how many
+// of them come before it.
+// By hand: the library searches a slice of its elements, and these sets stand in bytes.
+pub fn seek(b: &[u8], size: usize, n: usize, f: StateSet) -> Result<usize, usize>
+    requires { (set_size ≤ size) × (size * n ≤ length b.now) × SetsRise b.now size n }
+    ensures there { IfOk result (λ i. (i < n) × (set_at b.now (size * i) ≡ set_of f)) }
+    ensures none { IfErr result (λ i. (i ≤ n)
+        × ((j : ℕ) → j < i → before (set_bytes (set_at b.now (size * j))) (set_bytes (set_of f)) ≡ true)
+        × ((j : ℕ) → i ≤ j → j < n → before (set_bytes (set_of f)) (set_bytes (set_at b.now (size * j))) ≡ true)) }
 {
-    let n = split_count(splits);
     let mut lo = 0;
     let mut hi = n;
     while lo < hi {
         let mid = (lo + hi) / 2;
-        let met = f.compare_whole(splits, SPLIT_SIZE * mid);
-        if met == numbers::SAME {
-            return mid;
-        }
-        if met == numbers::BEFORE {
-            lo = mid + 1;
-        } else {
-            hi = mid;
+        match f.compare_whole(b, size * mid) {
+            Ordering::Equal => return Ok(mid),
+            Ordering::Less => lo = mid + 1,
+            Ordering::Greater => hi = mid,
         }
     }
-    n
+    Err(lo)
+}
+
+// The split whose set is f, where the splits are in order.
+pub fn find_sorted(splits: &[u8], f: StateSet) -> Option<usize>
+    requires { every (split_count splits.now) (in_order splits.now) ≡ true }
+    ensures found { IfSome result (λ i. (i ≡ split_of splits.now (set_of f)) × (i < split_count splits.now)) }
+    ensures none { IfNone result (split_of splits.now (set_of f) ≡ split_count splits.now) }
+{
+    match seek(splits, SPLIT_SIZE, split_count(splits), f) {
+        Ok(i) => Some(i),
+        Err(_) => None,
+    }
 }
 
 // The union of the rows that byte c selects for the parts of split i.
@@ -442,10 +449,9 @@ fn leads_at(classes: &[u8], rows: &[u8], splits: &[u8], lowers: &[u8], k: usize,
     ensures { result ≡ every byte_values (λ c.
         is_split splits.now (joined (λ p. row classes.now rows.now p c) (used_slots (slots splits.now i)))) }
 {
-    let n = split_count(splits);
     for d in 0..BYTE_VALUES {
         if !same_as_lower(classes, lowers, d as u8) {
-            if n <= find_sorted(splits, rows_of(classes, rows, splits, k, i, d as u8)) {
+            if find_sorted(splits, rows_of(classes, rows, splits, k, i, d as u8)).is_none() {
                 return false;
             }
         }
@@ -513,7 +519,7 @@ fn entries_refusal(
     if !unions_good(parts, splits) {
         return rules::WRONG_UNION;
     }
-    if split_count(splits) <= find_sorted(splits, list::start_set(list)) {
+    if find_sorted(splits, list::start_set(list)).is_none() {
         return rules::NO_START_SPLIT;
     }
     if !leads(classes, rows, splits, k) {

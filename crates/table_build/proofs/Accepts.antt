@@ -1,18 +1,18 @@
 -- The table check accepts the table of a list at bound 1; and what that table holds, in words. Assumes nothing.
-use Prim.Native.Nat.{ℕ, zero, suc, ◌+◌, ◌*◌, ◌/◌, ◌%◌, ◌^◌, ◌≤◌, ◌<◌}
+use Prim.Native.Nat.{ℕ, zero, suc, ◌+◌, ◌*◌, ◌%◌, ◌^◌, ◌≤◌, ◌<◌}
 use mathlib.Core.Path.{◌≡◌, refl, sym, ap, ◌∙◌}
 use mathlib.Core.Bool.{true, false}
 use mathlib.Core.List.{List, [], ◌∷◌, ◌++◌}
 use native.Mathlib.Omega.{arith}
 use native.Mathlib.Nat.{mul-div_cancel_left, mul-le-mul_left, mul-pos, mul-mod_right}
-use lib.ListN.{length, get_or, take, drop, length-append, length-replicate, get_or-replicate}
+use lib.ListN.{length, get_or, take, drop, replicate, length-append, length-replicate}
 use lib.Seq.{take_at, get_or-append-add}
 use lib.Arith.{digits_lt, digits_div, digits_mod}
 use lib.Dec.{eqb, lit<}
 use borrow.Author.Tests.{eq-eqb, ne_eqb, lt-ltb, le-ltb, le-leb}
 use Rattle.numbers.specs.Number.{num, digits}
-use Rattle.sets.specs.Set.{states, set_size, set_bytes, bytes_at, set_at}
-use Rattle.numbers.proofs.Laws.{num-digits, length_digits}
+use Rattle.sets.specs.Set.{states, set_size, set_bytes, bytes_at, read_at}
+use Rattle.numbers.proofs.Laws.{Small, num-digits, digits-num, length_digits}
 use Rattle.sets.proofs.Sets.{join-comm, join-empty}
 use Rattle.list.specs.List.{word, list_refusal}
 use Rattle.list.specs.Automaton.{start, step}
@@ -35,19 +35,25 @@ use Rattle.table_classes.proofs.Words.{coarsest}
 pub slots-long : (i : ℕ) → length (slot_bytes i) ≡ 8
 slots-long i = simp (length-append, length_digits, length-replicate)
 
-pub slots-first : (i : ℕ) → get_or (slot_bytes i) 0 0 ≡ i % 256
+slots-small : (i : ℕ) → Small 8 (slot_bytes i)
 unfolding digits
-slots-first i = refl
+slots-small i zero = omega arith
+slots-small i (suc zero) = omega arith
+slots-small i (suc (suc j)) = ones 6 j
+  where
+    ones : (n j : ℕ) → get_or (replicate {A = ℕ} n 255) j 0 < 2 ^ 8
+    ones zero j = omega arith
+    ones (suc n) zero = omega arith
+    ones (suc n) (suc j) = ones n j
 
-pub slots-second : (i : ℕ) → get_or (slot_bytes i) 1 0 ≡ i / 256 % 256
-unfolding digits
-slots-second i = refl
+-- as a number
+slots-value : (i : ℕ) → i < 65536 → num 8 (slot_bytes i) ≡ 18446744073709486080 + i
+unfolding digits num
+slots-value i h = omega arith
 
-pub slots-rest : (i j : ℕ) → 2 ≤ j → j < 8 → get_or (slot_bytes i) j 0 ≡ 255
-unfolding digits
-slots-rest i zero l h = absurd (omega arith)
-slots-rest i (suc zero) l h = absurd (omega arith)
-slots-rest i (suc (suc j)) l h = get_or-replicate 6 j 255 0 (omega arith)
+pub slots-number : (i : ℕ) → i < 65536 → digits 8 8 (18446744073709486080 + i) ≡ slot_bytes i
+slots-number i h =
+    ap (λ (x : ℕ). digits 8 8 x) (sym (slots-value i h)) ∙ ap (λ (n : ℕ). digits 8 n (num 8 (slot_bytes i))) (sym (slots-long i)) ∙ digits-num 8 (slot_bytes i) (slots-small i)
 
 pub split-long : (S i : ℕ) → length (set_bytes S ++ slot_bytes i) ≡ split_size
 split-long S i = length-append (set_bytes S) (slot_bytes i) ∙ omega (arith, length_digits 8 set_size S, slots-long i)
@@ -104,13 +110,13 @@ module _ (xs : List ℕ) where
 
   module _ (small : (i : ℕ) → i < length xs → get_or xs i 0 < 2 ^ states) where
     part_at : (p : ℕ) → p < length xs → part (parts_of xs) p ≡ get_or xs p 0
-    unfolding part set_at parts_of
+    unfolding part read_at parts_of
     part_at p h =
         ap (num 8) (stack-entry (λ q. set_bytes (get_or xs q 0)) set_size (λ q. length_digits 8 set_size (get_or xs q 0)) (length xs) p h)
         ∙ num-digits 8 set_size (get_or xs p 0) (small p h)
 
     split_at : (i : ℕ) → i < length xs → split_set (splits_of xs) i ≡ get_or xs i 0
-    unfolding split_set set_at
+    unfolding split_set read_at
     split_at i h = ap (num 8) (split-bytes i h) ∙ num-digits 8 set_size (get_or xs i 0) (small i h)
 
 -- a split with one slot, at bound 1
@@ -149,7 +155,7 @@ module _ (L : List ℕ) (good : list_refusal L ≡ 0) (xs : List ℕ) (a : Reach
   small i h = reach-lt L (get_or xs i 0) (a.sound (get_or xs i 0) (i, h, refl))
 
   row_at : (p c : ℕ) → p < length xs → c < byte_values → row (classes_of L) (rows_of L xs) p c ≡ step L (get_or xs p 0) c
-  unfolding row set_at rows_of
+  unfolding row read_at rows_of
   row_at p c hp hc =
       rw (class-at L c hc)
       (ap (num 8) (stack-entry (λ j. set_bytes (row_of L xs j)) set_size (λ j. length_digits 8 set_size (row_of L xs j)) (length xs * class_total L) (p * class_total L + class_of L c) (digits_lt hp (class-lt L c hc)))

@@ -1,18 +1,18 @@
 -- The search: a step that is found, one that is new, one too many; the turns of its loops; and at its end every set that can be reached is there. Assumes nothing.
 use Prim.Native.Nat.{ℕ, suc, ◌+◌, ◌*◌, ◌^◌, ◌≤◌, ◌<◌}
 use mathlib.Core.Path.{◌≡◌, refl, sym, ap, ◌∙◌}
-use mathlib.Core.Bool.{Bool, true, false, ◌&&◌, cond, true≢false, false≢true}
+use mathlib.Core.Bool.{Bool, true, false, cond, true≢false, false≢true}
 use mathlib.Core.List.{List, [], ◌∷◌}
 use native.Mathlib.Omega.{arith}
 use native.Mathlib.Decide.{dec_lt}
 use native.Mathlib.Nat.{lt_of_not-le}
 use lib.ListN.{length, get_or}
-use lib.Dec.{eqb, ltb, lit<}
-use borrow.Author.Tests.{lt-ltb, le-ltb, ltb-true, eqb-true, eq-eqb}
+use lib.Dec.{ltb, lit<}
+use borrow.Author.Tests.{lt-ltb, le-ltb}
 use Rattle.sets.specs.Set.{states, set_size}
 use Rattle.list.specs.List.{list_refusal}
 use Rattle.list.specs.Automaton.{start, step}
-use Rattle.rules.proofs.Scanning.{below_suc, choose, both}
+use Rattle.rules.proofs.Scanning.{below_suc, choose}
 use Rattle.rules.proofs.Stacks.{stack-length, stack_at}
 use Rattle.list.proofs.Steps.{start-lt}
 use Rattle.table.specs.Table.{byte_values, part}
@@ -142,8 +142,8 @@ module _ (top : ℕ) (h : ℕ → ℕ → ℕ) where
           stepped = λ x l. choose (below_suc x q (omega arith)) (λ j. (a.more e).stays (h (part W i) x) (g.stepped x j)) (λ z. rw z (a.there e));
         }
 
-    pub grow-full : full ≡ true → (k : ℕ) → Grown top h L W P W₂ P₂ n r i k true
-    grow-full e k =
+    pub grow-full : full ≡ true → (k r' : ℕ) → Grown top h L W P W₂ P₂ n r' i k true
+    grow-full e k r' =
         record { long = a.long ∙ g.long; long' = a.long' ∙ g.long'; many = λ z. a.many e; more = λ z. absurd (true≢false z); stepped = λ z. absurd (true≢false z) }
 
   pub grow-end : (L W P W' P' : List ℕ) (n m i q k : ℕ) → q ≡ k → Growing top h L W P W' P' n m i q → Grown top h L W P W' P' n m i k false
@@ -246,11 +246,3 @@ pub classes-closed : (L W P : List ℕ) (n : ℕ) → list_refusal L ≡ 0 → (
 classes-closed L W P n good class-lt closed i c l h =
     let t = closed i l (class_of L c) (class-lt c h) in
     (t.0, t.1, t.2 ∙ lowest_step L good (part W i) c h)
-
--- ---- what the test at a place says
-
-pub is-there : (P : List ℕ) (n at S : ℕ) (r : Bool) → r ≡ (ltb at n && eqb (part P at) S) → r ≡ true → Among P n S
-is-there P n at S r e t = let b = both (ltb at n) (eqb (part P at) S) (sym e ∙ t) in (at, ltb-true at n b.0, eqb-true (part P at) S b.1)
-
-pub not-there-yet : (P : List ℕ) (n at S : ℕ) (r : Bool) → r ≡ (ltb at n && eqb (part P at) S) → r ≡ false → at < n → part P at ≡ S → ⊥
-not-there-yet P n at S r e f l q = true≢false (sym (e ∙ rw (lt-ltb at n l, eq-eqb (part P at) S q)) ∙ f)

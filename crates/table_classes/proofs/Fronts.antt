@@ -1,64 +1,17 @@
--- Zeros to the end of a list, and bytes written at a place: what stands there, and what stays. Assumes nothing.
+-- Bytes written at a place of a list: what stands there, and what stays. Assumes nothing.
 use Prim.Native.Nat.{ℕ, suc, ◌+◌, ◌-◌, ◌*◌, ◌^◌, ◌≤◌, ◌<◌}
-use mathlib.Core.Path.{◌≡◌, refl, sym, ap, ◌∙◌}
+use mathlib.Core.Path.{◌≡◌, sym, ap, ◌∙◌}
 use mathlib.Core.List.{List, ◌++◌, append_assoc}
 use native.Mathlib.Omega.{arith}
 use native.Mathlib.Nat.{lt_of_not-le}
-use native.Mathlib.Decide.{dec_lt, ℕ_discrete}
-use lib.ListN.{length, get_or, take, drop, set, replicate, length-set, length-append, length-drop, length-replicate, get_or-replicate, get_or-append}
-use lib.Seq.{get_or-set_same, get_or-set_other, get_or-take, get_or-append-add, ext_get_or, take-append-le, drop-append-le, drop-append-add, drop_at, take_at, drop-drop, length-take-le}
+use native.Mathlib.Decide.{dec_lt}
+use lib.ListN.{length, take, drop, length-append, length-drop}
+use lib.Seq.{take-append-le, drop-append-le, drop-append-add, drop_at, take_at, drop-drop, length-take-le}
 use borrow.Author.Tests.{le-leb}
 use Rattle.numbers.specs.Number.{num, placed}
-use Rattle.sets.specs.Set.{states, set_size, set_bytes, set_at}
+use Rattle.sets.specs.Set.{states, set_size, set_bytes, read_at}
 use Rattle.numbers.proofs.Laws.{length_digits, num-digits}
 use Rattle.table.specs.Table.{part}
-
--- ---- zeros from a place on
-
--- c is b with zeros from `from` to i
-pub record Cleared (b c : List ℕ) (from i : ℕ) : Type 0 where
-  pub long : length c ≡ length b
-  pub begun : from ≤ i
-  pub upto : i ≤ length b
-  pub below : (j : ℕ) → j < from → get_or c j 0 ≡ get_or b j 0
-  pub zeros : (j : ℕ) → from ≤ j → j < i → get_or c j 0 ≡ 0
-
-pub clear-start : (b : List ℕ) (from : ℕ) → from ≤ length b → Cleared b b from from
-clear-start b from h =
-    record { long = refl; begun = omega arith; upto = h; below = λ j l. refl; zeros = λ j l k. absurd (omega arith) }
-
-pub clear-more : (b c : List ℕ) (from i : ℕ) → Cleared b c from i → i < length b → Cleared b (set c i 0) from (i + 1)
-clear-more b c from i g h =
-    record {
-      long = length-set c i 0 ∙ g.long;
-      begun = omega (arith, g.begun);
-      upto = omega arith;
-      below = λ j l. get_or-set_other c i j 0 0 (λ e. omega (arith, g.begun)) ∙ g.below j l;
-      zeros = λ j l k. elim (ℕ_discrete j i) [
-        | yes e ↦ rw e (get_or-set_same c i 0 0 (omega (arith, g.long)))
-        | no n ↦ get_or-set_other c i j 0 0 n ∙ g.zeros j l (omega arith)
-      ];
-    }
-
-pub clear-end : (b c : List ℕ) (from i : ℕ) → Cleared b c from i → i ≡ length b → c ≡ take from b ++ replicate (length b - from) 0
-clear-end b c from i g e =
-    ext_get_or 0 c (take from b ++ replicate (length b - from) 0)
-    (g.long ∙ sym (length-append (take from b) (replicate (length b - from) 0) ∙ omega (arith, front, length-replicate {A = ℕ} (length b - from) 0, g.begun)))
-    (λ j h. elim (dec_lt j from) [ yes l ↦ low j l | no n ↦ high j (omega (arith, lt_of_not-le (λ (l : suc j ≤ from). n l))) (omega (arith, g.long)) ])
-  where
-    front : length (take from b) ≡ from
-    front = length-take-le from b (omega (arith, g.begun))
-
-    low : (j : ℕ) → j < from → get_or c j 0 ≡ get_or (take from b ++ replicate (length b - from) 0) j 0
-    low j l = g.below j l ∙ sym (get_or-append (take from b) (replicate (length b - from) 0) 0 j (omega (arith, front)) ∙ get_or-take from b j 0 l)
-
-    high : (j : ℕ) → from ≤ j → j < length b → get_or c j 0 ≡ get_or (take from b ++ replicate (length b - from) 0) j 0
-    high j l k =
-        let q : j ≡ length (take from b) + (j - from) = omega (arith, front) in
-        g.zeros j l (omega arith)
-        ∙ sym (ap (λ (x : ℕ). get_or (take from b ++ replicate (length b - from) 0) x 0) q
-        ∙ get_or-append-add (take from b) (replicate (length b - from) 0) (j - from) 0
-        ∙ get_or-replicate (length b - from) (j - from) 0 0 (omega arith))
 
 -- ---- bytes written at a place
 
@@ -133,11 +86,11 @@ module _ (b : List ℕ) (n t : ℕ) (room : set_size * n + set_size ≤ length b
   put-length = placed-length b (set_size * n) (set_bytes t) set_size (length_digits 8 set_size t) room
 
   pub put_same : t < 2 ^ states → part (put b n t) n ≡ t
-  unfolding part set_at
+  unfolding part read_at
   put_same h = ap (num 8) (placed-here b (set_size * n) (set_bytes t) set_size (length_digits 8 set_size t) room) ∙ num-digits 8 set_size t h
 
   pub put_other : (i : ℕ) → (i ≡ n → ⊥) → part (put b n t) i ≡ part b i
-  unfolding part set_at
+  unfolding part read_at
   put_other i ne =
       ap (num 8)
       (elim (dec_lt i n) [

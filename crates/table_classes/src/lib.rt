@@ -1,4 +1,6 @@
-// The classes of the bytes, as coarse as a list permits: two bytes share one where every state steps alike on both.
+// The classes of the bytes, as coarse as a list permits: two bytes share one where every state steps alike on both. Loops go by index, since a byte's
+// place in a list is the byte, and a record's place is an argument.
+// Classes and rows are slices: lists may be lent that are longer than an array of one place for each byte.
 #![tactic(auto)]
 
 ghost use Rattle.std.specs.Prelude.{◌≡◌, true, false, not, ◌&&◌, List, ◌++◌, ℕ, ◌+◌, ◌-◌, ◌*◌, ◌^◌, ◌<◌, ◌≤◌, length, get_or, take, replicate, eqb};
@@ -17,9 +19,7 @@ pub fn clear(b: &mut [u8], from: usize)
     requires { from ≤ length b.old }
     ensures { b.new ≡ take from b.old ++ replicate (length b.old - from) 0 }
 {
-    for i in from..b.len() {
-        b[i] = 0;
-    }
+    b[from..].fill(0);
 }
 
 // Says whether set i of a list of sets, where its bytes are all there, is f.
@@ -45,13 +45,10 @@ fn takes_all(list: &[u8], f: StateSet, i: usize) -> bool
     requires { i < records list.now }
     ensures { result ≡ (holds (set_of f) (from list.now i) && wide list.now i) }
 {
-    if f.has(list::from(list, i)) {
-        list::is_edge(list, i)
-            & (list::byte_of(list, i, 1) == 0)
-            & (list::byte_of(list, i, 2) == 255)
-    } else {
-        false
-    }
+    f.has(list::from(list, i))
+        && list::is_edge(list, i)
+        && list::byte_of(list, i, 1) == 0
+        && list::byte_of(list, i, 2) == 255
 }
 
 // States that every byte leads to from f: those that its edges from byte 0 to byte 255 lead to.
@@ -72,11 +69,7 @@ fn adds(list: &[u8], f: StateSet, base: StateSet, i: usize) -> bool
     requires { i < records list.now }
     ensures { result ≡ (holds (set_of f) (from list.now i) && not (holds (set_of base) (target list.now i))) }
 {
-    if f.has(list::from(list, i)) {
-        !base.has(list::target(list, i))
-    } else {
-        false
-    }
+    f.has(list::from(list, i)) && !base.has(list::target(list, i))
 }
 
 // No byte below this one takes a record that is a list of its own.
@@ -138,11 +131,7 @@ fn is_like(classes: &[u8], rows: &[u8], x: u8, f: StateSet, d: usize) -> bool
     requires { (byte_values ≤ length classes.now) × (set_size * byte_values ≤ length rows.now) × (d < byte_values) }
     ensures { result ≡ (eqb (get_or classes.now d 0) x && eqb (part rows.now d) (set_of f)) }
 {
-    if classes[d] == x {
-        is_set(rows, d, f)
-    } else {
-        false
-    }
+    classes[d] == x && is_set(rows, d, f)
 }
 
 // The lowest byte that has the class and the set of byte c.
@@ -160,14 +149,12 @@ fn first_like(classes: &[u8], rows: &[u8], c: usize) -> usize
     c
 }
 
-// Splits the classes by the sets; each byte gets the lowest byte of its class.
+// Splits the classes by the sets; each byte gets the lowest byte of its class. The last byte is first, so that the lower ones still have their classes.
 fn refine(classes: &mut [u8], rows: &[u8])
     requires { (byte_values ≤ length classes.old) × (set_size * byte_values ≤ length rows.now) }
     ensures { Parting classes.old classes.new rows.now 0 }
 {
-    let mut c = table::BYTE_VALUES;
-    while 0 < c {
-        c = c - 1;
+    for c in (0..table::BYTE_VALUES).rev() {
         let d = first_like(classes, rows, c);
         classes[c] = d as u8;
     }
@@ -208,7 +195,7 @@ fn low_bytes(list: &[u8], classes: &mut [u8], rows: &mut [u8])
     }
 }
 
-// Turns the lowest bytes into class numbers.
+// Turns the lowest bytes into class numbers. A byte's place is its number, and the lowest byte's class stands before it.
 fn number(classes: &mut [u8])
     requires { byte_values ≤ length classes.old }
     ensures { (length classes.new ≡ length classes.old) × ((l : List ℕ) → Lows l classes.old → Filled classes.old classes.new (class_of l) byte_values) }
@@ -218,7 +205,7 @@ fn number(classes: &mut [u8])
         let low = classes[c] as usize;
         if low == c {
             classes[c] = next as u8;
-            next = next + 1;
+            next += 1;
         } else {
             classes[c] = classes[low];
         }
@@ -237,6 +224,7 @@ pub fn classes_of(list: &[u8], classes: &mut [u8], rows: &mut [u8]) -> usize
 }
 
 // The lowest byte of class q, where there is such a class.
+// By index: of the closure that the library's `position` takes no proof was found.
 pub fn lowest_of(classes: &[u8], q: u8) -> u8
     requires { (byte_values ≤ length classes.now) × (some byte_values (λ c. eqb (get_or classes.now c 0) q) ≡ true) }
     ensures { result ≡ first byte_values (λ c. eqb (get_or classes.now c 0) q) }

@@ -1,20 +1,23 @@
 -- The split step by the first split whose set is the frontier: where it halts, what it gives, and what it costs. Assumes nothing.
 use Prim.Native.Nat.{ℕ, ◌≤◌, ◌<◌}
 use mathlib.Core.Path.{◌≡◌, refl, sym, ap, ◌∙◌}
-use mathlib.Core.Bool.{Bool, true, false, ◌||◌, not, true≢false}
+use mathlib.Core.Bool.{Bool, true, false, ◌||◌, not}
 use mathlib.Core.List.{List}
 use mathlib.Core.Logic.{◌↔◌}
+use native.Mathlib.Omega.{arith}
 use lib.ListN.{length, get_or}
 use lib.Dec.{ltb, leb, eqb}
-use borrow.Author.Tests.{eqb-true, le-leb, lt-leb}
-use Rattle.sets.specs.Set.{holds, set_of}
+use borrow.Author.Tests.{eqb-true, le-leb, lt-leb, le-ltb, lt-ltb}
+use Rattle.sets.specs.Set.{holds}
 use Rattle.rules.specs.Scan.{first}
-use Rattle.rules.proofs.Scanning.{neither, first_found}
+use Rattle.rules.proofs.Scanning.{first_found}
 use Rattle.table.specs.Table.{Table, part_count, split_count, row, split_set, slots, taken_slots, all_below, joined, is_split, split_of}
 use Rattle.table.proofs.Joined.{joined-exactly}
 use Rattle.table.proofs.Found.{split-exactly}
 use Rattle.list.specs.Automaton.{accepted}
 use Rattle.table_feed.specs.Split.{taken, stuck, split_step, split}
+use Rattle.std.specs.declared.option.Option.{Option}
+use Rattle.std.specs.declared.option.Option.TheVariants.{Some, None}
 use Rattle.table_feed.specs.declared.Taken.{Taken}
 use Rattle.table_feed.specs.inner.Taken.{TakesSlots, TakesStep}
 use Rattle.table_feed.proofs.Taking.{taken-most}
@@ -45,39 +48,47 @@ pub split-step-exactly : (T : Table) (F c s : ℕ)
 unfolding split_step
 split-step-exactly T F c s = joined-exactly (λ p. row T.classes T.rows p c) (taken T F) s
 
-module _ (b : ℕ) (T : Table) (F c i : ℕ) (e : i ≡ split_of T.splits F) where
+module _ (b : ℕ) (T : Table) (F c : ℕ) where
   -- no split has the set F
-  pub step-none : split_count T.splits ≤ i → (t : Taken) → t.halts ≡ true → TakesStep b T F c t
+  pub step-none : split_of T.splits F ≡ split_count T.splits → TakesStep b T F c None
   unfolding stuck
-  step-none l t h =
-      let s : leb (split_count T.splits) (split_of T.splits F) ≡ true = ap (leb (split_count T.splits)) (sym e) ∙ le-leb (split_count T.splits) i l in
-      record { halts = h ∙ sym (rw s); rows = λ z. absurd (true≢false (sym h ∙ z)); next = λ z. absurd (true≢false (sym h ∙ z)) }
+  step-none e =
+      let s : leb (split_count T.splits) (split_of T.splits F) ≡ true = le-leb (split_count T.splits) (split_of T.splits F) (omega (arith, e)) in
+      record { halts = sym (rw s); takes = tt }
 
   -- the slots of split i are taken; too many of them halt
-  module _ (l : i < split_count T.splits) (s : Taken) (g : TakesSlots (part_count T.parts) (λ p. row T.classes T.rows p c) (taken_slots (slots T.splits i)) s) where
+  module _ (i : ℕ) (e : i ≡ split_of T.splits F) (l : i < split_count T.splits) where
     these : taken_slots (slots T.splits i) ≡ taken T F
     these = taken_at T F i e
 
-    halts-of : (s.halts || ltb b s.rows) ≡ stuck b T F
+    halts-of : (t u : Bool) → t ≡ not (all_below (part_count T.parts) (taken_slots (slots T.splits i))) → ltb b (length (taken T F)) ≡ u → (t || u) ≡ stuck b T F
     unfolding stuck
-    halts-of =
+    halts-of t u h q =
         let f : leb (split_count T.splits) (split_of T.splits F) ≡ false = ap (leb (split_count T.splits)) (sym e) ∙ lt-leb (split_count T.splits) i l in
-        let h : s.halts ≡ not (all_below (part_count T.parts) (taken T F)) = g.halts ∙ ap (λ (ss : List ℕ). not (all_below (part_count T.parts) ss)) these in
-        go s.halts refl ∙ sym (rw (f, ← h))
-      where
-        go : (t : Bool) → s.halts ≡ t → (t || ltb b s.rows) ≡ (t || ltb b (length (taken T F)))
-        go true q = refl
-        go false q = ap (ltb b) (g.rows q ∙ ap (λ (ss : List ℕ). length ss) these)
+        let p : not (all_below (part_count T.parts) (taken T F)) ≡ t = ap (λ (ss : List ℕ). not (all_below (part_count T.parts) ss)) (sym these) ∙ sym h in
+        sym (rw (f, p, q))
 
-    pub step-found : (t : Taken) → t.halts ≡ (s.halts || ltb b s.rows) → t.rows ≡ s.rows → set_of t.next ≡ set_of s.next → TakesStep b T F c t
-    unfolding split_step
-    step-found t h r n =
-        let free : t.halts ≡ false → s.halts ≡ false = (λ z. (neither s.halts (ltb b s.rows) (sym h ∙ z)).0) in
-        record {
-          halts = h ∙ halts-of;
-          rows = λ z. r ∙ g.rows (free z) ∙ ap (λ (ss : List ℕ). length ss) these;
-          next = λ z. n ∙ g.next (free z) ∙ ap (joined (λ p. row T.classes T.rows p c)) these;
-        }
+    -- as they are taken
+    abbrev Slots : Option Taken → Type 0
+    Slots = TakesSlots (part_count T.parts) (λ p. row T.classes T.rows p c) (taken_slots (slots T.splits i))
+
+    pub step-bad : Slots None → TakesStep b T F c None
+    step-bad g = record { halts = halts-of true _ g.halts refl; takes = tt }
+
+    module _ (s : Taken) (g : Slots (Some s)) where
+      many : s.rows ≡ length (taken T F)
+      many = g.takes.0 ∙ ap (λ (ss : List ℕ). length ss) these
+
+      pub step-over : b < s.rows → TakesStep b T F c None
+      step-over h = record { halts = halts-of false true g.halts (ap (ltb b) (sym many) ∙ lt-ltb b s.rows h); takes = tt }
+
+      pub step-found : s.rows ≤ b → TakesStep b T F c (Some s)
+      unfolding split_step
+      step-found h =
+          record {
+            halts = halts-of false false g.halts (ap (ltb b) (sym many) ∙ le-ltb b s.rows h);
+            takes = (many, g.takes.1 ∙ ap (joined (λ p. row T.classes T.rows p c)) these);
+          }
 
 -- ---- what a step costs
 

@@ -1,7 +1,7 @@
 -- Taking a split's slots one by one: what a loop that joins their rows keeps, and what it leaves. Assumes nothing.
 use Prim.Native.Nat.{ℕ, suc, ◌+◌, ◌≤◌, ◌<◌}
 use mathlib.Core.Path.{◌≡◌, refl, sym, ap, ◌∙◌}
-use mathlib.Core.Bool.{Bool, true, false, cond, not, true≢false}
+use mathlib.Core.Bool.{Bool, true, false, cond, not}
 use mathlib.Core.List.{List, [], ◌∷◌}
 use native.Mathlib.Omega.{arith}
 use lib.ListN.{length, drop}
@@ -11,6 +11,7 @@ use Rattle.sets.proofs.Sets.{join-empty, join-comm, join-assoc}
 use Rattle.table.specs.Table.{unused_slot, slots, taken_slots, all_below, joined}
 use Rattle.table.proofs.Entries.{slots_length}
 use Rattle.table.proofs.Joined.{taken-stop, taken_more}
+use Rattle.std.specs.declared.option.Option.TheVariants.{Some, None}
 use Rattle.table_feed.specs.declared.Taken.{Taken}
 use Rattle.table_feed.specs.inner.Taken.{TakesSlots}
 
@@ -23,35 +24,34 @@ pub record Taking (f : ℕ → ℕ) (n : ℕ) (ss : List ℕ) (all j : ℕ) : Ty
 pub taking-start : (f : ℕ → ℕ) (n : ℕ) (ss : List ℕ) (all : ℕ) → all ≡ 0 → Taking f n ss all 0
 taking-start f n ss all e = record { union = rw e (sym (join-empty _)); count = omega arith; named = refl }
 
-module _ (f : ℕ → ℕ) (n : ℕ) (ss : List ℕ) (t : Taken) (j : ℕ) (g : Taking f n ss (set_of t.next) j) where
-  all-taken : t.halts ≡ false → t.rows ≡ j → taken_slots (drop j ss) ≡ [] → TakesSlots n f (taken_slots ss) t
-  unfolding joined all_below
-  all-taken h r e =
-      let u : joined f (taken_slots (drop j ss)) ≡ 0 = rw e in
-      let c : length (taken_slots (drop j ss)) ≡ 0 = rw e in
-      let b : all_below n (taken_slots ss) ≡ true = g.named ∙ rw e in
-      record {
-        halts = h ∙ sym (ap not b);
-        rows = λ z. omega (arith, g.count);
-        next = λ z. sym (g.union ∙ ap (join (set_of t.next)) u ∙ join-comm (set_of t.next) 0 ∙ join-empty (set_of t.next));
-      }
+module _ (f : ℕ → ℕ) (n : ℕ) (ss : List ℕ) where
+  module _ (t : Taken) (j : ℕ) (g : Taking f n ss (set_of t.next) j) (r : t.rows ≡ j) where
+    all-taken : taken_slots (drop j ss) ≡ [] → TakesSlots n f (taken_slots ss) (Some t)
+    unfolding joined all_below
+    all-taken e =
+        let u : joined f (taken_slots (drop j ss)) ≡ 0 = rw e in
+        let c : length (taken_slots (drop j ss)) ≡ 0 = rw e in
+        let b : all_below n (taken_slots ss) ≡ true = g.named ∙ rw e in
+        record {
+          halts = sym (ap not b);
+          takes = (omega (arith, g.count), sym (g.union ∙ ap (join (set_of t.next)) u ∙ join-comm (set_of t.next) 0 ∙ join-empty (set_of t.next)));
+        }
 
-  -- the loop is past the last slot
-  pub taking-end : t.halts ≡ false → t.rows ≡ j → drop j ss ≡ [] → TakesSlots n f (taken_slots ss) t
-  unfolding taken_slots
-  taking-end h r e = all-taken h r (ap taken_slots e)
+    -- the loop is past the last slot
+    pub taking-end : drop j ss ≡ [] → TakesSlots n f (taken_slots ss) (Some t)
+    unfolding taken_slots
+    taking-end e = all-taken (ap taken_slots e)
 
-  module _ (x : ℕ) (d : drop j ss ≡ x ∷ drop (j + 1) ss) where
     -- an unused slot ends the taking
-    pub taking-stop : t.halts ≡ false → t.rows ≡ j → unused_slot x ≡ true → TakesSlots n f (taken_slots ss) t
-    taking-stop h r e = all-taken h r (ap taken_slots d ∙ taken-stop x (drop (j + 1) ss) e)
+    pub taking-stop : (x : ℕ) → drop j ss ≡ x ∷ drop (j + 1) ss → unused_slot x ≡ true → TakesSlots n f (taken_slots ss) (Some t)
+    taking-stop x d e = all-taken (ap taken_slots d ∙ taken-stop x (drop (j + 1) ss) e)
 
-    -- a slot that names no part halts
-    pub taking-bad : t.halts ≡ true → unused_slot x ≡ false → n ≤ x → TakesSlots n f (taken_slots ss) t
-    unfolding all_below
-    taking-bad h e l =
-        let b : all_below n (taken_slots ss) ≡ false = g.named ∙ rw (d, taken_more x (drop (j + 1) ss) e, le-ltb x n l) in
-        record { halts = h ∙ sym (ap not b); rows = λ z. absurd (true≢false (sym h ∙ z)); next = λ z. absurd (true≢false (sym h ∙ z)) }
+  -- a slot that names no part halts
+  pub taking-bad : (all j x : ℕ) → Taking f n ss all j → drop j ss ≡ x ∷ drop (j + 1) ss → unused_slot x ≡ false → n ≤ x → TakesSlots n f (taken_slots ss) None
+  unfolding all_below
+  taking-bad all j x g d e l =
+      let b : all_below n (taken_slots ss) ≡ false = g.named ∙ rw (d, taken_more x (drop (j + 1) ss) e, le-ltb x n l) in
+      record { halts = sym (ap not b); takes = tt }
 
 -- any other is taken
 pub taking-more : (f : ℕ → ℕ) (n : ℕ) (ss : List ℕ) (all j x : ℕ) → Taking f n ss all j → drop j ss ≡ x ∷ drop (j + 1) ss

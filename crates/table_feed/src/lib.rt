@@ -1,4 +1,5 @@
 // The split feed: each byte is moved by the rows of the split that is the frontier, and the list gives the pairs.
+// The lists are lent one by one, as C lends them.
 #![tactic(auto)]
 
 ghost use Rattle.std.specs.Prelude.{◌≡◌, true, ◌+◌, ◌*◌, ◌≤◌, ◌<◌, length};
@@ -12,50 +13,44 @@ ghost use Rattle.table.specs.Table.{table, class_count, part_count, split_count,
 ghost use Rattle.table_feed.specs.Split.{split, split_rules, split_feed};
 ghost use Rattle.table_feed.specs.inner.Taken.{TakesSlots, TakesStep};
 
-use feed::{Fed, Told};
+use feed::Fed;
 use list_flow::Ran;
 use sets::StateSet;
 
-// What a split gives for a byte: whether it halts there, the slots taken, and the union of their rows.
+// What a split gives for a byte: the slots taken, and the union of their rows.
 #[derive(Clone, Copy)]
 struct Taken {
-    halts: bool,
     rows: u64,
     next: StateSet,
 }
 
-// Takes the slots of split i up to the first unused one, where there are n parts and k classes: the rows of class q.
-fn take_slots(rows: &[u8], splits: &[u8], k: usize, n: usize, i: usize, q: usize) -> Taken
+// Takes the slots of split i up to the first unused one, where there are n parts and k classes: the rows of class q. One that names no part halts.
+fn take_slots(rows: &[u8], splits: &[u8], k: usize, n: usize, i: usize, q: usize) -> Option<Taken>
     requires { (set_size * (n * k) ≤ length rows.now) × (q < k) × (i < split_count splits.now) }
     ensures { TakesSlots n (λ p. row_at rows.now k p q) (taken_slots (slots splits.now i)) result }
 {
-    let mut all = StateSet::EMPTY;
+    let mut next = StateSet::EMPTY;
+    // By index: a slot's place is an argument, and how many were taken is the answer.
     for j in 0..table::SLOTS {
         let x = table::slot(splits, i, j);
         if x == table::UNUSED {
-            return Taken {
-                halts: false,
+            return Some(Taken {
                 rows: j as u64,
-                next: all,
-            };
+                next,
+            });
         }
         if n <= x {
-            return Taken {
-                halts: true,
-                rows: j as u64,
-                next: all,
-            };
+            return None;
         }
-        all = all.union(table::whole_row(rows, k, x, q));
+        next = next.union(table::whole_row(rows, k, x, q));
     }
-    Taken {
-        halts: false,
+    Some(Taken {
         rows: table::SLOTS as u64,
-        next: all,
-    }
+        next,
+    })
 }
 
-// The split step at frontier f on byte c, where the bytes have k classes.
+// The split step at frontier f on byte c, where the bytes have k classes; none where it halts.
 fn split_step(
     classes: &[u8],
     parts: &[u8],
@@ -65,28 +60,19 @@ fn split_step(
     bound: u64,
     f: StateSet,
     c: u8,
-) -> Taken
+) -> Option<Taken>
     requires { (k ≡ class_count classes.now) × (set_size * (part_count parts.now * class_count classes.now) ≤ length rows.now)
         × (every (split_count splits.now) (in_order splits.now) ≡ true) }
     ensures { TakesStep bound (table classes.now parts.now rows.now splits.now) (set_of f) c result }
 {
-    let i = table::find_sorted(splits, f);
-    if table::split_count(splits) <= i {
-        return Taken {
-            halts: true,
-            rows: 0,
-            next: f,
-        };
-    }
+    let i = table::find_sorted(splits, f)?;
     let n = table::part_count(parts);
     let q = list::byte_at(classes, c as usize) as usize;
-    let t = take_slots(rows, splits, k, n, i, q);
-    let next = t.next;
-    Taken {
-        halts: t.halts | (bound < t.rows),
-        rows: t.rows,
-        next: next,
+    let t = take_slots(rows, splits, k, n, i, q)?;
+    if bound < t.rows {
+        return None;
     }
+    Some(t)
 }
 
 // The check of a feed: the number of the first of the rules 1 to 9 that refuses it, 0 where none does.
@@ -141,31 +127,28 @@ fn feed_bytes(
     };
     for i in 0..piece.len() {
         let f = ran.frontier;
-        let t = split_step(classes, parts, rows, splits, k, bound, f, piece[i]);
-        if t.halts {
+        let Some(t) = split_step(classes, parts, rows, splits, k, bound, f, piece[i]) else {
             ran.refusal = rules::NO_SPLIT;
             return ran;
-        }
+        };
         let next = t.next;
         let at = (offset + i as u64 + 1) as u32;
-        let mut told = Told {
-            fits: true,
-            words: ran.words,
+        let told = if next.meets(accepting) {
+            list_flow::tell_accepted(list, next, pairs, ran.words, at)
+        } else {
+            Some(ran.words)
         };
-        if next.meets(accepting) {
-            told = list_flow::tell_accepted(list, next, pairs, ran.words, at);
-        }
-        if !told.fits {
+        let Some(words) = told else {
             return ran;
-        }
+        };
         let bytes = i + 1;
-        let spent = ran.rows + t.rows;
+        let rows = ran.rows + t.rows;
         ran = Ran {
             refusal: rules::PASSED,
             frontier: next,
-            bytes: bytes,
-            words: told.words,
-            rows: spent,
+            bytes,
+            words,
+            rows,
         };
     }
     ran

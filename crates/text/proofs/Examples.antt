@@ -1,5 +1,4 @@
 -- The worked texts, by computation.
-use Prim.Native.Nat.{◌-◌}
 use lib.Dec.{T}
 use Rattle.numbers.specs.Number.{before}
 use Rattle.rules.specs.Scan.{some}

@@ -12,3 +12,4 @@ pub mod Copies
 pub mod Meaning
 pub mod Deep
 pub mod Big
+pub mod Fronts

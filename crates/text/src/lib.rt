@@ -2,40 +2,42 @@
 // every reader of a text asks of a byte.
 #![tactic(auto)]
 
-ghost use Rattle.std.specs.Prelude.{◌≡◌, ◌-◌, ◌<◌};
-ghost use Rattle.text.specs.Grammar.{is_digit, hex_value};
+ghost use Rattle.std.specs.Prelude.{◌≡◌, ◌<◌, eqb, true};
+ghost use Rattle.text.specs.Grammar.{Text, text_reads, ok_body, is_digit, hex_value};
+ghost use Rattle.text.specs.inner.Heads.{head_of};
 
-// A byte as a number.
-pub fn wide(c: u8) -> usize
-    ensures { (result ≡ c) × (result < 256) }
-{
-    c as usize
-}
-
-// The difference, 0 where there is none.
-pub fn less(a: usize, b: usize) -> usize
-    ensures { result ≡ a - b }
-{
-    if b <= a { a - b } else { 0 }
+// What is read at a place of a text, and the place after it.
+#[derive(Clone, Copy)]
+pub struct Read<T> {
+    pub value: T,
+    pub next: usize,
 }
 
 // Says whether a byte is a decimal digit.
+#[tactic(auto, unfolding(crate::specs::Grammar::is_digit))]
 pub fn is_digit(c: u8) -> bool
     ensures { result ≡ is_digit c }
 {
-    (b'0' <= c) & (c <= b'9')
+    matches!(c, b'0'..=b'9')
 }
 
 // The value of a hex digit.
+#[tactic(auto, unfolding(crate::specs::Grammar::is_digit, crate::specs::Grammar::hex_value))]
 pub fn hex_value(c: u8) -> usize
     ensures { (result ≡ hex_value c) × (result < 256) }
 {
-    let x = wide(c);
-    if is_digit(c) {
-        return less(x, 48);
-    }
-    if x <= 70 {
-        return less(x, 55);
-    }
-    less(x, 87)
+    let zero = match c {
+        b'0'..=b'9' => b'0',
+        ..=b'F' => b'A' - 10,
+        _ => b'a' - 10,
+    };
+    usize::from(c.saturating_sub(zero))
+}
+
+// Says whether one `^` binds a text to the front.
+pub fn is_bound(text: &[u8]) -> bool
+    ensures first { result ≡ eqb (head_of 0 text.now) 94 }
+    ensures bound { (x : Text) → ok_body x.body ≡ true → text_reads x ≡ text.now → result ≡ x.bound }
+{
+    !text.is_empty() && text[0] == b'^'
 }

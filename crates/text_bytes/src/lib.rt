@@ -1,4 +1,5 @@
 // The byte set of a leaf of a good text, and how many longest runs of bytes a set has.
+// A place in the text is a number, since the promises say what is left of the text behind it.
 #![tactic(auto)]
 
 ghost use Rattle.std.specs.Prelude.{◌≡◌, true, false, ◌&&◌, ◌||◌, List, ◌∷◌, ◌++◌, ℕ, ◌≤◌, ◌<◌, ◌+◌, ◌-◌, eqb, length, drop, get_or};
@@ -9,44 +10,31 @@ ghost use Rattle.text.specs.Grammar.{Single, Member, Leaf, amid, value, ok_singl
 
 use sets::ByteSet;
 use sets_words::{next_byte, others, span};
-
-// A single byte's value, and the place after it.
-#[derive(Clone, Copy)]
-struct One {
-    value: usize,
-    next: usize,
-}
-
-// A set with a member's bytes added, and the place after the member.
-#[derive(Clone, Copy)]
-struct Added {
-    set: ByteSet,
-    next: usize,
-}
+use text::Read;
 
 // The single byte at a place.
-fn single_of(text: &[u8], at: usize) -> One
+fn single_of(text: &[u8], at: usize) -> Read<usize>
     requires { at ≤ length text.now }
     ensures { (at < result.next) × (result.next ≤ at + 4) × ((out : List ℕ) (s : Single) (y : List ℕ) → amid 92 out ≡ true → ok_single out s ≡ true → drop at text.now ≡ spell s ++ y → (result.value ≡ value s) × (drop result.next text.now ≡ y)) }
 {
     let c = list::byte_at(text, at);
-    if c == b'\\' {
-        if list::byte_at(text, at + 1) == b'x' {
-            let a = text::hex_value(list::byte_at(text, at + 2));
-            let b = text::hex_value(list::byte_at(text, at + 3));
-            return One {
-                value: 16 * a + b,
-                next: at + 4,
-            };
-        }
-        return One {
+    if c != b'\\' {
+        return Read {
+            value: usize::from(c),
+            next: at + 1,
+        };
+    }
+    if list::byte_at(text, at + 1) != b'x' {
+        return Read {
             value: 10,
             next: at + 2,
         };
     }
-    One {
-        value: text::wide(c),
-        next: at + 1,
+    let a = text::hex_value(list::byte_at(text, at + 2));
+    let b = text::hex_value(list::byte_at(text, at + 3));
+    Read {
+        value: 16 * a + b,
+        next: at + 4,
     }
 }
 
@@ -61,30 +49,28 @@ fn white(text: &[u8], at: usize) -> bool
 }
 
 // A set, with the bytes of the member at a place.
-fn member_of(text: &[u8], at: usize, set: ByteSet) -> Added
+fn member_of(text: &[u8], at: usize, set: ByteSet) -> Read<ByteSet>
     requires { at ≤ length text.now }
-    ensures { (at < result.next) × (result.next ≤ length text.now + 8) × ((m : Member) (y : List ℕ) → ok_member m ≡ true → eqb (head_of 0 y) 45 ≡ false → drop at text.now ≡ spell_member m ++ y → ((c : ℕ) → c < 256 → holds (byte_set_of result.set) c ≡ (holds (byte_set_of set) c || member_has m c)) × (drop result.next text.now ≡ y)) }
+    ensures { (at < result.next) × (result.next ≤ length text.now + 8) × ((m : Member) (y : List ℕ) → ok_member m ≡ true → eqb (head_of 0 y) 45 ≡ false → drop at text.now ≡ spell_member m ++ y → ((c : ℕ) → c < 256 → holds (byte_set_of result.value) c ≡ (holds (byte_set_of set) c || member_has m c)) × (drop result.next text.now ≡ y)) }
 {
     if white(text, at) {
         let more = span(set, 32, 32);
-        return Added {
-            set: span(more, 9, 13),
+        return Read {
+            value: span(more, 9, 13),
             next: at + 2,
         };
     }
     let low = single_of(text, at);
     let p = low.next;
-    if p < text.len() {
-        if text[p] == b'-' {
-            let high = single_of(text, p + 1);
-            return Added {
-                set: span(set, low.value, high.value),
-                next: high.next,
-            };
-        }
+    if p < text.len() && text[p] == b'-' {
+        let high = single_of(text, p + 1);
+        return Read {
+            value: span(set, low.value, high.value),
+            next: high.next,
+        };
     }
-    Added {
-        set: span(set, low.value, low.value),
+    Read {
+        value: span(set, low.value, low.value),
         next: p,
     }
 }
@@ -96,12 +82,10 @@ fn class_set(text: &[u8], at: usize) -> ByteSet
 {
     let mut next = at;
     let mut set = ByteSet::EMPTY;
-    while next < text.len() {
-        if text[next] == b']' {
-            return set;
-        }
+    // A step is a whole member.
+    while next < text.len() && text[next] != b']' {
         let more = member_of(text, next, set);
-        set = more.set;
+        set = more.value;
         next = more.next;
     }
     set
@@ -113,26 +97,23 @@ pub fn leaf_set(text: &[u8], at: usize) -> ByteSet
     ensures { (l : Leaf) (y : List ℕ) → ok_leaf l ≡ true → drop at text.now ≡ spell_leaf l ++ y → (c : ℕ) → c < 256 → holds (byte_set_of result) c ≡ leaf_has l c }
 {
     let none = ByteSet::EMPTY;
-    let c = text[at];
-    if c == b'.' {
-        return span(none, 0, 255);
-    }
-    if c == b'[' {
-        let n = text.len();
-        if at + 1 < n {
-            if text[at + 1] == b'^' {
-                let inner = class_set(text, at + 2);
-                return others(inner);
+    match text[at] {
+        b'.' => span(none, 0, 255),
+        b'[' => {
+            if at + 1 < text.len() && text[at + 1] == b'^' {
+                return others(class_set(text, at + 2));
             }
+            class_set(text, at + 1)
         }
-        return class_set(text, at + 1);
+        _ if white(text, at) => {
+            let blank = span(none, 32, 32);
+            span(blank, 9, 13)
+        }
+        _ => {
+            let one = single_of(text, at);
+            span(none, one.value, one.value)
+        }
     }
-    if white(text, at) {
-        let blank = span(none, 32, 32);
-        return span(blank, 9, 13);
-    }
-    let one = single_of(text, at);
-    span(none, one.value, one.value)
 }
 
 // ---- longest runs of bytes
@@ -144,10 +125,11 @@ pub fn run_count(set: ByteSet) -> usize
     let gaps = others(set);
     let mut n: usize = 0;
     let mut c = next_byte(set, 0);
+    // A step is a whole run.
     while c < 256 {
         let end = next_byte(gaps, c);
         c = next_byte(set, end);
-        n = n + 1;
+        n += 1;
     }
     n
 }

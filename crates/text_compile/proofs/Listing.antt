@@ -6,17 +6,15 @@ use mathlib.Core.List.{List, [], ◌∷◌, ◌++◌, append_assoc}
 use mathlib.Core.Logic.{◌⊎◌, inl, inr}
 use native.Mathlib.Omega.{arith}
 use lib.Dec.{eqb, leb, ltb}
-use lib.ListN.{length, take, drop, get_or, length-append, length-drop}
+use lib.ListN.{length, take, drop, length-append, length-drop}
 use lib.Seq.{drop-drop, length-take-le}
 use borrow.Author.Tests.{lt-ltb, le-ltb, ltb-true, ltb-false, le-leb, lt-leb, ne_eqb}
 use Rattle.sets.specs.Set.{states, set_of, holds, insert}
 use Rattle.sets.proofs.Sets.{holds-empty, holds-insert}
 use Rattle.list.specs.List.{record_size, most_records}
-use Rattle.text.specs.Exp.{Exp, size, null, first, last, follows, edge, accepts}
-use Rattle.text.specs.Grammar.{Text, text_reads, ok_body, reads}
+use Rattle.text.specs.Exp.{Exp, size, first, follows, edge, accepts}
+use Rattle.text.specs.Grammar.{Text, text_reads, ok_body}
 use Rattle.text.specs.Records.{runs, edge_records, start_record, accept_record, each, edges_from, edges_to, accepts_of, all_records, records_of, sort_into, flat, list_of, too_big}
-use Rattle.text.proofs.Reading.{body-caret}
-use Rattle.text.specs.inner.Heads.{head_of}
 use Rattle.text_walk.specs.declared.Shape.{Shape}
 use Rattle.text_walk.specs.inner.Rows.{cap, prior_at, bytes_of, Sums}
 use Rattle.text_walk.proofs.Sum.{cap-small}
@@ -26,26 +24,6 @@ use Rattle.text_records.proofs.Writing.{writes_more, each-length, edges-length}
 use Rattle.text_compile.specs.declared.Compiled.{Compiled}
 use Rattle.text.specs.Acceptor.{begin, live, verdict}
 use Rattle.text_compile.specs.inner.Code.{exp_of, free_of, Arrive, Ends, refused, written, made, Gives, Judged}
-
--- ---- `^`
-
-pub bound-front : (x : Text) (T : List ℕ) → ok_body x.body ≡ true → text_reads x ≡ T → 0 < length T → eqb (get_or T 0 0) 94 ≡ x.bound
-bound-front x T ok e l = go x.bound e
-  where
-    begins : (w : List ℕ) → eqb (head_of 0 w) 94 ≡ false → w ≡ T → eqb (get_or T 0 0) 94 ≡ false
-    begins [] k q = let z : length T ≡ 0 = ap length (sym q) in absurd (omega arith)
-    begins (c ∷ w) k q = ap (λ z. eqb (get_or z 0 0) 94) (sym q) ∙ k
-
-    go : (b : Bool) → cond b (94 ∷ reads x.body) (reads x.body) ≡ T → eqb (get_or T 0 0) 94 ≡ b
-    go true q = ap (λ z. eqb (get_or z 0 0) 94) (sym q)
-    go false q = begins (reads x.body) (body-caret x.body ok) q
-
-pub bound-empty : (x : Text) (T : List ℕ) → text_reads x ≡ T → length T ≤ 0 → false ≡ x.bound
-bound-empty x T e l = go x.bound e
-  where
-    go : (b : Bool) → cond b (94 ∷ reads x.body) (reads x.body) ≡ T → false ≡ b
-    go false q = refl
-    go true q = let z : length T ≡ suc (length (reads x.body)) = ap length (sym q) in absurd (omega arith)
 
 -- ---- the edges to a state
 

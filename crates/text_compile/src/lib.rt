@@ -14,7 +14,7 @@ ghost use Rattle.text_compile.specs.Compile.{Compiles};
 use sets::{ByteSet, StateSet};
 use sets_words::span;
 use text_bytes::run_count;
-use text_parse::{Parsed, check_text};
+use text_parse::{Fault, check_text};
 use text_records::{put_arrows, put_ends, put_in, sort, start_record, weigh};
 use text_walk::Shape;
 
@@ -33,16 +33,6 @@ struct Incoming {
     letter: ByteSet,
 }
 
-// Says whether one `^` binds a good text to the front.
-fn is_bound(text: &[u8]) -> bool
-    ensures { (x : Text) → ok_body x.body ≡ true → text_reads x ≡ text.now → result ≡ x.bound }
-{
-    if 0 < text.len() {
-        return text[0] == b'^';
-    }
-    false
-}
-
 // The edges from state 0 to itself: on any byte, unless the text is bound.
 fn any_arrows(bound: bool) -> Incoming
     ensures { (set_of result.from ≡ cond bound 0 (insert states 0 0)) × ((c : ℕ) → c < 256 → holds (byte_set_of result.letter) c ≡ true) }
@@ -50,14 +40,11 @@ fn any_arrows(bound: bool) -> Incoming
     let none = StateSet::EMPTY;
     let letter = span(ByteSet::EMPTY, 0, 255);
     if bound {
-        return Incoming {
-            from: none,
-            letter: letter,
-        };
+        return Incoming { from: none, letter };
     }
     Incoming {
         from: none.with(0),
-        letter: letter,
+        letter,
     }
 }
 
@@ -71,28 +58,24 @@ fn arrows(rows: &[u8], shape: Shape, bound: bool, t: usize) -> Incoming
     }
     let from = StateSet::from_bytes(rows, text_walk::ROW * t);
     let letter = ByteSet::from_bytes(rows, text_walk::ROW * t + sets::BYTES);
-    let first = shape.first;
-    if first.has(t) {
+    if shape.first.has(t) {
         return Incoming {
             from: from.with(0),
-            letter: letter,
+            letter,
         };
     }
-    Incoming {
-        from: from,
-        letter: letter,
-    }
+    Incoming { from, letter }
 }
 
 // The states that accept.
 fn ends_of(shape: Shape) -> StateSet
     ensures { (R : List ℕ) (x : Text) → Sums R 1 (exp_of x) shape → size (exp_of x) < states → Ends (exp_of x) (set_of result) × Below (set_of result) (suc (size (exp_of x))) }
 {
-    let last = shape.last;
     if shape.null {
-        return last.with(0);
+        shape.last.with(0)
+    } else {
+        shape.last
     }
-    last
 }
 
 // How many edges a good text's position automaton has; it has m states.
@@ -101,13 +84,10 @@ fn count_edges(rows: &[u8], shape: Shape, bound: bool, m: usize) -> usize
     ensures { (result ≤ 262144 * m) × ((x : Text) → Walked rows.now shape bound x → m ≡ suc (size (exp_of x)) → result ≡ length (each (edges_to (free_of x) (exp_of x)) m)) }
 {
     let mut total: usize = 0;
-    let mut t: usize = 0;
-    while t < m {
+    // By index: the state is an argument.
+    for t in 0..m {
         let a = arrows(rows, shape, bound, t);
-        let from = a.from;
-        let letter = a.letter;
-        total = total + weigh(from, run_count(letter));
-        t = t + 1;
+        total += weigh(a.from, run_count(a.letter));
     }
     total
 }
@@ -118,13 +98,9 @@ fn put_edges(rows: &[u8], shape: Shape, bound: bool, list: &mut [u8], m: usize) 
     ensures { (x : Text) → Walked rows.now shape bound x → m ≡ suc (size (exp_of x)) → Writes list.old list.new 0 (each (edges_to (free_of x) (exp_of x)) m) result }
 {
     let mut k: usize = 0;
-    let mut t: usize = 0;
-    while t < m {
+    for t in 0..m {
         let a = arrows(rows, shape, bound, t);
-        let from = a.from;
-        let letter = a.letter;
-        k = put_arrows(list, k, from, letter, t, m);
-        t = t + 1;
+        k = put_arrows(list, k, a.from, a.letter, t, m);
     }
     k
 }
@@ -152,8 +128,8 @@ fn refused(refusal: u32, place: usize) -> Compiled
     ensures { (result.refusal ≡ refusal) × (result.place ≡ place) × (result.length ≡ 0) }
 {
     Compiled {
-        refusal: refusal,
-        place: place,
+        refusal,
+        place,
         length: 0,
     }
 }
@@ -162,6 +138,7 @@ fn refused(refusal: u32, place: usize) -> Compiled
 fn build(text: &[u8], g: u8, list: &mut [u8]) -> Compiled
     ensures { (x : Text) → ok_body x.body ≡ true → text_reads x ≡ text.now → Gives (made x g list.old) result list.new }
 {
+    // On the stack: the library has no heap.
     let mut rows = [0u8; text_walk::ROWS];
     let whole = text_walk::walk(text, &mut rows);
     let n = whole.size;
@@ -169,7 +146,7 @@ fn build(text: &[u8], g: u8, list: &mut [u8]) -> Compiled
         return refused(rules::TOO_BIG, 0);
     }
     let m = n + 1;
-    let bound = is_bound(text);
+    let bound = text::is_bound(text);
     let ends = ends_of(whole);
     let count = count_edges(&rows, whole, bound, m) + 1 + weigh(ends, 1);
     if list::MOST_RECORDS < count {
@@ -191,10 +168,9 @@ fn build(text: &[u8], g: u8, list: &mut [u8]) -> Compiled
 pub fn compile(text: &[u8], signature: u8, list: &mut [u8]) -> Compiled
     ensures { Compiles text.now signature list.old result list.new }
 {
-    let parsed = check_text(text);
-    match parsed {
-        Parsed::Good => build(text, signature, list),
-        Parsed::Bad(p) => refused(rules::BAD_TEXT, p),
-        Parsed::Deep => refused(rules::TOO_DEEP, 0),
+    match check_text(text) {
+        Ok(()) => build(text, signature, list),
+        Err(Fault::Bad(place)) => refused(rules::BAD_TEXT, place),
+        Err(Fault::Deep) => refused(rules::TOO_DEEP, 0),
     }
 }

@@ -36,9 +36,9 @@ pub fn serve(
     let opened = list_flow::open_flow(list, flow, words);
     let fed = list_feed::feed(list, flow, 0, piece, pairs);
     Served {
-        checked: checked,
-        opened: opened,
-        fed: fed,
+        checked,
+        opened,
+        fed,
     }
 }
 
@@ -57,8 +57,5 @@ fn drive_text(
     let compiled = text_compile::compile(text, signature, list);
     let n = compiled.length;
     let served = serve(&list[..n], flow, words, piece, pairs);
-    Drove {
-        compiled: compiled,
-        served: served,
-    }
+    Drove { compiled, served }
 }

@@ -46,8 +46,8 @@ fn gather(
     Gathered {
         first: one,
         second: two,
-        joined: joined,
-        folded: folded,
+        joined,
+        folded,
     }
 }
 
@@ -70,8 +70,5 @@ fn drive_both(
     let gathered = gather(first, g, list, second, h, other, out);
     let n = gathered.folded.length;
     let served = text_laws::serve(&out[..n], flow, words, piece, pairs);
-    Drove {
-        gathered: gathered,
-        served: served,
-    }
+    Drove { gathered, served }
 }

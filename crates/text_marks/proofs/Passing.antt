@@ -1,6 +1,6 @@
 -- Items that are passed over: what is left of a good body, from a place on. Assumes nothing.
 use Prim.Native.Nat.{ℕ, ◌+◌, ◌≤◌, ◌<◌}
-use mathlib.Core.Path.{◌≡◌, refl, sym, ap, ◌∙◌}
+use mathlib.Core.Path.{◌≡◌, refl, sym, ap, subst, ◌∙◌}
 use mathlib.Core.Bool.{true, ◌&&◌}
 use mathlib.Core.List.{List, [], ◌∷◌, ◌++◌}
 use mathlib.Core.Logic.{◌⊎◌, inl, inr}
@@ -12,8 +12,9 @@ use Rattle.text.proofs.Places.{both}
 use Rattle.text.specs.inner.Heads.{Calm, Stop}
 use Rattle.text.proofs.Reading.{assoc, body-calm}
 use Rattle.text.proofs.Peeling.{peel-lt, peel-at, peel-tail, gone, leaf-not}
+use Rattle.text.specs.declared.Read.{Read}
 use Rattle.text_marks.specs.declared.Times.{Times}
-use Rattle.text_marks.specs.inner.Marks.{Atom, byte, brackets, ok_atom, atom_then, mark_kind, most_of, Marks}
+use Rattle.text_marks.specs.inner.Marks.{Atom, byte, brackets, ok_atom, atom_then, times_of, Never}
 use Rattle.text_marks.proofs.Tokens.{leaf-gone}
 
 -- what is left of a body, with x behind it
@@ -27,8 +28,8 @@ InsideFacts T n i = (b : Body) (x : List ℕ) → ok_body b ≡ true → Stop x 
 abbrev pub LeafFacts : List ℕ → ℕ → ℕ → Type 0
 LeafFacts T n e = (l : Leaf) (y : List ℕ) → ok_leaf l ≡ true → drop n T ≡ spell_leaf l ++ y → drop e T ≡ y
 
-abbrev pub MarkFacts : List ℕ → ℕ → Times → Type 0
-MarkFacts T n r = (m : Mark) (y : List ℕ) → ok_mark m ≡ true → Calm y → drop n T ≡ spell_mark m ++ y → Marks m r × (drop r.next T ≡ y)
+abbrev pub MarkFacts : List ℕ → ℕ → Read Times → Type 0
+MarkFacts T n r = (m : Mark) (y : List ℕ) → ok_mark m ≡ true → Calm y → drop n T ≡ spell_mark m ++ y → (times_of m ≡ r.value) × (drop r.next T ≡ y)
 
 none : (T : List ℕ) (n : ℕ) → n < length T → drop n T ≡ [] → ⊥
 none T n l e = let d = drop-cons T n 0 l in let z : ◌≡◌ {A = ℕ} 0 1 = cc in omega arith
@@ -96,7 +97,7 @@ module _ (T : List ℕ) (n : ℕ) (x : List ℕ) (stop : Stop x) where
   pass-bar l h (group z m d, ok, e) = let q = group_at z m d e in absurd (omega arith)
 
   -- a group and its mark, a leaf and its mark
-  pub pass-group : (i p : ℕ) (r : Times) → n < length T → get_or T n 0 ≡ 40 → InsideFacts T (n + 1) i → (i < length T → p ≡ i + 1) → MarkFacts T p r → Ahead T x n → Ahead T x r.next
+  pub pass-group : (i p : ℕ) (r : Read Times) → n < length T → get_or T n 0 ≡ 40 → InsideFacts T (n + 1) i → (i < length T → p ≡ i + 1) → MarkFacts T p r → Ahead T x n → Ahead T x r.next
   pass-group i p r l h f g k (end, ok, e) = absurd (over stop (e ∙ end_reads x))
     where
       over : Stop x → drop n T ≡ x → ⊥
@@ -113,7 +114,7 @@ module _ (T : List ℕ) (n : ℕ) (x : List ℕ) (stop : Stop x) where
       let u : drop p T ≡ spell_mark m ++ (reads d ++ x) = ap (λ w. drop w T) (g (peel-lt T i 41 (spell_mark m ++ (reads d ++ x)) v)) ∙ peel-tail T i 41 (spell_mark m ++ (reads d ++ x)) v in
       (d, od, (k m (reads d ++ x) om (body-calm d x od stop) u).1)
 
-  pub pass-leaf : (i : ℕ) (r : Times) → n < length T → (get_or T n 0 ≡ 41 → ⊥) → (get_or T n 0 ≡ 124 → ⊥) → (get_or T n 0 ≡ 40 → ⊥) → LeafFacts T n i → MarkFacts T i r → Ahead T x n → Ahead T x r.next
+  pub pass-leaf : (i : ℕ) (r : Read Times) → n < length T → (get_or T n 0 ≡ 41 → ⊥) → (get_or T n 0 ≡ 124 → ⊥) → (get_or T n 0 ≡ 40 → ⊥) → LeafFacts T n i → MarkFacts T i r → Ahead T x n → Ahead T x r.next
   pass-leaf i r l h g o f k (end, ok, e) = absurd (over stop (e ∙ end_reads x))
     where
       over : Stop x → drop n T ≡ x → ⊥
@@ -125,13 +126,13 @@ module _ (T : List ℕ) (n : ℕ) (x : List ℕ) (stop : Stop x) where
       (d, od, (k m (reads d ++ x) om (body-calm d x od stop) (f a (spell_mark m ++ (reads d ++ x)) oa (e ∙ leaf-reads a m d x))).1)
   pass-leaf i r l h g o f k (group z m d, ok, e) = absurd (o (group_at z m d e))
 
--- a group with its mark, whose most is 0
-pub none-at : (T : List ℕ) (n i p : ℕ) (r : Times) → n < length T → get_or T n 0 ≡ 40 → InsideFacts T (n + 1) i → (i < length T → p ≡ i + 1) → MarkFacts T p r → r.kind ≡ 4 → r.most ≡ 0
-    → (a : Atom) (m : Mark) (y : List ℕ) → ok_atom a ≡ true → ok_mark m ≡ true → Calm y → drop n T ≡ atom_then a (spell_mark m ++ y) → (mark_kind m ≡ 4) × (most_of m ≡ 0) × (drop r.next T ≡ y)
+-- a group that is repeated no times
+pub none-at : (T : List ℕ) (n i p : ℕ) (r : Read Times) → n < length T → get_or T n 0 ≡ 40 → InsideFacts T (n + 1) i → (i < length T → p ≡ i + 1) → MarkFacts T p r → Never r.value
+    → (a : Atom) (m : Mark) (y : List ℕ) → ok_atom a ≡ true → ok_mark m ≡ true → Calm y → drop n T ≡ atom_then a (spell_mark m ++ y) → Never (times_of m) × (drop r.next T ≡ y)
 unfolding amid
-none-at T n i p r l h f g k u v (byte a) m y ok om c e = absurd (leaf-not T n (spell_mark m ++ y) a 40 refl refl refl refl ok e h)
-none-at T n i p r l h f g k u v (brackets z) m y ok om c e =
+none-at T n i p r l h f g k u (byte a) m y ok om c e = absurd (leaf-not T n (spell_mark m ++ y) a 40 refl refl refl refl ok e h)
+none-at T n i p r l h f g k u (brackets z) m y ok om c e =
     let w : drop i T ≡ 41 ∷ (spell_mark m ++ y) = f z (41 ∷ (spell_mark m ++ y)) ok (inr (spell_mark m ++ y, refl)) (peel-tail T n 40 (reads z ++ (41 ∷ (spell_mark m ++ y))) e) in
     let q : drop p T ≡ spell_mark m ++ y = ap (λ s. drop s T) (g (peel-lt T i 41 (spell_mark m ++ y) w)) ∙ peel-tail T i 41 (spell_mark m ++ y) w in
     let (s, t) = k m y om c q in
-    (sym s.kinds ∙ u, sym s.mosts ∙ v, t)
+    (subst Never (sym s) u, t)

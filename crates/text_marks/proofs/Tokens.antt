@@ -14,8 +14,8 @@ use Rattle.text.proofs.Places.{both, and-true}
 use Rattle.text.specs.inner.Heads.{Calm}
 use Rattle.text.proofs.Reading.{assoc, amid-out, not-true, number_digits}
 use Rattle.text.proofs.Peeling.{drop_past, nil-cons, peel-lt, peel-at, peel-tail, gone, not_plain, differ}
-use Rattle.text_marks.specs.declared.Times.{Times}
-use Rattle.text_marks.specs.inner.Marks.{without, Marks}
+use Rattle.text_marks.specs.declared.Times.TheVariants.{Once, Star, Plus, Maybe, Between}
+use Rattle.text_marks.specs.inner.Marks.{without, times_of}
 
 -- ---- classes
 
@@ -180,59 +180,60 @@ calm-at T n (c ∷ y) (a, b, d, f) e l =
     let g = peel-at T n c y e in
     (λ z. eqb-false c 42 a (sym g ∙ z), λ z. eqb-false c 43 b (sym g ∙ z), λ z. eqb-false c 63 d (sym g ∙ z), λ z. eqb-false c 123 f (sym g ∙ z))
 
-module _ (T : List ℕ) (n : ℕ) (r : Times) (y : List ℕ) (calm : Calm y) where
+module _ (T : List ℕ) (n : ℕ) (y : List ℕ) (calm : Calm y) where
   past_end : length T ≤ n → (c : ℕ) (w : List ℕ) → drop n T ≡ c ∷ w → ⊥
   past_end h c w e = nil-cons c w (sym (drop_past T n h) ∙ e)
 
-  pub mark-none : (m : Mark) → ok_mark m ≡ true → drop n T ≡ spell_mark m ++ y → r.kind ≡ 0 → r.least ≡ 0 → r.most ≡ 0 → r.next ≡ n
-      → ((get_or T n 0 ≡ 42 → ⊥) × (get_or T n 0 ≡ 43 → ⊥) × (get_or T n 0 ≡ 63 → ⊥) × (get_or T n 0 ≡ 123 → ⊥)) ⊎ (length T ≤ n) → Marks m r × (drop r.next T ≡ y)
+  pub mark-none : (m : Mark) → drop n T ≡ spell_mark m ++ y → ((get_or T n 0 ≡ 42 → ⊥) × (get_or T n 0 ≡ 43 → ⊥) × (get_or T n 0 ≡ 63 → ⊥) × (get_or T n 0 ≡ 123 → ⊥)) ⊎ (length T ≤ n)
+      → (times_of m ≡ Once) × (drop n T ≡ y)
   unfolding spell_mark
-  mark-none bare ok e k l o x h = (record { kinds = k; leasts = l; mosts = o }, ap (λ z. drop z T) x ∙ e)
-  mark-none star ok e k l o x (inl h) = absurd (h.0 (peel-at T n 42 y e))
-  mark-none more ok e k l o x (inl h) = absurd (h.1 (peel-at T n 43 y e))
-  mark-none maybe ok e k l o x (inl h) = absurd (h.2 (peel-at T n 63 y e))
-  mark-none (rep a b) ok e k l o x (inl h) = absurd (h.3 (peel-at T n 123 ((a ++ (44 ∷ (b ++ (125 ∷ [])))) ++ y) e))
-  mark-none star ok e k l o x (inr h) = absurd (past_end h 42 y e)
-  mark-none more ok e k l o x (inr h) = absurd (past_end h 43 y e)
-  mark-none maybe ok e k l o x (inr h) = absurd (past_end h 63 y e)
-  mark-none (rep a b) ok e k l o x (inr h) = absurd (past_end h 123 ((a ++ (44 ∷ (b ++ (125 ∷ [])))) ++ y) e)
+  mark-none bare e h = (refl, e)
+  mark-none star e (inl h) = absurd (h.0 (peel-at T n 42 y e))
+  mark-none more e (inl h) = absurd (h.1 (peel-at T n 43 y e))
+  mark-none maybe e (inl h) = absurd (h.2 (peel-at T n 63 y e))
+  mark-none (rep a b) e (inl h) = absurd (h.3 (peel-at T n 123 ((a ++ (44 ∷ (b ++ (125 ∷ [])))) ++ y) e))
+  mark-none star e (inr h) = absurd (past_end h 42 y e)
+  mark-none more e (inr h) = absurd (past_end h 43 y e)
+  mark-none maybe e (inr h) = absurd (past_end h 63 y e)
+  mark-none (rep a b) e (inr h) = absurd (past_end h 123 ((a ++ (44 ∷ (b ++ (125 ∷ [])))) ++ y) e)
 
-  pub mark-one : (m : Mark) (c : ℕ) → ok_mark m ≡ true → drop n T ≡ spell_mark m ++ y → n < length T → get_or T n 0 ≡ c
-      → ((c ≡ 42) × (r.kind ≡ 1)) ⊎ (((c ≡ 43) × (r.kind ≡ 2)) ⊎ ((c ≡ 63) × (r.kind ≡ 3))) → r.least ≡ 0 → r.most ≡ 0 → r.next ≡ n + 1
-      → Marks m r × (drop r.next T ≡ y)
+  pub mark-star : (m : Mark) → drop n T ≡ spell_mark m ++ y → n < length T → get_or T n 0 ≡ 42 → (times_of m ≡ Star) × (drop (n + 1) T ≡ y)
   unfolding spell_mark
-  mark-one bare c ok e t g h l o x = let q = calm-at T n y calm e t in absurd (pick h)
-    where
-      pick : ((c ≡ 42) × (r.kind ≡ 1)) ⊎ (((c ≡ 43) × (r.kind ≡ 2)) ⊎ ((c ≡ 63) × (r.kind ≡ 3))) → ⊥
-      pick (inl z) = (calm-at T n y calm e t).0 (g ∙ z.0)
-      pick (inr (inl z)) = (calm-at T n y calm e t).1 (g ∙ z.0)
-      pick (inr (inr z)) = (calm-at T n y calm e t).2 (g ∙ z.0)
-  mark-one star c ok e t g (inl z) l o x = (record { kinds = z.1; leasts = l; mosts = o }, ap (λ z. drop z T) x ∙ peel-tail T n 42 y e)
-  mark-one star c ok e t g (inr (inl z)) l o x = let p = peel-at T n 42 y e in absurd (omega (arith, z.0))
-  mark-one star c ok e t g (inr (inr z)) l o x = let p = peel-at T n 42 y e in absurd (omega (arith, z.0))
-  mark-one more c ok e t g (inl z) l o x = let p = peel-at T n 43 y e in absurd (omega (arith, z.0))
-  mark-one more c ok e t g (inr (inl z)) l o x = (record { kinds = z.1; leasts = l; mosts = o }, ap (λ z. drop z T) x ∙ peel-tail T n 43 y e)
-  mark-one more c ok e t g (inr (inr z)) l o x = let p = peel-at T n 43 y e in absurd (omega (arith, z.0))
-  mark-one maybe c ok e t g (inl z) l o x = let p = peel-at T n 63 y e in absurd (omega (arith, z.0))
-  mark-one maybe c ok e t g (inr (inl z)) l o x = let p = peel-at T n 63 y e in absurd (omega (arith, z.0))
-  mark-one maybe c ok e t g (inr (inr z)) l o x = (record { kinds = z.1; leasts = l; mosts = o }, ap (λ z. drop z T) x ∙ peel-tail T n 63 y e)
-  mark-one (rep a b) c ok e t g (inl z) l o x = let p = peel-at T n 123 ((a ++ (44 ∷ (b ++ (125 ∷ [])))) ++ y) e in absurd (omega (arith, z.0))
-  mark-one (rep a b) c ok e t g (inr (inl z)) l o x = let p = peel-at T n 123 ((a ++ (44 ∷ (b ++ (125 ∷ [])))) ++ y) e in absurd (omega (arith, z.0))
-  mark-one (rep a b) c ok e t g (inr (inr z)) l o x = let p = peel-at T n 123 ((a ++ (44 ∷ (b ++ (125 ∷ [])))) ++ y) e in absurd (omega (arith, z.0))
+  mark-star bare e t g = absurd ((calm-at T n y calm e t).0 g)
+  mark-star star e t g = (refl, peel-tail T n 42 y e)
+  mark-star more e t g = let p = peel-at T n 43 y e in absurd (omega arith)
+  mark-star maybe e t g = let p = peel-at T n 63 y e in absurd (omega arith)
+  mark-star (rep a b) e t g = let p = peel-at T n 123 ((a ++ (44 ∷ (b ++ (125 ∷ [])))) ++ y) e in absurd (omega arith)
+
+  pub mark-more : (m : Mark) → drop n T ≡ spell_mark m ++ y → n < length T → get_or T n 0 ≡ 43 → (times_of m ≡ Plus) × (drop (n + 1) T ≡ y)
+  unfolding spell_mark
+  mark-more bare e t g = absurd ((calm-at T n y calm e t).1 g)
+  mark-more star e t g = let p = peel-at T n 42 y e in absurd (omega arith)
+  mark-more more e t g = (refl, peel-tail T n 43 y e)
+  mark-more maybe e t g = let p = peel-at T n 63 y e in absurd (omega arith)
+  mark-more (rep a b) e t g = let p = peel-at T n 123 ((a ++ (44 ∷ (b ++ (125 ∷ [])))) ++ y) e in absurd (omega arith)
+
+  pub mark-maybe : (m : Mark) → drop n T ≡ spell_mark m ++ y → n < length T → get_or T n 0 ≡ 63 → (times_of m ≡ Maybe) × (drop (n + 1) T ≡ y)
+  unfolding spell_mark
+  mark-maybe bare e t g = absurd ((calm-at T n y calm e t).2 g)
+  mark-maybe star e t g = let p = peel-at T n 42 y e in absurd (omega arith)
+  mark-maybe more e t g = let p = peel-at T n 43 y e in absurd (omega arith)
+  mark-maybe maybe e t g = (refl, peel-tail T n 63 y e)
+  mark-maybe (rep a b) e t g = let p = peel-at T n 123 ((a ++ (44 ∷ (b ++ (125 ∷ [])))) ++ y) e in absurd (omega arith)
 
   number-most : (ds : List ℕ) → ok_number ds ≡ true → number_from 0 ds ≤ 300
   unfolding ok_number
   number-most ds h = leb-true (number_from 0 ds) 300 (both (leb 1 (length ds) && leb (length ds) 3 && all_digits ds) (leb (number_from 0 ds) 300) h).1
 
   -- i after the first number, j after the second
-  pub mark-rep : (m : Mark) (v i q w j : ℕ) → ok_mark m ≡ true → drop n T ≡ spell_mark m ++ y → n < length T → get_or T n 0 ≡ 123 → r.kind ≡ 4
-      → Digit-facts T (n + 1) v i → (i < length T → q ≡ i + 1) → Digit-facts T q w j → (j < length T → r.next ≡ j + 1) → r.least ≡ v → r.most ≡ w → Marks m r × (drop r.next T ≡ y)
+  pub mark-rep : (m : Mark) (v i q w j k : ℕ) → ok_mark m ≡ true → drop n T ≡ spell_mark m ++ y → n < length T → get_or T n 0 ≡ 123
+      → Digit-facts T (n + 1) v i → (i < length T → q ≡ i + 1) → Digit-facts T q w j → (j < length T → k ≡ j + 1) → (times_of m ≡ Between v w) × (drop k T ≡ y)
   unfolding spell_mark ok_mark
-  mark-rep bare v i q w j ok e t g k f s f2 s2 l o = absurd ((calm-at T n y calm e t).3 g)
-  mark-rep star v i q w j ok e t g k f s f2 s2 l o = let p = peel-at T n 42 y e in absurd (omega arith)
-  mark-rep more v i q w j ok e t g k f s f2 s2 l o = let p = peel-at T n 43 y e in absurd (omega arith)
-  mark-rep maybe v i q w j ok e t g k f s f2 s2 l o = let p = peel-at T n 63 y e in absurd (omega arith)
-  mark-rep (rep a b) v i q w j ok e t g k f s f2 s2 l o =
+  mark-rep bare v i q w j k ok e t g f s f2 s2 = absurd ((calm-at T n y calm e t).3 g)
+  mark-rep star v i q w j k ok e t g f s f2 s2 = let p = peel-at T n 42 y e in absurd (omega arith)
+  mark-rep more v i q w j k ok e t g f s f2 s2 = let p = peel-at T n 43 y e in absurd (omega arith)
+  mark-rep maybe v i q w j k ok e t g f s f2 s2 = let p = peel-at T n 63 y e in absurd (omega arith)
+  mark-rep (rep a b) v i q w j k ok e t g f s f2 s2 =
       let u = both (ok_number a && ok_number b) (leb (number_from 0 a) (number_from 0 b)) ok in
       let z = both (ok_number a) (ok_number b) u.0 in
       let e1 : drop (n + 1) T ≡ a ++ (44 ∷ (b ++ (125 ∷ y))) =
@@ -240,7 +241,7 @@ module _ (T : List ℕ) (n : ℕ) (r : Times) (y : List ℕ) (calm : Calm y) whe
       let (x1, d1) = f a 44 (b ++ (125 ∷ y)) (number_digits a z.0) (number-most a z.0) comma e1 in
       let e2 : drop q T ≡ b ++ (125 ∷ y) = ap (λ z. drop z T) (s (peel-lt T i 44 (b ++ (125 ∷ y)) d1)) ∙ peel-tail T i 44 (b ++ (125 ∷ y)) d1 in
       let (x2, d2) = f2 b 125 y (number_digits b z.1) (number-most b z.1) brace e2 in
-      (record { kinds = k; leasts = l ∙ x1; mosts = o ∙ x2 }, ap (λ z. drop z T) (s2 (peel-lt T j 125 y d2)) ∙ peel-tail T j 125 y d2)
+      (rw (x1, x2), ap (λ z. drop z T) (s2 (peel-lt T j 125 y d2)) ∙ peel-tail T j 125 y d2)
     where
       comma : is_digit 44 ≡ false
       comma = unfold is_digit in refl

@@ -1,26 +1,23 @@
 // Leaves and marks of a good text: where a leaf ends, which mark stands behind an item, and its numbers; and groups that are repeated no times,
 // which are passed over.
+// A place in the text is a number, since the promises say what is left of the text behind it.
 #![tactic(auto)]
 
-ghost use Rattle.std.specs.Prelude.{◌≡◌, true, false, List, ◌∷◌, ◌++◌, ℕ, ◌≤◌, ◌<◌, ◌+◌, ◌*◌, ◌-◌, length, drop};
+ghost use Rattle.std.specs.Prelude.{◌≡◌, true, false, List, ◌∷◌, ◌++◌, ℕ, ◌≤◌, ◌<◌, ◌+◌, ◌*◌, ◌-◌, length, drop, IfSome};
 ghost use Rattle.text.specs.Grammar.{Leaf, Mark, Body, ok_leaf, ok_mark, ok_body, spell_leaf, spell_mark, reads, is_digit, all_digits, number_from};
 ghost use Rattle.text.specs.inner.Heads.{Calm, Stop};
-ghost use Rattle.text_marks.specs.inner.Marks.{Atom, ok_atom, atom_then, mark_kind, most_of, Marks, without};
+ghost use Rattle.text_marks.specs.inner.Marks.{Atom, ok_atom, atom_then, times_of, UpTo, Never, without};
 
-// A number and the place after it.
-#[derive(Clone, Copy)]
-struct Figure {
-    value: usize,
-    next: usize,
-}
+use text::Read;
 
-// A mark: 0 for none, 1 for `*`, 2 for `+`, 3 for `?`, 4 for a repeat with its numbers; and the place after it.
-#[derive(Clone, Copy)]
-pub struct Times {
-    pub kind: u64,
-    pub least: usize,
-    pub most: usize,
-    pub next: usize,
+// How often an item comes, as its mark says: no mark, `*`, `+`, `?`, or a repeat with its numbers.
+#[derive(Clone, Copy, PartialEq, Eq, Debug)]
+pub enum Times {
+    Once,
+    Star,
+    Plus,
+    Maybe,
+    Between(usize, usize),
 }
 
 // The place after the first closing bracket of a class.
@@ -28,14 +25,13 @@ fn class_end(text: &[u8], at: usize) -> usize
     requires { at ≤ length text.now }
     ensures { (at ≤ result) × (result ≤ length text.now) × ((u y : List ℕ) → without 93 u ≡ true → drop at text.now ≡ u ++ (93 ∷ y) → drop result text.now ≡ y) }
 {
-    let mut next = at;
-    while next < text.len() {
+    // By index: the place is what is answered.
+    for next in at..text.len() {
         if text[next] == b']' {
             return next + 1;
         }
-        next = next + 1;
     }
-    next
+    text.len()
 }
 
 // The place after a leaf.
@@ -43,24 +39,17 @@ pub fn leaf_end(text: &[u8], at: usize) -> usize
     requires { at < length text.now }
     ensures { (at < result) × (result ≤ length text.now) × ((l : Leaf) (y : List ℕ) → ok_leaf l ≡ true → drop at text.now ≡ spell_leaf l ++ y → drop result text.now ≡ y) }
 {
-    let c = text[at];
-    if c == b'[' {
-        return class_end(text, at + 1);
-    }
-    if c == b'\\' {
-        let n = text.len();
-        if n <= at + 2 {
-            return n;
-        }
-        if text[at + 1] == b'x' {
-            if n < at + 4 {
-                return n;
+    let n = text.len();
+    match text[at] {
+        b'[' => class_end(text, at + 1),
+        b'\\' => {
+            if at + 1 < n && text[at + 1] == b'x' {
+                return n.min(at + 4);
             }
-            return at + 4;
+            n.min(at + 2)
         }
-        return at + 2;
+        _ => at + 1,
     }
-    at + 1
 }
 
 // One byte further, if there is one.
@@ -74,94 +63,66 @@ pub fn past(i: usize, n: usize) -> usize
 fn more(v: usize, c: u8) -> usize
     ensures { (result ≤ 4000) × (v ≤ 300 → 48 ≤ c → result ≡ 10 * v + (c - 48)) }
 {
-    if v <= 300 {
-        if b'0' <= c {
-            return 10 * v + (c as usize - 48);
-        }
+    if v <= 300 && b'0' <= c {
+        return 10 * v + usize::from(c - b'0');
     }
     4000
 }
 
 // The number at a place, and the place after its digits.
-fn digits(text: &[u8], at: usize) -> Figure
+fn digits(text: &[u8], at: usize) -> Read<usize>
     requires { at ≤ length text.now }
     ensures { (at ≤ result.next) × (result.next ≤ length text.now) × (result.value ≤ 4000) × ((ds : List ℕ) (e : ℕ) (y : List ℕ) → all_digits ds ≡ true → number_from 0 ds ≤ 300 → is_digit e ≡ false → drop at text.now ≡ ds ++ (e ∷ y) → (result.value ≡ number_from 0 ds) × (drop result.next text.now ≡ e ∷ y)) }
 {
-    let mut next = at;
-    let mut v: usize = 0;
-    while next < text.len() {
+    let mut value: usize = 0;
+    // By index: the place is what is answered.
+    for next in at..text.len() {
         let c = text[next];
-        if text::is_digit(c) {
-            v = more(v, c);
-            next = next + 1;
-        } else {
-            return Figure {
-                value: v,
-                next: next,
-            };
+        if !text::is_digit(c) {
+            return Read { value, next };
         }
+        value = more(value, c);
     }
-    Figure {
-        value: v,
-        next: next,
+    Read {
+        value,
+        next: text.len(),
     }
 }
 
 // The mark at a place, if there is one.
-pub fn mark_of(text: &[u8], at: usize) -> Times
+pub fn mark_of(text: &[u8], at: usize) -> Read<Times>
     requires { at ≤ length text.now }
-    ensures { (at ≤ result.next) × (result.next ≤ length text.now) × (result.least ≤ 4000) × (result.most ≤ 4000) × ((m : Mark) (y : List ℕ) → ok_mark m ≡ true → Calm y → drop at text.now ≡ spell_mark m ++ y → Marks m result × (drop result.next text.now ≡ y)) }
+    ensures { (at ≤ result.next) × (result.next ≤ length text.now) × UpTo 4000 result.value × ((m : Mark) (y : List ℕ) → ok_mark m ≡ true → Calm y → drop at text.now ≡ spell_mark m ++ y → (times_of m ≡ result.value) × (drop result.next text.now ≡ y)) }
 {
     let n = text.len();
-    if n <= at {
-        return Times {
-            kind: 0,
-            least: 0,
-            most: 0,
+    if at == n {
+        return Read {
+            value: Times::Once,
             next: at,
         };
     }
-    let c = text[at];
-    if c == b'*' {
-        return Times {
-            kind: 1,
-            least: 0,
-            most: 0,
-            next: at + 1,
-        };
-    }
-    if c == b'+' {
-        return Times {
-            kind: 2,
-            least: 0,
-            most: 0,
-            next: at + 1,
-        };
-    }
-    if c == b'?' {
-        return Times {
-            kind: 3,
-            least: 0,
-            most: 0,
-            next: at + 1,
-        };
-    }
-    if c == b'{' {
-        let least = digits(text, at + 1);
-        let p = past(least.next, n);
-        let most = digits(text, p);
-        return Times {
-            kind: 4,
-            least: least.value,
-            most: most.value,
-            next: past(most.next, n),
-        };
-    }
-    Times {
-        kind: 0,
-        least: 0,
-        most: 0,
-        next: at,
+    let value = match text[at] {
+        b'*' => Times::Star,
+        b'+' => Times::Plus,
+        b'?' => Times::Maybe,
+        b'{' => {
+            let least = digits(text, at + 1);
+            let most = digits(text, past(least.next, n));
+            return Read {
+                value: Times::Between(least.value, most.value),
+                next: past(most.next, n),
+            };
+        }
+        _ => {
+            return Read {
+                value: Times::Once,
+                next: at,
+            };
+        }
+    };
+    Read {
+        value,
+        next: at + 1,
     }
 }
 
@@ -173,40 +134,33 @@ fn pass_over(text: &[u8], at: usize) -> usize
     ensures { (at ≤ result) × (result ≤ length text.now) × ((b : Body) (x : List ℕ) → ok_body b ≡ true → Stop x → drop at text.now ≡ reads b ++ x → drop result text.now ≡ x) }
 {
     let mut next = at;
+    // A step is a whole item.
     while next < text.len() {
-        let c = text[next];
-        if c == b')' {
-            return next;
-        }
-        if c == b'|' {
-            next = next + 1;
-        } else {
-            if c == b'(' {
+        match text[next] {
+            b')' => return next,
+            b'|' => next += 1,
+            b'(' => {
                 let inner = pass_over(text, next + 1);
-                let mark = mark_of(text, past(inner, text.len()));
-                next = mark.next;
-            } else {
-                let mark = mark_of(text, leaf_end(text, next));
-                next = mark.next;
+                next = mark_of(text, past(inner, text.len())).next;
             }
+            _ => next = mark_of(text, leaf_end(text, next)).next,
         }
     }
     next
 }
 
-// The place after a group that is repeated no times; where none stands at the place, that place.
-pub fn none_end(text: &[u8], at: usize) -> usize
+// The place after a group that is repeated no times, where one stands at the place.
+pub fn none_end(text: &[u8], at: usize) -> Option<usize>
     requires { at < length text.now }
-    ensures { (at ≤ result) × (result ≤ length text.now) × (at < result → (a : Atom) (m : Mark) (y : List ℕ) → ok_atom a ≡ true → ok_mark m ≡ true → Calm y → drop at text.now ≡ atom_then a (spell_mark m ++ y) → (mark_kind m ≡ 4) × (most_of m ≡ 0) × (drop result text.now ≡ y)) }
+    ensures { IfSome result (λ p. (at < p) × (p ≤ length text.now) × ((a : Atom) (m : Mark) (y : List ℕ) → ok_atom a ≡ true → ok_mark m ≡ true → Calm y → drop at text.now ≡ atom_then a (spell_mark m ++ y) → Never (times_of m) × (drop p text.now ≡ y))) }
 {
-    if text[at] == b'(' {
-        let inner = pass_over(text, at + 1);
-        let mark = mark_of(text, past(inner, text.len()));
-        if mark.kind == 4 {
-            if mark.most == 0 {
-                return mark.next;
-            }
-        }
+    if text[at] != b'(' {
+        return None;
     }
-    at
+    let inner = pass_over(text, at + 1);
+    let mark = mark_of(text, past(inner, text.len()));
+    match mark.value {
+        Times::Between(_, 0) => Some(mark.next),
+        _ => None,
+    }
 }

@@ -8,13 +8,17 @@ use native.Mathlib.Numerals.{add-one}
 use lib.Dec.{leb, ltb, eqb}
 use lib.ListN.{length, drop, get_or}
 use lib.Seq.{drop-cons}
-use borrow.Author.Tests.{eq-eqb, ne_eqb, le-leb, le-ltb}
+use borrow.Author.Tests.{eq-eqb, ne_eqb, le-leb, le-ltb, eqb-true, eqb-false}
+use Rattle.std.specs.Int.{from_bool}
+use Rattle.text.specs.inner.Heads.{head_of}
 use Rattle.text.specs.Grammar.{amid, special, is_digit}
 use Rattle.text.specs.Acceptor.{Mode, begin, fresh, after, esc, opened, num, State, dead, live, can, close, items, digit, mode, step, resting, good, is_dead, deep, verdict}
-use Rattle.text_parse.specs.inner.Went.{state_of, mode_of, kind_of, counted}
+use Rattle.std.specs.Prelude.{Option, Some, None, Ok}
+use Rattle.text_parse.specs.inner.Went.{state_of, mode_of, counted}
 use Rattle.text_parse.specs.declared.Inner.{Inner}
-use Rattle.text_parse.specs.declared.Inner.TheVariants.{Dead, After, Esc, Hex1, Hex2, Opened, Caret, Member, Lone, ClassEsc, ClassHex1, ClassHex2, To, ToEsc, ToHex1, ToHex2}
-use Rattle.text_parse.specs.declared.Count.TheVariants.{Is}
+use Rattle.text_parse.specs.declared.Inner.TheVariants.{Esc, Hex1, Hex2, Opened, Caret, Member, Lone, ClassEsc, ClassHex1, ClassHex2, To, ToEsc, ToHex1, ToHex2}
+use Rattle.text_parse.specs.declared.Step.{Step}
+use Rattle.text_parse.specs.declared.Step.TheVariants.{Over, On}
 
 drop_past : (T : List ℕ) (i : ℕ) → length T ≤ i → drop i T ≡ []
 drop_past [] zero h = refl
@@ -49,114 +53,41 @@ alive d m = refl
 
 -- ---- inside an escape or a class
 
-pub kind-dead : (d : ℕ) (n : Inner) → kind_of n ≡ 0 → state_of d n ≡ dead
-kind-dead d Dead h = refl
-kind-dead d After h = absurd (omega arith)
-kind-dead d Esc h = absurd (omega arith)
-kind-dead d Hex1 h = absurd (omega arith)
-kind-dead d Hex2 h = absurd (omega arith)
-kind-dead d Opened h = absurd (omega arith)
-kind-dead d Caret h = absurd (omega arith)
-kind-dead d Member h = absurd (omega arith)
-kind-dead d (Lone v) h = absurd (omega arith)
-kind-dead d ClassEsc h = absurd (omega arith)
-kind-dead d ClassHex1 h = absurd (omega arith)
-kind-dead d (ClassHex2 a) h = absurd (omega arith)
-kind-dead d (To v) h = absurd (omega arith)
-kind-dead d (ToEsc v) h = absurd (omega arith)
-kind-dead d (ToHex1 v) h = absurd (omega arith)
-kind-dead d (ToHex2 v a) h = absurd (omega arith)
-
-pub kind-live : (d : ℕ) (n : Inner) → (kind_of n ≡ 0 → ⊥) → state_of d n ≡ live d (mode_of n)
-kind-live d Dead h = absurd (h refl)
-kind-live d After h = refl
-kind-live d Esc h = refl
-kind-live d Hex1 h = refl
-kind-live d Hex2 h = refl
-kind-live d Opened h = refl
-kind-live d Caret h = refl
-kind-live d Member h = refl
-kind-live d (Lone v) h = refl
-kind-live d ClassEsc h = refl
-kind-live d ClassHex1 h = refl
-kind-live d (ClassHex2 a) h = refl
-kind-live d (To v) h = refl
-kind-live d (ToEsc v) h = refl
-kind-live d (ToHex1 v) h = refl
-kind-live d (ToHex2 v a) h = refl
-
-pub kind-after : (n : Inner) → kind_of n ≡ 1 → mode_of n ≡ after
-kind-after Dead h = absurd (omega arith)
-kind-after After h = refl
-kind-after Esc h = absurd (omega arith)
-kind-after Hex1 h = absurd (omega arith)
-kind-after Hex2 h = absurd (omega arith)
-kind-after Opened h = absurd (omega arith)
-kind-after Caret h = absurd (omega arith)
-kind-after Member h = absurd (omega arith)
-kind-after (Lone v) h = absurd (omega arith)
-kind-after ClassEsc h = absurd (omega arith)
-kind-after ClassHex1 h = absurd (omega arith)
-kind-after (ClassHex2 a) h = absurd (omega arith)
-kind-after (To v) h = absurd (omega arith)
-kind-after (ToEsc v) h = absurd (omega arith)
-kind-after (ToHex1 v) h = absurd (omega arith)
-kind-after (ToHex2 v a) h = absurd (omega arith)
-
-kind-most : (n : Inner) → kind_of n ≤ 2
-kind-most Dead = omega arith
-kind-most After = omega arith
-kind-most Esc = omega arith
-kind-most Hex1 = omega arith
-kind-most Hex2 = omega arith
-kind-most Opened = omega arith
-kind-most Caret = omega arith
-kind-most Member = omega arith
-kind-most (Lone v) = omega arith
-kind-most ClassEsc = omega arith
-kind-most ClassHex1 = omega arith
-kind-most (ClassHex2 a) = omega arith
-kind-most (To v) = omega arith
-kind-most (ToEsc v) = omega arith
-kind-most (ToHex1 v) = omega arith
-kind-most (ToHex2 v a) = omega arith
-
-pub kind-two : (n : Inner) → (kind_of n ≡ 0 → ⊥) → (kind_of n ≡ 1 → ⊥) → kind_of n ≡ 2
-kind-two n a b = let k : kind_of n ≤ 2 = kind-most n in omega arith
-
-kind-busy : (n : Inner) → kind_of n ≡ 2 → resting (mode_of n) ≡ false
+inner-busy : (m : Inner) → resting (mode_of m) ≡ false
 unfolding resting
-kind-busy Dead h = absurd (omega arith)
-kind-busy After h = absurd (omega arith)
-kind-busy Esc h = refl
-kind-busy Hex1 h = refl
-kind-busy Hex2 h = refl
-kind-busy Opened h = refl
-kind-busy Caret h = refl
-kind-busy Member h = refl
-kind-busy (Lone v) h = refl
-kind-busy ClassEsc h = refl
-kind-busy ClassHex1 h = refl
-kind-busy (ClassHex2 a) h = refl
-kind-busy (To v) h = refl
-kind-busy (ToEsc v) h = refl
-kind-busy (ToHex1 v) h = refl
-kind-busy (ToHex2 v a) h = refl
+inner-busy Esc = refl
+inner-busy Hex1 = refl
+inner-busy Hex2 = refl
+inner-busy Opened = refl
+inner-busy Caret = refl
+inner-busy Member = refl
+inner-busy (Lone v) = refl
+inner-busy ClassEsc = refl
+inner-busy ClassHex1 = refl
+inner-busy (ClassHex2 a) = refl
+inner-busy (To v) = refl
+inner-busy (ToEsc v) = refl
+inner-busy (ToHex1 v) = refl
+inner-busy (ToHex2 v a) = refl
 
 pub unrested : (d : ℕ) (m : Mode) → resting m ≡ false → good (live d m) ≡ false
 unfolding good
 unrested zero m h = h
 unrested (suc d) m h = refl
 
-module _ (T : List ℕ) (i : ℕ) (m n : Inner) (there : i < length T) (next : (d : ℕ) → state_of d n ≡ mode d (mode_of m) (get_or T i 0)) where
-  pub inside-dead : (d : ℕ) → d ≤ 16 → kind_of n ≡ 0 → verdict (live d (mode_of m)) i (drop i T) ≡ (19, i)
-  inside-dead d l k = off T d i (mode_of m) l there (sym (next d) ∙ kind-dead d n k)
+module _ (T : List ℕ) (i : ℕ) (m : Inner) where
+  module _ (s : Option Step) (there : i < length T) (next : (d : ℕ) → state_of d s ≡ mode d (mode_of m) (get_or T i 0)) where
+    pub inside-dead : (d : ℕ) → d ≤ 16 → s ≡ None → verdict (live d (mode_of m)) i (drop i T) ≡ (19, i)
+    inside-dead d l e = off T d i (mode_of m) l there (sym (next d) ∙ ap (state_of d) e)
 
-  pub inside_on : (d : ℕ) → d ≤ 16 → (kind_of n ≡ 0 → ⊥) → verdict (live d (mode_of m)) i (drop i T) ≡ verdict (live d (mode_of n)) (i + 1) (drop (i + 1) T)
-  inside_on d l k = on T d i (mode_of m) l (live d (mode_of n)) there (sym (next d) ∙ kind-live d n k) (alive d (mode_of n))
+    pub inside-over : (d : ℕ) → d ≤ 16 → s ≡ Some Over → verdict (live d (mode_of m)) i (drop i T) ≡ verdict (live d after) (i + 1) (drop (i + 1) T)
+    inside-over d l e = on T d i (mode_of m) l (live d after) there (sym (next d) ∙ ap (state_of d) e) (alive d after)
 
-pub inside-cut : (T : List ℕ) (i : ℕ) (m : Inner) (d : ℕ) → length T ≤ i → kind_of m ≡ 2 → d ≤ 16 → verdict (live d (mode_of m)) i (drop i T) ≡ (19, i)
-inside-cut T i m d h k l = cut T d i (mode_of m) l h (unrested d (mode_of m) (kind-busy m k))
+    pub inside_on : (d : ℕ) (n : Inner) → d ≤ 16 → s ≡ Some (On n) → verdict (live d (mode_of m)) i (drop i T) ≡ verdict (live d (mode_of n)) (i + 1) (drop (i + 1) T)
+    inside_on d n l e = on T d i (mode_of m) l (live d (mode_of n)) there (sym (next d) ∙ ap (state_of d) e) (alive d (mode_of n))
+
+  pub inside-cut : (d : ℕ) → length T ≤ i → d ≤ 16 → verdict (live d (mode_of m)) i (drop i T) ≡ (19, i)
+  inside-cut d h l = cut T d i (mode_of m) l h (unrested d (mode_of m) (inner-busy m))
 
 -- ---- numbers
 
@@ -165,13 +96,13 @@ module _ (T : List ℕ) (i : ℕ) (second : Bool) (low r v d : ℕ) (l : d ≤ 1
   num-cut h = cut T d i (num second low r v) l h (unrested d (num second low r v) (unfold resting in refl))
 
   module _ (there : i < length T) where
-    pub num-ends : get_or T i 0 ≡ cond second 125 44 → (ltb r 3 && leb low v) ≡ true → v ≤ 300 → verdict (live d (num second low r v)) i (drop i T) ≡ counted T d second (Is v (i + 1))
+    pub num-ends : get_or T i 0 ≡ cond second 125 44 → (ltb r 3 && leb low v) ≡ true → v ≤ 300 → verdict (live d (num second low r v)) i (drop i T) ≡ counted T d second (Ok (record { value = v; next = i + 1 }))
     num-ends e h k = go second refl
       where
         moves : mode d (num second low r v) (get_or T i 0) ≡ cond second (live d fresh) (live d (num true v 3 0))
         moves = unfold mode in rw (eq-eqb (get_or T i 0) (cond second 125 44) e, h, le-leb v 300 k)
 
-        go : (b : Bool) → second ≡ b → verdict (live d (num second low r v)) i (drop i T) ≡ counted T d b (Is v (i + 1))
+        go : (b : Bool) → second ≡ b → verdict (live d (num second low r v)) i (drop i T) ≡ counted T d b (Ok (record { value = v; next = i + 1 }))
         go true z = on T d i (num second low r v) l (live d fresh) there (moves ∙ ap (λ b. cond b (live d fresh) (live d (num true v 3 0))) z) (alive d fresh)
         go false z = on T d i (num second low r v) l (live d (num true v 3 0)) there (moves ∙ ap (λ b. cond b (live d fresh) (live d (num true v 3 0))) z) (alive d (num true v 3 0))
 
@@ -281,14 +212,20 @@ group-cut T d i l h = cut T (d + 1) i fresh l h (unfold good in rw add-one refl)
 
 -- ---- the whole text
 
-pub front-caret : (T : List ℕ) → 0 < length T → get_or T 0 0 ≡ 94 → verdict (live 0 begin) 0 T ≡ verdict (live 0 fresh) 1 (drop 1 T)
+front-caret : (T : List ℕ) → 0 < length T → get_or T 0 0 ≡ 94 → verdict (live 0 begin) 0 T ≡ verdict (live 0 fresh) 1 (drop 1 T)
 front-caret T l e = on T 0 0 begin (omega arith) (live 0 fresh) l (ap (mode 0 begin) e ∙ (unfold mode in refl)) (alive 0 fresh)
 
-pub front-other : (T : List ℕ) → 0 < length T → (get_or T 0 0 ≡ 94 → ⊥) → verdict (live 0 begin) 0 T ≡ verdict (live 0 fresh) 0 (drop 0 T)
+front-other : (T : List ℕ) → 0 < length T → (get_or T 0 0 ≡ 94 → ⊥) → verdict (live 0 begin) 0 T ≡ verdict (live 0 fresh) 0 (drop 0 T)
 front-other T l n = same_step T 0 0 begin fresh l (unfold mode in rw (ne_eqb (get_or T 0 0) 94 n))
 
-pub front-none : (T : List ℕ) → length T ≤ 0 → verdict (live 0 begin) 0 T ≡ verdict (live 0 fresh) 0 (drop 0 T)
+front-none : (T : List ℕ) → length T ≤ 0 → verdict (live 0 begin) 0 T ≡ verdict (live 0 fresh) 0 (drop 0 T)
 front-none T l = same_end T 0 0 begin fresh l (unfold resting in refl) (unfold resting in refl)
+
+pub front-at : (T : List ℕ) (b : Bool) → b ≡ eqb (head_of 0 T) 94 → (verdict (live 0 begin) 0 T ≡ verdict (live 0 fresh) (from_bool b) (drop (from_bool b) T)) × (from_bool b ≤ length T)
+front-at [] true e = cc
+front-at [] false e = (front-none [] (omega arith), omega arith)
+front-at (c ∷ T) true e = (front-caret (c ∷ T) (omega arith) (eqb-true c 94 (sym e)), omega arith)
+front-at (c ∷ T) false e = (front-other (c ∷ T) (omega arith) (eqb-false c 94 (sym e)), omega arith)
 
 pub whole-good : (T : List ℕ) (i : ℕ) → length T ≤ i → verdict (live 0 fresh) i (drop i T) ≡ (0, 0)
 whole-good T i l = ended T 0 i fresh (omega arith) l (unfold good resting in refl)

@@ -1,22 +1,15 @@
 -- One byte of the acceptor, and the look-ahead of numbers.
 use Prim.Native.Nat.{ℕ, zero, suc, ◌+◌, ◌-◌, ◌*◌, ◌≤◌, ◌<◌}
-use mathlib.Core.Path.{◌≡◌, refl}
-use mathlib.Core.Bool.{Bool, true, false, ◌&&◌, ◌||◌, cond}
+use mathlib.Core.Path.{◌≡◌, refl, sym, ◌∙◌}
+use mathlib.Core.Bool.{Bool, true, false, ◌&&◌, ◌||◌}
 use mathlib.Core.Logic.{◌⊎◌, inl, inr}
 use native.Mathlib.Omega.{arith}
-use lib.Dec.{leb}
-use borrow.Author.Tests.{leb-true}
+use lib.Dec.{leb, eqb}
+use borrow.Author.Tests.{leb-true, le-leb, lt-leb, eqb-false, ne_eqb}
 use Rattle.rules.specs.Scan.{some}
+use Rattle.rules.proofs.Scanning.{some-elim}
 use Rattle.text.specs.Acceptor.{can}
-use Rattle.text_parse.specs.declared.Inner.{Inner}
-use Rattle.text_parse.specs.inner.Went.{state_of, pick}
-use Rattle.text.proofs.Viable.{some-elim}
 use Rattle.text.proofs.Places.{both, or-either}
-
-pub can-zero : (low r v : ℕ) → r ≡ 0 → (leb low v && leb v 300) ≡ can low r v
-unfolding can
-can-zero low zero v e = refl
-can-zero low (suc r) v e = absurd (omega arith)
 
 pub can-more : (low r v : ℕ) → (r ≡ 0 → ⊥) → ((leb low v && leb v 300) || some 10 (λ k. can low (r - 1) (10 * v + k))) ≡ can low r v
 unfolding can
@@ -40,6 +33,30 @@ can-over low r v h = go (can low r v) refl
     go false e = refl
     go true e = let k : v ≤ 300 = can-small low r v e in absurd (omega arith)
 
-pub pick-state : (d : ℕ) (b : Bool) (x y : Inner) → state_of d (pick b x y) ≡ cond b (state_of d x) (state_of d y)
-pick-state d true x y = refl
-pick-state d false x y = refl
+-- a number that is large enough ends here
+pub can-now : (low r v : ℕ) → low ≤ v → v ≤ 300 → can low r v ≡ true
+unfolding can
+can-now low zero v a b = rw (le-leb low v a, le-leb v 300 b)
+can-now low (suc r) v a b = rw (le-leb low v a, le-leb v 300 b)
+
+-- one that is not large enough needs digits
+pub can-not : (low v : ℕ) → v < low → can low 0 v ≡ false
+unfolding can
+can-not low v a = rw (lt-leb low v a)
+
+pub can-next : (low r v : ℕ) → v < low → (r ≡ 0 → ⊥) → can low r v ≡ some 10 (λ k. can low (r - 1) (10 * v + k))
+can-next low r v a b = sym (can-more low r v b) ∙ rw (lt-leb low v a)
+
+-- ---- one of three bytes
+
+pub one-of-three : (x a b c : ℕ) → ((x ≡ a → ⊥) → (x ≡ b → ⊥) → (x ≡ c → ⊥) → ⊥) → (eqb x a || eqb x b || eqb x c) ≡ true
+one-of-three x a b c h = go (eqb x a) (eqb x b) (eqb x c) refl refl refl
+  where
+    go : (p q r : Bool) → eqb x a ≡ p → eqb x b ≡ q → eqb x c ≡ r → (p || q || r) ≡ true
+    go true q r e f g = refl
+    go false true r e f g = refl
+    go false false true e f g = refl
+    go false false false e f g = absurd (h (eqb-false x a e) (eqb-false x b f) (eqb-false x c g))
+
+pub none-of-three : (x a b c : ℕ) → (x ≡ a → ⊥) → (x ≡ b → ⊥) → (x ≡ c → ⊥) → (eqb x a || eqb x b || eqb x c) ≡ false
+none-of-three x a b c e f g = rw (ne_eqb x a e, ne_eqb x b f, ne_eqb x c g)

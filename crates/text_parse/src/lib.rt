@@ -1,17 +1,26 @@
 // The parser of signature text. What stands inside an item is read byte by byte, by a mode; alternatives, sequences and items
 // call one another, with remaining length falling.
+// A place in the text is a number, since the promises say what is left of the text behind it.
 #![tactic(auto)]
 
-ghost use Rattle.std.specs.Prelude.{◌≡◌, true, false, cond, ℕ, ◌≤◌, ◌<◌, ◌+◌, ◌*◌, ◌-◌, length, drop, get_or, eqb};
+ghost use Rattle.std.specs.Prelude.{◌≡◌, ℕ, ◌≤◌, ◌<◌, ◌+◌, length, drop, get_or, eqb, cond, false};
+ghost use Rattle.std.specs.Bool.{then_some};
 ghost use Rattle.text.specs.Grammar.{amid, special, class_special, is_hex};
 ghost use Rattle.text.specs.Acceptor.{begin, fresh, after, esc, lone1, cesc, chex2, to, tesc, thex1, thex2, num, live, can, members, mode, verdict};
-ghost use Rattle.text_parse.specs.inner.Went.{state_of, mode_of, kind_of, pick, counted, Within, went, Ahead, Pauses, Halts, answer};
+ghost use Rattle.text_parse.specs.inner.Went.{state_of, mode_of, counted, Within, went, Ahead, Pauses, Halts, answer};
 
-// What may come next inside a class or an escape: nothing; the item is over; or what stands between.
-#[derive(Clone, Copy)]
-pub enum Inner {
-    Dead,
-    After,
+use text::Read;
+
+// Why a text does not fit: it is bad at a place, or a seventeenth bracket opens.
+#[derive(Clone, Copy, PartialEq, Eq, Debug)]
+pub enum Fault {
+    Bad(usize),
+    Deep,
+}
+
+// What is read of a class or an escape.
+#[derive(Clone, Copy, PartialEq, Eq, Debug)]
+enum Inner {
     Esc,
     Hex1,
     Hex2,
@@ -28,59 +37,41 @@ pub enum Inner {
     ToHex2(usize, u8),
 }
 
-// A number of a repeat with the place after its end; or where it is bad.
-#[derive(Clone, Copy)]
-pub enum Count {
-    Is(usize, usize),
-    Not(usize),
+// After one more byte of a class or an escape: the item is over, or it goes on.
+#[derive(Clone, Copy, PartialEq, Eq, Debug)]
+enum Step {
+    Over,
+    On(Inner),
 }
 
-// How far a part of the text goes: up to a place, or it is bad at a place, or a seventeenth bracket opens.
-#[derive(Clone, Copy)]
-pub enum Went {
-    On(usize),
-    Bad(usize),
-    Deep,
-}
-
-// A text fits; or it is bad at a place; or a seventeenth bracket opens.
-#[derive(Clone, Copy)]
-pub enum Parsed {
-    Good,
-    Bad(usize),
-    Deep,
-}
+// Brackets that may be open, each inside the one before.
+const MOST_OPEN: usize = 16;
 
 // Says whether a byte is a hex digit.
+#[tactic(auto, unfolding(text::specs::Grammar::is_hex, text::specs::Grammar::is_digit))]
 fn is_hex(c: u8) -> bool
     ensures { result ≡ is_hex c }
 {
-    text::is_digit(c) | ((b'A' <= c) & (c <= b'F')) | ((b'a' <= c) & (c <= b'f'))
+    matches!(c, b'0'..=b'9' | b'A'..=b'F' | b'a'..=b'f')
 }
 
 // Says whether a byte does not stand for itself.
+#[tactic(auto, unfolding(text::specs::Grammar::amid))]
 fn is_special(c: u8) -> bool
     ensures { result ≡ amid c special }
 {
-    (c == b'\\')
-        | ((c == b'.')
-            | ((c == b'[')
-                | ((c == b']')
-                    | ((c == b'(')
-                        | ((c == b')')
-                            | ((c == b'|')
-                                | ((c == b'*')
-                                    | ((c == b'+')
-                                        | ((c == b'?')
-                                            | ((c == b'{')
-                                                | ((c == b'}') | ((c == b'^') | false))))))))))))
+    matches!(
+        c,
+        b'\\' | b'.' | b'[' | b']' | b'(' | b')' | b'|' | b'*' | b'+' | b'?' | b'{' | b'}' | b'^'
+    )
 }
 
 // Says whether a byte does not stand for itself in a class.
+#[tactic(auto, unfolding(text::specs::Grammar::amid))]
 fn class_special(c: u8) -> bool
     ensures { result ≡ amid c class_special }
 {
-    (c == b'\\') | ((c == b'[') | ((c == b']') | ((c == b'^') | ((c == b'-') | false))))
+    matches!(c, b'\\' | b'[' | b']' | b'^' | b'-')
 }
 
 // The value, with at most so many more digits, can become a number from low to 300.
@@ -90,182 +81,153 @@ fn can_end(low: usize, r: usize, v: usize) -> bool
     if v > 300 {
         return false;
     }
-    let now = (low <= v) & (v <= 300);
+    if low <= v {
+        return true;
+    }
     if r == 0 {
-        return now;
+        return false;
     }
-    let mut any = false;
-    let mut d: usize = 0;
-    while d < 10 {
-        let one = can_end(low, r - 1, 10 * v + d);
-        any = any | one;
-        d = d + 1;
+    // No closure: a recursion through one gets no proof.
+    for d in 0..10 {
+        if can_end(low, r - 1, 10 * v + d) {
+            return true;
+        }
     }
-    now | any
+    false
 }
 
-// ---- one byte inside an escape or a class
+// ---- one byte inside an escape or a class: none where no continuation fits
 
 // After a backslash.
-fn esc_step(c: u8) -> Inner
+#[tactic(auto, unfolding(text::specs::Acceptor::mode))]
+fn esc_step(c: u8) -> Option<Step>
     ensures { (d : ℕ) → state_of d result ≡ mode d esc c }
 {
-    if c == b'n' {
-        return Inner::After;
+    match c {
+        b'n' | b's' => Some(Step::Over),
+        b'x' => Some(Step::On(Inner::Hex1)),
+        _ => None,
     }
-    if c == b's' {
-        return Inner::After;
-    }
-    if c == b'x' {
-        return Inner::Hex1;
-    }
-    Inner::Dead
 }
 
 // At a hex digit of an escape.
-fn hex_step(c: u8, next: Inner) -> Inner
-    ensures { result ≡ pick (is_hex c) next Inner.Dead }
+fn hex_step(c: u8, next: Step) -> Option<Step>
+    ensures { result ≡ then_some (is_hex c) next }
 {
-    if is_hex(c) {
-        return next;
-    }
-    Inner::Dead
+    is_hex(c).then_some(next)
 }
 
 // Where a member of a class may begin.
-fn member_step(c: u8) -> Inner
+#[tactic(auto, unfolding(text::specs::Acceptor::members))]
+fn member_step(c: u8) -> Option<Step>
     ensures { (d : ℕ) → state_of d result ≡ members d c }
 {
     if c == b'\\' {
-        return Inner::ClassEsc;
+        return Some(Step::On(Inner::ClassEsc));
     }
-    if class_special(c) {
-        return Inner::Dead;
-    }
-    Inner::Lone(text::wide(c))
+    (!class_special(c)).then_some(Step::On(Inner::Lone(usize::from(c))))
 }
 
 // After a backslash in a class.
-fn class_esc_step(c: u8) -> Inner
+#[tactic(auto, unfolding(text::specs::Acceptor::mode))]
+fn class_esc_step(c: u8) -> Option<Step>
     ensures { (d : ℕ) → state_of d result ≡ mode d cesc c }
 {
-    if c == b'n' {
-        return Inner::Lone(10);
+    match c {
+        b'n' => Some(Step::On(Inner::Lone(10))),
+        b's' => Some(Step::On(Inner::Member)),
+        b'x' => Some(Step::On(Inner::ClassHex1)),
+        _ => None,
     }
-    if c == b's' {
-        return Inner::Member;
-    }
-    if c == b'x' {
-        return Inner::ClassHex1;
-    }
-    Inner::Dead
 }
 
 // At the second hex digit of an escape in a class; a is the first.
-fn class_hex_step(a: u8, c: u8) -> Inner
+#[tactic(auto, unfolding(text::specs::Acceptor::mode))]
+fn class_hex_step(a: u8, c: u8) -> Option<Step>
     ensures { (d : ℕ) → state_of d result ≡ mode d (chex2 a) c }
 {
-    if is_hex(c) {
-        return Inner::Lone(16 * text::hex_value(a) + text::hex_value(c));
-    }
-    Inner::Dead
+    hex_step(
+        c,
+        Step::On(Inner::Lone(16 * text::hex_value(a) + text::hex_value(c))),
+    )
 }
 
 // After the minus of a range from v.
-fn to_step(v: usize, c: u8) -> Inner
+#[tactic(auto, unfolding(text::specs::Acceptor::mode))]
+fn to_step(v: usize, c: u8) -> Option<Step>
     ensures { (d : ℕ) → state_of d result ≡ mode d (to v) c }
 {
     if c == b'\\' {
-        return Inner::ToEsc(v);
+        return Some(Step::On(Inner::ToEsc(v)));
     }
-    if class_special(c) {
-        return Inner::Dead;
-    }
-    if text::wide(c) < v {
-        return Inner::Dead;
-    }
-    Inner::Member
+    (!class_special(c) && v <= usize::from(c)).then_some(Step::On(Inner::Member))
 }
 
 // After a backslash at the high end of a range from v.
-fn to_esc_step(v: usize, c: u8) -> Inner
+#[tactic(auto, unfolding(text::specs::Acceptor::mode))]
+fn to_esc_step(v: usize, c: u8) -> Option<Step>
     ensures { (d : ℕ) → state_of d result ≡ mode d (tesc v) c }
 {
-    if c == b'n' {
-        if v <= 10 {
-            return Inner::Member;
-        }
-        return Inner::Dead;
+    match c {
+        b'n' if v <= 10 => Some(Step::On(Inner::Member)),
+        b'x' => Some(Step::On(Inner::ToHex1(v))),
+        _ => None,
     }
-    if c == b'x' {
-        return Inner::ToHex1(v);
-    }
-    Inner::Dead
 }
 
 // At the first hex digit of the high end of a range from v.
-fn to_hex_step(v: usize, c: u8) -> Inner
+#[tactic(auto, unfolding(text::specs::Acceptor::mode))]
+fn to_hex_step(v: usize, c: u8) -> Option<Step>
     ensures { (d : ℕ) → state_of d result ≡ mode d (thex1 v) c }
 {
-    if is_hex(c) {
-        if v <= 16 * text::hex_value(c) + 15 {
-            return Inner::ToHex2(v, c);
-        }
-        return Inner::Dead;
-    }
-    Inner::Dead
+    (is_hex(c) && v <= 16 * text::hex_value(c) + 15).then_some(Step::On(Inner::ToHex2(v, c)))
 }
 
 // At the second hex digit of the high end of a range from v; a is the first.
-fn to_last_step(v: usize, a: u8, c: u8) -> Inner
+#[tactic(auto, unfolding(text::specs::Acceptor::mode))]
+fn to_last_step(v: usize, a: u8, c: u8) -> Option<Step>
     ensures { (d : ℕ) → state_of d result ≡ mode d (thex2 v a) c }
 {
-    if is_hex(c) {
-        if v <= 16 * text::hex_value(a) + text::hex_value(c) {
-            return Inner::Member;
-        }
-        return Inner::Dead;
-    }
-    Inner::Dead
+    let high = 16 * text::hex_value(a) + text::hex_value(c);
+    (is_hex(c) && v <= high).then_some(Step::On(Inner::Member))
 }
 
-// A byte where a member may come, or the class may end where n is 93, or a caret may stand where n is 94.
-fn open_step(c: u8, n: u8, then: Inner) -> Inner
-    ensures { (d : ℕ) → state_of d result ≡ cond (eqb c n) (state_of d then) (members d c) }
+// A byte where a member may come, or n, after which comes what is given.
+fn open_step(c: u8, n: u8, then: Step) -> Option<Step>
+    ensures { (d : ℕ) → state_of d result ≡ cond (eqb c n) (state_of d (Some then)) (members d c) }
 {
     if c == n {
-        return then;
+        return Some(then);
     }
     member_step(c)
 }
 
 // After a single byte v of a class, which a minus may make a range.
-fn lone_step(v: usize, c: u8) -> Inner
+#[tactic(auto, unfolding(text::specs::Acceptor::mode))]
+fn lone_step(v: usize, c: u8) -> Option<Step>
     ensures { (d : ℕ) → state_of d result ≡ mode d (lone1 v) c }
 {
     if c == b']' {
-        return Inner::After;
+        return Some(Step::Over);
     }
-    open_step(c, b'-', Inner::To(v))
+    open_step(c, b'-', Step::On(Inner::To(v)))
 }
 
 // One byte inside an escape or a class.
-fn inner_step(m: Inner, c: u8) -> Inner
-    requires { kind_of m ≡ 2 }
+#[tactic(auto, unfolding(text::specs::Acceptor::mode))]
+fn inner_step(m: Inner, c: u8) -> Option<Step>
     ensures { (d : ℕ) → state_of d result ≡ mode d (mode_of m) c }
 {
     match m {
-        Inner::Dead => Inner::Dead,
-        Inner::After => Inner::Dead,
         Inner::Esc => esc_step(c),
-        Inner::Hex1 => hex_step(c, Inner::Hex2),
-        Inner::Hex2 => hex_step(c, Inner::After),
-        Inner::Opened => open_step(c, b'^', Inner::Caret),
+        Inner::Hex1 => hex_step(c, Step::On(Inner::Hex2)),
+        Inner::Hex2 => hex_step(c, Step::Over),
+        Inner::Opened => open_step(c, b'^', Step::On(Inner::Caret)),
         Inner::Caret => member_step(c),
-        Inner::Member => open_step(c, b']', Inner::After),
+        Inner::Member => open_step(c, b']', Step::Over),
         Inner::Lone(v) => lone_step(v, c),
         Inner::ClassEsc => class_esc_step(c),
-        Inner::ClassHex1 => hex_step(c, Inner::ClassHex2(c)),
+        Inner::ClassHex1 => hex_step(c, Step::On(Inner::ClassHex2(c))),
         Inner::ClassHex2(a) => class_hex_step(a, c),
         Inner::To(v) => to_step(v, c),
         Inner::ToEsc(v) => to_esc_step(v, c),
@@ -274,255 +236,145 @@ fn inner_step(m: Inner, c: u8) -> Inner
     }
 }
 
-// 0: nothing may come; 1: the item is over; 2: neither.
-fn kind(m: Inner) -> usize
-    ensures { result ≡ kind_of m }
-{
-    match m {
-        Inner::Dead => 0,
-        Inner::After => 1,
-        Inner::Esc => 2,
-        Inner::Hex1 => 2,
-        Inner::Hex2 => 2,
-        Inner::Opened => 2,
-        Inner::Caret => 2,
-        Inner::Member => 2,
-        Inner::Lone(_) => 2,
-        Inner::ClassEsc => 2,
-        Inner::ClassHex1 => 2,
-        Inner::ClassHex2(_) => 2,
-        Inner::To(_) => 2,
-        Inner::ToEsc(_) => 2,
-        Inner::ToHex1(_) => 2,
-        Inner::ToHex2(_, _) => 2,
-    }
-}
+// ---- numbers and marks
 
-// The digits of a number from a place on, and the byte that ends it.
-fn number(text: &[u8], at: usize, second: bool, end: u8, low: usize) -> Count
-    requires { (at ≤ length text.now) × (end ≡ cond second 125 44) }
+// The digits of a number from a place on, and the byte that ends it: the first number of a repeat, or the second, which is at least the first.
+fn number(text: &[u8], at: usize, second: bool, low: usize) -> Result<Read<usize>, Fault>
+    requires { at ≤ length text.now }
     ensures { ((d : ℕ) → d ≤ 16 → verdict (live d (num second low 3 0)) at (drop at text.now) ≡ counted text.now d second result) × Within at (length text.now) result }
 {
-    let mut next = at;
-    let mut r: usize = 3;
-    let mut v: usize = 0;
-    while next < text.len() {
+    let end = if second { b'}' } else { b',' };
+    let mut left: usize = 3;
+    let mut value: usize = 0;
+    // By index: the place is what is answered.
+    for next in at..text.len() {
         let c = text[next];
         if c == end {
-            if (r < 3) & (low <= v) {
-                return Count::Is(v, next + 1);
+            if left < 3 && low <= value {
+                return Ok(Read {
+                    value,
+                    next: next + 1,
+                });
             }
-            return Count::Not(next);
+            return Err(Fault::Bad(next));
         }
-        if r == 0 {
-            return Count::Not(next);
+        if left == 0 || !text::is_digit(c) {
+            return Err(Fault::Bad(next));
         }
-        if text::is_digit(c) {
-            let w = 10 * v + text::less(text::wide(c), 48);
-            if can_end(low, r - 1, w) {
-                r = r - 1;
-                v = w;
-                next = next + 1;
-            } else {
-                return Count::Not(next);
-            }
-        } else {
-            return Count::Not(next);
+        left -= 1;
+        value = 10 * value + usize::from(c - b'0');
+        if !can_end(low, left, value) {
+            return Err(Fault::Bad(next));
         }
     }
-    Count::Not(next)
+    Err(Fault::Bad(text.len()))
 }
 
 // The two numbers of a repeat, after its opening brace.
-fn repeat(text: &[u8], at: usize) -> Went
+fn repeat(text: &[u8], at: usize) -> Result<usize, Fault>
     requires { at ≤ length text.now }
     ensures { ((d : ℕ) → d ≤ 16 → verdict (live d (num false 0 3 0)) at (drop at text.now) ≡ went text.now d result) × Ahead at (length text.now) result }
 {
-    let least = number(text, at, false, b',', 0);
-    match least {
-        Count::Is(m, p) => {
-            let most = number(text, p, true, b'}', m);
-            match most {
-                Count::Is(_, q) => Went::On(q),
-                Count::Not(q) => Went::Bad(q),
-            }
-        }
-        Count::Not(p) => Went::Bad(p),
-    }
+    let least = number(text, at, false, 0)?;
+    let most = number(text, least.next, true, least.value)?;
+    Ok(most.next)
 }
 
 // The mark after an item, if there is one.
-fn mark(text: &[u8], at: usize) -> Went
+fn mark(text: &[u8], at: usize) -> Result<usize, Fault>
     requires { at ≤ length text.now }
     ensures { ((d : ℕ) → d ≤ 16 → verdict (live d after) at (drop at text.now) ≡ went text.now d result) × Ahead at (length text.now) result }
 {
-    if at < text.len() {
-        let c = text[at];
-        if c == b'{' {
-            return repeat(text, at + 1);
-        }
-        if (c == b'*') | (c == b'+') | (c == b'?') {
-            return Went::On(at + 1);
-        }
-        return Went::On(at);
+    if at == text.len() {
+        return Ok(at);
     }
-    Went::On(at)
+    match text[at] {
+        b'{' => repeat(text, at + 1),
+        b'*' | b'+' | b'?' => Ok(at + 1),
+        _ => Ok(at),
+    }
 }
 
 // The rest of an escape or a class, and the mark after it.
-fn inside(text: &[u8], at: usize, from: Inner) -> Went
-    requires { (at ≤ length text.now) × (kind_of from ≡ 2) }
+fn inside(text: &[u8], at: usize, from: Inner) -> Result<usize, Fault>
+    requires { at ≤ length text.now }
     ensures { ((d : ℕ) → d ≤ 16 → verdict (live d (mode_of from)) at (drop at text.now) ≡ went text.now d result) × Ahead at (length text.now) result }
 {
-    let mut next = at;
     let mut m = from;
-    while next < text.len() {
-        let n = inner_step(m, text[next]);
-        let k = kind(n);
-        if k == 0 {
-            return Went::Bad(next);
+    // By index: the place is what is answered.
+    for next in at..text.len() {
+        match inner_step(m, text[next]) {
+            None => return Err(Fault::Bad(next)),
+            Some(Step::Over) => return mark(text, next + 1),
+            Some(Step::On(n)) => m = n,
         }
-        if k == 1 {
-            return mark(text, next + 1);
-        }
-        m = n;
-        next = next + 1;
     }
-    Went::Bad(next)
+    Err(Fault::Bad(text.len()))
 }
 
 // ---- alternatives, sequences and items
 
 // Sequences with bars between them, up to a closing bracket or the end.
 #[cycle(alternatives_item_sequence)]
-fn alternatives(text: &[u8], at: usize, depth: usize) -> Went
+fn alternatives(text: &[u8], at: usize, depth: usize) -> Result<usize, Fault>
     requires { (at ≤ length text.now) × (depth ≤ 16) }
     ensures { (verdict (live depth fresh) at (drop at text.now) ≡ went text.now depth result) × Ahead at (length text.now) result × Halts text.now result }
 {
-    let mut next = at;
-    loop {
-        let part = sequence(text, next, depth);
-        match part {
-            Went::On(p) => {
-                if p < text.len() {
-                    if text[p] == b'|' {
-                        next = p + 1;
-                    } else {
-                        return Went::On(p);
-                    }
-                } else {
-                    return Went::On(p);
-                }
-            }
-            Went::Bad(p) => {
-                return Went::Bad(p);
-            }
-            Went::Deep => {
-                return Went::Deep;
-            }
-        }
+    let mut next = sequence(text, at, depth)?;
+    // A step is a whole sequence.
+    while next < text.len() && text[next] == b'|' {
+        next = sequence(text, next + 1, depth)?;
     }
+    Ok(next)
 }
 
 // Items one after the other, up to a bar, a closing bracket or the end.
 #[cycle(alternatives_item_sequence)]
-fn sequence(text: &[u8], at: usize, depth: usize) -> Went
+fn sequence(text: &[u8], at: usize, depth: usize) -> Result<usize, Fault>
     requires { (at ≤ length text.now) × (depth ≤ 16) }
     ensures { (verdict (live depth fresh) at (drop at text.now) ≡ went text.now depth result) × Ahead at (length text.now) result × Pauses text.now result }
 {
     let mut next = at;
-    while next < text.len() {
-        let c = text[next];
-        if c == b'|' {
-            return Went::On(next);
-        }
-        if c == b')' {
-            return Went::On(next);
-        }
-        let one = item(text, next, depth);
-        match one {
-            Went::On(p) => {
-                next = p;
-            }
-            Went::Bad(p) => {
-                return Went::Bad(p);
-            }
-            Went::Deep => {
-                return Went::Deep;
-            }
-        }
+    // A step is a whole item.
+    while next < text.len() && text[next] != b'|' && text[next] != b')' {
+        next = item(text, next, depth)?;
     }
-    Went::On(next)
+    Ok(next)
 }
 
 // One item with its mark; an opening bracket is one deeper.
 #[cycle(alternatives_item_sequence)]
-fn item(text: &[u8], at: usize, depth: usize) -> Went
+fn item(text: &[u8], at: usize, depth: usize) -> Result<usize, Fault>
     requires { (at < length text.now) × (depth ≤ 16) × (get_or text.now at 0 ≡ 124 → ⊥) × (get_or text.now at 0 ≡ 41 → ⊥) }
     ensures { (verdict (live depth fresh) at (drop at text.now) ≡ went text.now depth result) × Ahead (at + 1) (length text.now) result }
 {
-    let c = text[at];
-    if c == b'(' {
-        if depth == 16 {
-            return Went::Deep;
+    match text[at] {
+        b'(' => {
+            if depth == MOST_OPEN {
+                return Err(Fault::Deep);
+            }
+            let end = alternatives(text, at + 1, depth + 1)?;
+            if end == text.len() {
+                return Err(Fault::Bad(end));
+            }
+            mark(text, end + 1)
         }
-        let inner = alternatives(text, at + 1, depth + 1);
-        match inner {
-            Went::On(p) => {
-                if p < text.len() {
-                    return mark(text, p + 1);
-                }
-                return Went::Bad(p);
-            }
-            Went::Bad(p) => {
-                return Went::Bad(p);
-            }
-            Went::Deep => {
-                return Went::Deep;
-            }
-        }
+        b'[' => inside(text, at + 1, Inner::Opened),
+        b'\\' => inside(text, at + 1, Inner::Esc),
+        b'.' => mark(text, at + 1),
+        c if is_special(c) => Err(Fault::Bad(at)),
+        _ => mark(text, at + 1),
     }
-    if c == b'[' {
-        return inside(text, at + 1, Inner::Opened);
-    }
-    if c == b'\\' {
-        return inside(text, at + 1, Inner::Esc);
-    }
-    if c == b'.' {
-        return mark(text, at + 1);
-    }
-    if is_special(c) {
-        return Went::Bad(at);
-    }
-    mark(text, at + 1)
 }
 
-// Where the text begins that one `^` may bind to the front.
-fn front(text: &[u8]) -> usize
-    ensures { (verdict (live 0 begin) 0 text.now ≡ verdict (live 0 fresh) result (drop result text.now)) × (result ≤ length text.now) }
-{
-    if 0 < text.len() {
-        if text[0] == b'^' {
-            return 1;
-        }
-        return 0;
-    }
-    0
-}
-
-// The whole text: 0, 19 with the place, or 20.
-pub fn check_text(text: &[u8]) -> Parsed
+// The whole text: whether it fits, or why not.
+pub fn check_text(text: &[u8]) -> Result<(), Fault>
     ensures { answer result ≡ verdict (live 0 begin) 0 text.now }
 {
-    let all = alternatives(text, front(text), 0);
-    match all {
-        Went::On(p) => {
-            if p < text.len() {
-                return Parsed::Bad(p);
-            }
-            Parsed::Good
-        }
-        Went::Bad(p) => Parsed::Bad(p),
-        Went::Deep => Parsed::Deep,
+    let start = usize::from(text::is_bound(text));
+    let end = alternatives(text, start, 0)?;
+    if end < text.len() {
+        return Err(Fault::Bad(end));
     }
+    Ok(())
 }

@@ -1,25 +1,26 @@
 -- Sequences and alternatives of a good text, from a place on.
-use Prim.Native.Nat.{ℕ, suc, ◌+◌, ◌*◌, ◌≤◌, ◌<◌}
+use Prim.Native.Nat.{ℕ, ◌+◌, ◌*◌, ◌≤◌, ◌<◌}
 use mathlib.Core.Path.{◌≡◌, refl, sym, ap, subst, ◌∙◌}
-use mathlib.Core.Bool.{Bool, true, false, ◌&&◌, ◌||◌, cond}
+use mathlib.Core.Bool.{Bool, true, false, ◌&&◌, ◌||◌}
 use mathlib.Core.List.{List, [], ◌∷◌, ◌++◌}
 use mathlib.Core.Logic.{◌⊎◌, inl, inr}
 use native.Mathlib.Omega.{arith}
 use lib.ListN.{length, drop, get_or}
 use lib.Seq.{drop-cons}
-use lib.Dec.{eqb, leb}
-use borrow.Author.Tests.{eqb-false, leb-true}
+use lib.Dec.{leb}
+use borrow.Author.Tests.{leb-true}
 use Rattle.text.specs.Exp.{Exp, one, eps, cat, alt, plus, opt, times, size, null}
-use Rattle.text.specs.Grammar.{Text, text_reads, Leaf, Mark, bare, star, more, maybe, rep, Body, end, bar, leaf, group, amid, ok_leaf, ok_mark, ok_body, spell_leaf, spell_mark, reads, leaf_has, marked, number, ok_number, exp}
+use Rattle.text.specs.Grammar.{Leaf, Mark, bare, star, more, maybe, rep, Body, end, bar, leaf, group, amid, ok_leaf, ok_mark, ok_body, spell_leaf, spell_mark, reads, leaf_has, marked, number, ok_number, exp}
 use Rattle.text.proofs.Places.{both}
-use Rattle.text.specs.inner.Heads.{Calm, Stop, head_of}
-use Rattle.text.proofs.Reading.{assoc, body-calm, body-caret}
+use Rattle.text.specs.inner.Heads.{Calm, Stop}
+use Rattle.text.proofs.Reading.{assoc, body-calm}
 use Rattle.sets.specs.Set.{states, set_of}
 use Rattle.text_walk.specs.declared.Shape.{Shape}
 use Rattle.text_walk.specs.inner.Rows.{first_at, last_at, follows_at, letter_at, cap, Keeps, Seamed, Sums, Nothing, Both, Either}
-use Rattle.text_marks.specs.inner.Marks.{Atom, byte, brackets, ok_atom, atom_then, mark_kind, least_of, most_of, Marks}
+use Rattle.text_marks.specs.inner.Marks.{Atom, byte, brackets, ok_atom, atom_then, times_of, Never}
 use Rattle.text_walk.specs.inner.Trees.{exp_atom, seq, rest}
 use Rattle.text_marks.specs.declared.Times.{Times}
+use Rattle.text_marks.specs.declared.Times.TheVariants.{Once, Star, Plus, Maybe, Between}
 use Rattle.text.proofs.Copies.{size-times}
 use Rattle.text_walk.proofs.Sum.{cap-small, sum-cat, sum-alt}
 use Rattle.text_walk.proofs.Copying.{sum-void}
@@ -213,96 +214,92 @@ module _ (T : List ℕ) (k : ℕ) (b : Body) (x : List ℕ) (stop : Stop x) wher
 
 -- ---- marks
 
-mark_kind-bare : (m : Mark) (e : Exp) → mark_kind m ≡ 0 → marked m e ≡ e
+marked-once : (m : Mark) (e : Exp) → times_of m ≡ Once → marked m e ≡ e
 unfolding marked
-mark_kind-bare bare e h = refl
-mark_kind-bare star e h = absurd (omega arith)
-mark_kind-bare more e h = absurd (omega arith)
-mark_kind-bare maybe e h = absurd (omega arith)
-mark_kind-bare (rep a b) e h = absurd (omega arith)
+marked-once bare e h = refl
+marked-once star e h = cc
+marked-once more e h = cc
+marked-once maybe e h = cc
+marked-once (rep a b) e h = cc
 
-mark_kind-star : (m : Mark) (e : Exp) → mark_kind m ≡ 1 → marked m e ≡ opt (plus e)
+marked-star : (m : Mark) (e : Exp) → times_of m ≡ Star → marked m e ≡ opt (plus e)
 unfolding marked
-mark_kind-star bare e h = absurd (omega arith)
-mark_kind-star star e h = refl
-mark_kind-star more e h = absurd (omega arith)
-mark_kind-star maybe e h = absurd (omega arith)
-mark_kind-star (rep a b) e h = absurd (omega arith)
+marked-star bare e h = cc
+marked-star star e h = refl
+marked-star more e h = cc
+marked-star maybe e h = cc
+marked-star (rep a b) e h = cc
 
-mark_kind-more : (m : Mark) (e : Exp) → mark_kind m ≡ 2 → marked m e ≡ plus e
+marked-plus : (m : Mark) (e : Exp) → times_of m ≡ Plus → marked m e ≡ plus e
 unfolding marked
-mark_kind-more bare e h = absurd (omega arith)
-mark_kind-more star e h = absurd (omega arith)
-mark_kind-more more e h = refl
-mark_kind-more maybe e h = absurd (omega arith)
-mark_kind-more (rep a b) e h = absurd (omega arith)
+marked-plus bare e h = cc
+marked-plus star e h = cc
+marked-plus more e h = refl
+marked-plus maybe e h = cc
+marked-plus (rep a b) e h = cc
 
-mark_kind-maybe : (m : Mark) (e : Exp) → mark_kind m ≡ 3 → marked m e ≡ opt e
+marked-maybe : (m : Mark) (e : Exp) → times_of m ≡ Maybe → marked m e ≡ opt e
 unfolding marked
-mark_kind-maybe bare e h = absurd (omega arith)
-mark_kind-maybe star e h = absurd (omega arith)
-mark_kind-maybe more e h = absurd (omega arith)
-mark_kind-maybe maybe e h = refl
-mark_kind-maybe (rep a b) e h = absurd (omega arith)
+marked-maybe bare e h = cc
+marked-maybe star e h = cc
+marked-maybe more e h = cc
+marked-maybe maybe e h = refl
+marked-maybe (rep a b) e h = cc
 
-mark_kind-rep : (m : Mark) (e : Exp) → ok_mark m ≡ true → (mark_kind m ≡ 0 → ⊥) → (mark_kind m ≡ 1 → ⊥) → (mark_kind m ≡ 2 → ⊥) → (mark_kind m ≡ 3 → ⊥)
-    → (marked m e ≡ times e (least_of m) (most_of m)) × (least_of m ≤ most_of m)
+marked-between : (m : Mark) (e : Exp) (u v : ℕ) → ok_mark m ≡ true → times_of m ≡ Between u v → (marked m e ≡ times e u v) × (u ≤ v)
 unfolding marked ok_mark
-mark_kind-rep bare e ok a b c d = absurd (a refl)
-mark_kind-rep star e ok a b c d = absurd (b refl)
-mark_kind-rep more e ok a b c d = absurd (c refl)
-mark_kind-rep maybe e ok a b c d = absurd (d refl)
-mark_kind-rep (rep u v) e ok a b c d = (refl, leb-true (number u) (number v) (both (ok_number u && ok_number v) (leb (number u) (number v)) ok).1)
+marked-between bare e u v ok h = absurd (cc)
+marked-between star e u v ok h = absurd (cc)
+marked-between more e u v ok h = absurd (cc)
+marked-between maybe e u v ok h = absurd (cc)
+marked-between (rep a b) e u v ok h =
+    let p : number a ≡ u = cc in
+    let q : number b ≡ v = cc in
+    let l : number a ≤ number b = leb-true (number a) (number b) (both (ok_number a && ok_number b) (leb (number a) (number b)) ok).1 in
+    (rw (p, q), omega arith)
+
+-- how a part's shape goes with its mark: B are the rows when that is done
+module _ (R B : List ℕ) (k : ℕ) (s r : Shape) (e : Exp) (m : Mark) (u : Sums R k e s) where
+  pub often-once : times_of m ≡ Once → Sums R k (marked m e) s
+  often-once h = subst (λ z. Sums R k z s) (sym (marked-once m e h)) u
+
+  pub often-star : times_of m ≡ Star → (Sums R k e s → Sums B k (opt (plus e)) r) → Sums B k (marked m e) r
+  often-star h f = subst (λ z. Sums B k z r) (sym (marked-star m e h)) (f u)
+
+  pub often-plus : times_of m ≡ Plus → (Sums R k e s → Sums B k (plus e) r) → Sums B k (marked m e) r
+  often-plus h f = subst (λ z. Sums B k z r) (sym (marked-plus m e h)) (f u)
+
+  pub often-maybe : times_of m ≡ Maybe → (Sums R k e s → Sums B k (opt e) r) → Sums B k (marked m e) r
+  often-maybe h f = subst (λ z. Sums B k z r) (sym (marked-maybe m e h)) (f u)
+
+  pub often-between : (i j : ℕ) → ok_mark m ≡ true → times_of m ≡ Between i j → (Sums R k e s → i ≤ j → Sums B k (times e i j) r) → Sums B k (marked m e) r
+  often-between i j ok h f = let (q, l) = marked-between m e i j ok h in subst (λ z. Sums B k z r) (sym q) (f u l)
 
 abbrev pub AtomFacts : List ℕ → List ℕ → ℕ → ℕ → ℕ → Shape → Type 0
 AtomFacts T R k n j r = (a : Atom) (y : List ℕ) → ok_atom a ≡ true → drop n T ≡ atom_then a y → Sums R k (exp_atom a) r × (drop j T ≡ y)
 
-abbrev pub MarkFacts : List ℕ → ℕ → Times → Type 0
-MarkFacts T n r = (m : Mark) (y : List ℕ) → ok_mark m ≡ true → Calm y → drop n T ≡ spell_mark m ++ y → Marks m r × (drop r.next T ≡ y)
+abbrev pub MarkFacts : List ℕ → ℕ → Times → ℕ → Type 0
+MarkFacts T n t p = (m : Mark) (y : List ℕ) → ok_mark m ≡ true → Calm y → drop n T ≡ spell_mark m ++ y → (times_of m ≡ t) × (drop p T ≡ y)
 
-module _ (T R : List ℕ) (k n j : ℕ) (s : Shape) (w : Times) (fa : AtomFacts T R k n j s) (fm : MarkFacts T j w) where
-  pub item-bare : w.kind ≡ 0 → ItemFacts T R k n w.next s
-  item-bare h a m y oka okm calm e =
-      let (u, v) = fa a (spell_mark m ++ y) oka e in let (f, g) = fm m y okm calm v in
-      (subst (λ z. Sums R k z s) (sym (mark_kind-bare m (exp_atom a) (sym f.kinds ∙ h))) u, g)
-
-  pub item-star : (B : List ℕ) (r t : Shape) → w.kind ≡ 1 → ((e : Exp) → Sums R k e s → Sums B k (plus e) r) → ((e : Exp) → Sums B k e r → Sums B k (opt e) t) → ItemFacts T B k n w.next t
-  item-star B r t h x x2 a m y oka okm calm e =
-      let (u, v) = fa a (spell_mark m ++ y) oka e in let (f, g) = fm m y okm calm v in
-      (subst (λ z. Sums B k z t) (sym (mark_kind-star m (exp_atom a) (sym f.kinds ∙ h))) (x2 (plus (exp_atom a)) (x (exp_atom a) u)), g)
-
-  pub item-plus : (B : List ℕ) (r : Shape) → w.kind ≡ 2 → ((e : Exp) → Sums R k e s → Sums B k (plus e) r) → ItemFacts T B k n w.next r
-  item-plus B r h x a m y oka okm calm e =
-      let (u, v) = fa a (spell_mark m ++ y) oka e in let (f, g) = fm m y okm calm v in
-      (subst (λ z. Sums B k z r) (sym (mark_kind-more m (exp_atom a) (sym f.kinds ∙ h))) (x (exp_atom a) u), g)
-
-  pub item-maybe : (B : List ℕ) (r : Shape) → w.kind ≡ 3 → ((e : Exp) → Sums R k e s → Sums B k (opt e) r) → ItemFacts T B k n w.next r
-  item-maybe B r h x a m y oka okm calm e =
-      let (u, v) = fa a (spell_mark m ++ y) oka e in let (f, g) = fm m y okm calm v in
-      (subst (λ z. Sums B k z r) (sym (mark_kind-maybe m (exp_atom a) (sym f.kinds ∙ h))) (x (exp_atom a) u), g)
-
-  pub item-rep : (B : List ℕ) (r : Shape) → (w.kind ≡ 0 → ⊥) → (w.kind ≡ 1 → ⊥) → (w.kind ≡ 2 → ⊥) → (w.kind ≡ 3 → ⊥)
-      → ((e : Exp) → Sums R k e s → w.least ≤ w.most → Sums B k (times e w.least w.most) r)
-      → ItemFacts T B k n w.next r
-  item-rep B r h0 h1 h2 h3 x a m y oka okm calm e =
-      let (u, v) = fa a (spell_mark m ++ y) oka e in let (f, g) = fm m y okm calm v in
-      let (q, l) = mark_kind-rep m (exp_atom a) okm (λ z. h0 (f.kinds ∙ z)) (λ z. h1 (f.kinds ∙ z)) (λ z. h2 (f.kinds ∙ z)) (λ z. h3 (f.kinds ∙ z)) in
-      let c : w.least ≤ w.most = rw (f.leasts, f.mosts) l in
-      (subst (λ z. Sums B k z r) (sym (q ∙ rw (← f.leasts, ← f.mosts))) (x (exp_atom a) u c), g)
+pub item-marked : (T R B : List ℕ) (k n j p : ℕ) (s r : Shape) (t : Times) → AtomFacts T R k n j s → MarkFacts T j t p
+    → ((e : Exp) (m : Mark) → Sums R k e s → ok_mark m ≡ true → times_of m ≡ t → Sums B k (marked m e) r) → ItemFacts T B k n p r
+item-marked T R B k n j p s r t fa fm f a m y oka okm calm e =
+    let (u, v) = fa a (spell_mark m ++ y) oka e in let (h, g) = fm m y okm calm v in
+    (f (exp_atom a) m u okm h, g)
 
 -- ---- an item without its mark
 
 -- a group that is repeated no times
-never-size : (a : Atom) (m : Mark) → mark_kind m ≡ 4 → most_of m ≡ 0 → size (marked m (exp_atom a)) ≡ 0
+never-size : (a : Atom) (m : Mark) → Never (times_of m) → size (marked m (exp_atom a)) ≡ 0
 unfolding marked
-never-size a bare h g = absurd (omega arith)
-never-size a star h g = absurd (omega arith)
-never-size a more h g = absurd (omega arith)
-never-size a maybe h g = absurd (omega arith)
-never-size a (rep p q) h g = size-times (exp_atom a) (number p) (number q) ∙ ap (λ z. z * size (exp_atom a)) g ∙ omega arith
+never-size a bare h = absurd h
+never-size a star h = absurd h
+never-size a more h = absurd h
+never-size a maybe h = absurd h
+never-size a (rep p q) h = size-times (exp_atom a) (number p) (number q) ∙ ap (λ z. z * size (exp_atom a)) h ∙ omega arith
 
-pub item-never : (R : List ℕ) (k : ℕ) (a : Atom) (m : Mark) (r : Shape) → mark_kind m ≡ 4 → most_of m ≡ 0 → Nothing r → Sums R k (marked m (exp_atom a)) r
-item-never R k a m r h g w = sum-void R k (marked m (exp_atom a)) r (never-size a m h g) w
+pub item-never : (R : List ℕ) (k : ℕ) (a : Atom) (m : Mark) (r : Shape) → Never (times_of m) → Nothing r → Sums R k (marked m (exp_atom a)) r
+item-never R k a m r h w = sum-void R k (marked m (exp_atom a)) r (never-size a m h) w
 
 pub atom-group : (T R : List ℕ) (k n j q : ℕ) (s : Shape) → n < length T → get_or T n 0 ≡ 40
     → ((b : Body) (x : List ℕ) → ok_body b ≡ true → Stop x → drop (n + 1) T ≡ reads b ++ x → Sums R k (exp eps b) s × (drop j T ≡ x)) → (j < length T → q ≡ j + 1) → AtomFacts T R k n q s
@@ -318,25 +315,6 @@ atom-leaf T R k n j s h f g (byte a) y ok e = (g a y ok e, f a y ok e)
 atom-leaf T R k n j s h f g (brackets b) y ok e = absurd (h (peel-at T n 40 (reads b ++ (41 ∷ y)) e))
 
 -- ---- the whole text
-
-pub front-bound : (t : Text) (T : List ℕ) → ok_body t.body ≡ true → text_reads t ≡ T → 0 < length T → get_or T 0 0 ≡ 94 → drop 1 T ≡ reads t.body
-front-bound t T ok e l h = go t.bound e
-  where
-    go : (b : Bool) → cond b (94 ∷ reads t.body) (reads t.body) ≡ T → drop 1 T ≡ reads t.body
-    go true q = ap (drop 1) (sym q)
-    go false q = absurd (begins (reads t.body) (body-caret t.body ok) q)
-      where
-        begins : (w : List ℕ) → eqb (head_of 0 w) 94 ≡ false → w ≡ T → ⊥
-        begins [] k q = let z : length T ≡ 0 = ap length (sym q) in omega arith
-        begins (c ∷ w) k q = eqb-false c 94 k (ap (λ z. get_or z 0 0) q ∙ h)
-
-pub front-free : (t : Text) (T : List ℕ) → text_reads t ≡ T → ((0 < length T) × (get_or T 0 0 ≡ 94 → ⊥)) ⊎ (length T ≤ 0) → drop 0 T ≡ reads t.body
-front-free t T e h = go t.bound e h
-  where
-    go : (b : Bool) → cond b (94 ∷ reads t.body) (reads t.body) ≡ T → ((0 < length T) × (get_or T 0 0 ≡ 94 → ⊥)) ⊎ (length T ≤ 0) → drop 0 T ≡ reads t.body
-    go false q h = sym q
-    go true q (inl h) = absurd (h.1 (ap (λ z. get_or z 0 0) (sym q)))
-    go true q (inr h) = let z : length T ≡ suc (length (reads t.body)) = ap length (sym q) in absurd (omega arith)
 
 pub unit : (w : List ℕ) → w ++ [] ≡ w
 unit [] = refl

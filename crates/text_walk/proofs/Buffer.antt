@@ -9,7 +9,7 @@ use native.Mathlib.Nat.{lt_of_not-le}
 use lib.ListN.{length, take, drop, length-append}
 use lib.Seq.{take_at, drop_at, take-take, drop-drop, length-take-le}
 use Rattle.numbers.specs.Number.{num, placed}
-use Rattle.sets.specs.Set.{states, byte_count, set_size, byte_set_size, set_bytes, byte_set_bytes, set_at, byte_set_at}
+use Rattle.sets.specs.Set.{states, byte_count, set_size, byte_set_size, set_bytes, byte_set_bytes, byte_set_at, read_at}
 use Rattle.numbers.proofs.Laws.{Small, small-drop, num-take-lt, drop-take, length_digits, num-digits}
 use Rattle.numbers.proofs.Placing.{placed-fits, length-placed}
 use Rattle.text_walk.specs.inner.Rows.{row_size, rows_size, prior_at, bytes_of}
@@ -60,13 +60,13 @@ module _ (A : List ℕ) (t : ℕ) (h : t < states) (l : length A ≡ rows_size) 
   set-fits = omega (arith, set_long)
 
   pub prior-there : S < 2 ^ states → prior_at (placed A (row_size * t) (set_bytes S)) t ≡ S
-  unfolding set_at
+  unfolding read_at
   prior-there s =
       ap (λ (n : ℕ). num 8 (take n (drop (row_size * t) (placed A (row_size * t) (set_bytes S))))) (sym set_long)
       ∙ ap (num 8) (placed-there A (row_size * t) (set_bytes S) set-fits) ∙ num-digits 8 set_size S s
 
   pub prior-other : (u : ℕ) → (u ≡ t → ⊥) → prior_at (placed A (row_size * t) (set_bytes S)) u ≡ prior_at A u
-  unfolding set_at
+  unfolding read_at
   prior-other u n = go (below-above u t n)
     where
       go : (u < t) ⊎ (t < u) → num 8 (take set_size (drop (row_size * u) (placed A (row_size * t) (set_bytes S)))) ≡ num 8 (take set_size (drop (row_size * u) A))
@@ -74,7 +74,7 @@ module _ (A : List ℕ) (t : ℕ) (h : t < states) (l : length A ≡ rows_size) 
       go (inr k) = ap (λ (z : List ℕ). num 8 (take set_size z)) (placed-behind A (row_size * t) (set_bytes S) set-fits (row_size * u) (omega (arith, set_long)))
 
   pub prior-bytes : (u : ℕ) → bytes_of (placed A (row_size * t) (set_bytes S)) u ≡ bytes_of A u
-  unfolding byte_set_at
+  unfolding read_at
   prior-bytes u = elim (dec_lt u t) [ yes k ↦ early k | no g ↦ late (lt_of_not-le (λ (l : suc u ≤ t). g l)) ]
     where
       early : u < t → num 8 (take byte_set_size (drop (row_size * u + set_size) (placed A (row_size * t) (set_bytes S)))) ≡ num 8 (take byte_set_size (drop (row_size * u + set_size) A))
@@ -96,13 +96,13 @@ module _ (A : List ℕ) (t : ℕ) (h : t < states) (l : length A ≡ rows_size) 
   byte-set-fits = omega (arith, byte-set-long)
 
   pub bytes-there : S < 2 ^ byte_count → bytes_of (placed A (row_size * t + set_size) (byte_set_bytes S)) t ≡ S
-  unfolding byte_set_at
+  unfolding read_at
   bytes-there s =
       ap (λ (n : ℕ). num 8 (take n (drop (row_size * t + set_size) (placed A (row_size * t + set_size) (byte_set_bytes S))))) (sym byte-set-long)
       ∙ ap (num 8) (placed-there A (row_size * t + set_size) (byte_set_bytes S) byte-set-fits) ∙ num-digits 8 byte_set_size S s
 
   pub bytes-other : (u : ℕ) → (u ≡ t → ⊥) → bytes_of (placed A (row_size * t + set_size) (byte_set_bytes S)) u ≡ bytes_of A u
-  unfolding byte_set_at
+  unfolding read_at
   bytes-other u n = go (below-above u t n)
     where
       go : (u < t) ⊎ (t < u) → num 8 (take byte_set_size (drop (row_size * u + set_size) (placed A (row_size * t + set_size) (byte_set_bytes S)))) ≡ num 8 (take byte_set_size (drop (row_size * u + set_size) A))
@@ -110,7 +110,7 @@ module _ (A : List ℕ) (t : ℕ) (h : t < states) (l : length A ≡ rows_size) 
       go (inr k) = ap (λ (z : List ℕ). num 8 (take byte_set_size z)) (placed-behind A (row_size * t + set_size) (byte_set_bytes S) byte-set-fits (row_size * u + set_size) (omega (arith, byte-set-long)))
 
   pub bytes-prior : (u : ℕ) → prior_at (placed A (row_size * t + set_size) (byte_set_bytes S)) u ≡ prior_at A u
-  unfolding set_at
+  unfolding read_at
   bytes-prior u = elim (dec_lt t u) [ yes k ↦ late k | no g ↦ early (lt_of_not-le (λ (l : suc t ≤ u). g l)) ]
     where
       early : u < suc t → num 8 (take set_size (drop (row_size * u) (placed A (row_size * t + set_size) (byte_set_bytes S)))) ≡ num 8 (take set_size (drop (row_size * u) A))
@@ -123,5 +123,5 @@ module _ (A : List ℕ) (t : ℕ) (h : t < states) (l : length A ≡ rows_size) 
   bytes-long = length-placed A (row_size * t + set_size) (byte_set_bytes S)
 
 pub byte-set-at-lt : (b : List ℕ) (at : ℕ) → Small 8 b → byte_set_at b at < 2 ^ byte_count
-unfolding byte_set_at
+unfolding read_at
 byte-set-at-lt b at h = num-take-lt 8 (drop at b) (small-drop 8 at b h) byte_set_size

@@ -29,6 +29,13 @@ cap-over n h = go (ltb states n) refl
     go true e = unfold cap in rw e
     go false e = let k : n ≤ states = ltb-false states n e in cap-small n k ∙ omega arith
 
+pub cap-least-of : (n r : ℕ) → (n ≤ states → r ≡ n) → (states ≤ n → r ≡ states) → r ≡ cap n
+cap-least-of n r f g = go (ltb states n) refl
+  where
+    go : (b : Bool) → ltb states n ≡ b → r ≡ cap n
+    go true e = let l : states ≤ n = omega (arith, ltb-true states n e) in g l ∙ sym (cap-over n l)
+    go false e = let l : n ≤ states = ltb-false states n e in f l ∙ sym (cap-small n l)
+
 pub cap-most : (n : ℕ) → cap n ≤ states
 cap-most n = go (ltb states n) refl
   where

@@ -9,20 +9,24 @@ ghost use Rattle.text.specs.Exp.{Exp, eps, cat, opt, times, size};
 ghost use Rattle.text.specs.Grammar.{Text, text_reads, Mark, Body, ok_mark, ok_body, spell_mark, reads, marked, exp};
 ghost use Rattle.text.specs.inner.Heads.{Calm, Stop};
 ghost use Rattle.text_walk.specs.inner.Rows.{cap, rows_size, Keeps, Leafed, Entered, Seamed, Copied, Sums, Nothing, Single, Both, Either, Alike, Further};
-ghost use Rattle.text_marks.specs.inner.Marks.{Atom, ok_atom, atom_then};
+ghost use Rattle.text_marks.specs.inner.Marks.{Atom, ok_atom, atom_then, times_of, UpTo};
 ghost use Rattle.text_walk.specs.inner.Trees.{exp_atom, seq, rest};
 
 use sets::{ByteSet, StateSet};
 use sets_words::{next_state, shifted};
+use text::Read;
 use text_bytes::leaf_set;
-use text_marks::{leaf_end, mark_of, none_end, past};
+use text_marks::{Times, leaf_end, mark_of, none_end, past};
 
 // Bytes of a state's row: the set of the states that it may come after, and its byte set.
 pub const ROW: usize = sets::BYTES + sets::BYTE_SET_BYTES;
 
-// Bytes of the work place.
+// Bytes of the work place. It is lent as a slice: a lent array, too, would have its length said in each clause, since it may be lost at a call that
+// writes it.
 pub const ROWS: usize = ROW * sets::STATES;
 
+// What a part of the text is to what stands beside it: how many positions it has, whether it can be empty, and which states may begin and end it.
+// No other field hangs on the flag.
 #[derive(Clone, Copy)]
 pub struct Shape {
     pub size: usize,
@@ -31,28 +35,18 @@ pub struct Shape {
     pub last: StateSet,
 }
 
-// A part of the text: where it ends, and its shape.
-#[derive(Clone, Copy)]
-pub struct Part {
-    pub next: usize,
-    pub shape: Shape,
-}
-
 // A size that stops at the number of states.
 fn capped(n: usize) -> usize
     ensures { result ≡ cap n }
 {
-    if sets::STATES < n { sets::STATES } else { n }
+    n.min(sets::STATES)
 }
 
 // The set, or none.
 fn only(c: bool, s: StateSet) -> StateSet
     ensures { set_of result ≡ cond c (set_of s) 0 }
 {
-    if c {
-        return s;
-    }
-    StateSet::EMPTY
+    if c { s } else { StateSet::EMPTY }
 }
 
 // ---- rows
@@ -85,6 +79,7 @@ fn seam(rows: &mut [u8], from: StateSet, to: StateSet, low: usize, high: usize)
     ensures { Seamed (set_of from) (set_of to) low high rows.old rows.new }
 {
     let mut t = next_state(to, low, high);
+    // A step is to the next state of the set.
     while t < high {
         enter(rows, t, from);
         t = next_state(to, t + 1, high);
@@ -108,10 +103,8 @@ fn copy_rows(rows: &mut [u8], base: usize, n: usize, d: usize)
     requires { (n ≤ d) × (base + d + n ≤ states) × (length rows.old ≡ rows_size) }
     ensures { Copied base n d rows.old rows.new }
 {
-    let mut i: usize = 0;
-    while i < n {
+    for i in 0..n {
         copy_row(rows, base + i, d);
-        i = i + 1;
     }
 }
 
@@ -149,19 +142,14 @@ fn then(rows: &mut [u8], x: Shape, y: Shape, low: usize) -> Shape
     requires { (x.size ≤ states) × (y.size ≤ states) × (low ≤ states) × (length rows.old ≡ rows_size) }
     ensures { Both x y result × Seamed (set_of x.last) (set_of y.first) low (cap (low + y.size)) rows.old rows.new }
 {
-    let f = x.last;
-    let g = y.first;
-    let u = x.first;
-    let v = y.last;
-    seam(rows, f, g, low, capped(low + y.size));
-    let first = u.union(only(x.null, g));
-    let kept = only(y.null, f);
-    let last = kept.union(v);
+    seam(rows, x.last, y.first, low, capped(low + y.size));
+    let first = x.first.union(only(x.null, y.first));
+    let kept = only(y.null, x.last);
     Shape {
         size: capped(x.size + y.size),
-        null: x.null & y.null,
-        first: first,
-        last: last,
+        null: x.null && y.null,
+        first,
+        last: kept.union(y.last),
     }
 }
 
@@ -170,17 +158,11 @@ fn or(x: Shape, y: Shape) -> Shape
     requires { (x.size ≤ states) × (y.size ≤ states) }
     ensures { Either x y result }
 {
-    let f = x.last;
-    let g = y.last;
-    let u = x.first;
-    let v = y.first;
-    let first = u.union(v);
-    let last = f.union(g);
     Shape {
         size: capped(x.size + y.size),
-        null: x.null | y.null,
-        first: first,
-        last: last,
+        null: x.null || y.null,
+        first: x.first.union(y.first),
+        last: x.last.union(y.last),
     }
 }
 
@@ -189,38 +171,24 @@ fn again(rows: &mut [u8], x: Shape, base: usize)
     requires { (x.size ≤ states) × (base ≤ states) × (length rows.old ≡ rows_size) }
     ensures { Seamed (set_of x.last) (set_of x.first) base (cap (base + x.size)) rows.old rows.new }
 {
-    let f = x.last;
-    let g = x.first;
-    seam(rows, f, g, base, capped(base + x.size));
+    seam(rows, x.last, x.first, base, capped(base + x.size));
 }
 
 // The same, or nothing.
 fn maybe(x: Shape) -> Shape
     ensures { Alike true x result }
 {
-    let f = x.last;
-    let u = x.first;
-    Shape {
-        size: x.size,
-        null: true,
-        first: u,
-        last: f,
-    }
+    Shape { null: true, ..x }
 }
 
 // The same, d further on.
 fn moved(x: Shape, d: usize) -> Shape
     ensures { Further d x result }
 {
-    let f = x.last;
-    let u = x.first;
-    let first = shifted(u, d);
-    let last = shifted(f, d);
     Shape {
-        size: x.size,
-        null: x.null,
-        first: first,
-        last: last,
+        first: shifted(x.first, d),
+        last: shifted(x.last, d),
+        ..x
     }
 }
 
@@ -232,10 +200,7 @@ fn before(rows: &mut [u8], one: Shape, other: Shape, must: bool, low: usize) -> 
     ensures { (result.size ≤ states) × Keeps low rows.old rows.new × ((k : ℕ) (e t : Exp) → Sums rows.old k e one → Sums rows.old low t other → (k + size e ≤ states → low ≡ k + size e) → Sums rows.new k (cond must (cat e t) (opt (cat e t))) result) }
 {
     let both = then(rows, one, other, low);
-    if must {
-        return both;
-    }
-    maybe(both)
+    if must { both } else { maybe(both) }
 }
 
 // What passes the limits: only its size and whether it can be empty count.
@@ -245,7 +210,7 @@ fn lost(all: usize, null: bool) -> Shape
     let none = StateSet::EMPTY;
     Shape {
         size: capped(all),
-        null: null,
+        null,
         first: none,
         last: none,
     }
@@ -265,9 +230,7 @@ fn copies(rows: &mut [u8], base: usize, inner: Shape, least: usize, most: usize)
         return lost(all, (least == 0) | inner.null);
     }
     let mut other = nothing();
-    let mut i = most;
-    while 1 < i {
-        i = i - 1;
+    for i in (1..most).rev() {
         let d = i * size;
         copy_rows(rows, base, size, d);
         let one = moved(inner, d);
@@ -276,149 +239,102 @@ fn copies(rows: &mut [u8], base: usize, inner: Shape, least: usize, most: usize)
     before(rows, inner, other, 0 < least, base + size)
 }
 
+// A part that stands from a state on, as often as its mark says.
+fn repeated(rows: &mut [u8], base: usize, x: Shape, times: Times) -> Shape
+    requires { (1 ≤ base) × (base ≤ states) × (x.size ≤ states) × UpTo 4000 times × (length rows.old ≡ rows_size) }
+    ensures { (result.size ≤ states) × Keeps base rows.old rows.new × ((e : Exp) (m : Mark) → Sums rows.old base e x → ok_mark m ≡ true → times_of m ≡ times → Sums rows.new base (marked m e) result) }
+{
+    match times {
+        Times::Once => x,
+        Times::Star => {
+            again(rows, x, base);
+            maybe(x)
+        }
+        Times::Plus => {
+            again(rows, x, base);
+            x
+        }
+        Times::Maybe => maybe(x),
+        Times::Between(least, most) => copies(rows, base, x, least, most),
+    }
+}
+
 // ---- alternatives, sequences, items
 
 // The shape of alternatives at a place, with positions from base on; their rows; and the place after them.
 #[cycle(alternatives_atom_item_sequence)]
-fn alternatives(text: &[u8], at: usize, base: usize, rows: &mut [u8]) -> Part
+fn alternatives(text: &[u8], at: usize, base: usize, rows: &mut [u8]) -> Read<Shape>
     requires { (at ≤ length text.now) × (1 ≤ base) × (base ≤ states) × (length rows.old ≡ rows_size) }
-    ensures { (at ≤ result.next) × (result.next ≤ length text.now) × (result.shape.size ≤ states) × Keeps base rows.old rows.new × ((b : Body) (x : List ℕ) → ok_body b ≡ true → Stop x → drop at text.now ≡ reads b ++ x → Sums rows.new base (exp eps b) result.shape × (drop result.next text.now ≡ x)) }
+    ensures { (at ≤ result.next) × (result.next ≤ length text.now) × (result.value.size ≤ states) × Keeps base rows.old rows.new × ((b : Body) (x : List ℕ) → ok_body b ≡ true → Stop x → drop at text.now ≡ reads b ++ x → Sums rows.new base (exp eps b) result.value × (drop result.next text.now ≡ x)) }
 {
     let first = sequence(text, at, base, rows);
     let mut next = first.next;
-    let mut shape = first.shape;
-    while next < text.len() {
-        if text[next] == b'|' {
-            let more = sequence(text, next + 1, capped(base + shape.size), rows);
-            let s = more.shape;
-            shape = or(shape, s);
-            next = more.next;
-        } else {
-            return Part {
-                next: next,
-                shape: shape,
-            };
-        }
+    let mut shape = first.value;
+    // A step is a whole sequence.
+    while next < text.len() && text[next] == b'|' {
+        let more = sequence(text, next + 1, capped(base + shape.size), rows);
+        shape = or(shape, more.value);
+        next = more.next;
     }
-    Part {
-        next: next,
-        shape: shape,
-    }
+    Read { value: shape, next }
 }
 
 // So of a sequence.
 #[cycle(alternatives_atom_item_sequence)]
-fn sequence(text: &[u8], at: usize, base: usize, rows: &mut [u8]) -> Part
+fn sequence(text: &[u8], at: usize, base: usize, rows: &mut [u8]) -> Read<Shape>
     requires { (at ≤ length text.now) × (1 ≤ base) × (base ≤ states) × (length rows.old ≡ rows_size) }
-    ensures { (at ≤ result.next) × (result.next ≤ length text.now) × (result.shape.size ≤ states) × Keeps base rows.old rows.new × ((b : Body) (x : List ℕ) → ok_body b ≡ true → Stop x → drop at text.now ≡ reads b ++ x → Sums rows.new base (seq eps b) result.shape × (drop result.next text.now ≡ reads (rest b) ++ x)) }
+    ensures { (at ≤ result.next) × (result.next ≤ length text.now) × (result.value.size ≤ states) × Keeps base rows.old rows.new × ((b : Body) (x : List ℕ) → ok_body b ≡ true → Stop x → drop at text.now ≡ reads b ++ x → Sums rows.new base (seq eps b) result.value × (drop result.next text.now ≡ reads (rest b) ++ x)) }
 {
     let mut next = at;
     let mut shape = nothing();
-    while next < text.len() {
-        let c = text[next];
-        if c == b'|' {
-            return Part {
-                next: next,
-                shape: shape,
-            };
-        }
-        if c == b')' {
-            return Part {
-                next: next,
-                shape: shape,
-            };
-        }
+    // A step is a whole item.
+    while next < text.len() && text[next] != b'|' && text[next] != b')' {
         let low = capped(base + shape.size);
         let one = item(text, next, low, rows);
-        let s = one.shape;
-        shape = then(rows, shape, s, low);
+        shape = then(rows, shape, one.value, low);
         next = one.next;
     }
-    Part {
-        next: next,
-        shape: shape,
-    }
+    Read { value: shape, next }
 }
 
 // So of an item with its mark; a group that is repeated no times is passed over.
 #[cycle(alternatives_atom_item_sequence)]
-fn item(text: &[u8], at: usize, base: usize, rows: &mut [u8]) -> Part
+fn item(text: &[u8], at: usize, base: usize, rows: &mut [u8]) -> Read<Shape>
     requires { (at < length text.now) × (1 ≤ base) × (base ≤ states) × (length rows.old ≡ rows_size) }
-    ensures { (at < result.next) × (result.next ≤ length text.now) × (result.shape.size ≤ states) × Keeps base rows.old rows.new × ((a : Atom) (m : Mark) (y : List ℕ) → ok_atom a ≡ true → ok_mark m ≡ true → Calm y → drop at text.now ≡ atom_then a (spell_mark m ++ y) → Sums rows.new base (marked m (exp_atom a)) result.shape × (drop result.next text.now ≡ y)) }
+    ensures { (at < result.next) × (result.next ≤ length text.now) × (result.value.size ≤ states) × Keeps base rows.old rows.new × ((a : Atom) (m : Mark) (y : List ℕ) → ok_atom a ≡ true → ok_mark m ≡ true → Calm y → drop at text.now ≡ atom_then a (spell_mark m ++ y) → Sums rows.new base (marked m (exp_atom a)) result.value × (drop result.next text.now ≡ y)) }
 {
-    let over = none_end(text, at);
-    if at < over {
-        return Part {
+    if let Some(over) = none_end(text, at) {
+        return Read {
+            value: nothing(),
             next: over,
-            shape: nothing(),
         };
     }
-    let a = atom(text, at, base, rows);
-    let mark = mark_of(text, a.next);
-    let s = a.shape;
-    if mark.kind == 0 {
-        return Part {
-            next: mark.next,
-            shape: s,
-        };
-    }
-    if mark.kind == 1 {
-        again(rows, s, base);
-        return Part {
-            next: mark.next,
-            shape: maybe(s),
-        };
-    }
-    if mark.kind == 2 {
-        again(rows, s, base);
-        return Part {
-            next: mark.next,
-            shape: s,
-        };
-    }
-    if mark.kind == 3 {
-        return Part {
-            next: mark.next,
-            shape: maybe(s),
-        };
-    }
-    Part {
+    let one = atom(text, at, base, rows);
+    let mark = mark_of(text, one.next);
+    Read {
+        value: repeated(rows, base, one.value, mark.value),
         next: mark.next,
-        shape: copies(rows, base, s, mark.least, mark.most),
     }
 }
 
 // So of an item without its mark.
 #[cycle(alternatives_atom_item_sequence)]
-fn atom(text: &[u8], at: usize, base: usize, rows: &mut [u8]) -> Part
+fn atom(text: &[u8], at: usize, base: usize, rows: &mut [u8]) -> Read<Shape>
     requires { (at < length text.now) × (1 ≤ base) × (base ≤ states) × (length rows.old ≡ rows_size) }
-    ensures { (at < result.next) × (result.next ≤ length text.now) × (result.shape.size ≤ states) × Keeps base rows.old rows.new × ((a : Atom) (y : List ℕ) → ok_atom a ≡ true → drop at text.now ≡ atom_then a y → Sums rows.new base (exp_atom a) result.shape × (drop result.next text.now ≡ y)) }
+    ensures { (at < result.next) × (result.next ≤ length text.now) × (result.value.size ≤ states) × Keeps base rows.old rows.new × ((a : Atom) (y : List ℕ) → ok_atom a ≡ true → drop at text.now ≡ atom_then a y → Sums rows.new base (exp_atom a) result.value × (drop result.next text.now ≡ y)) }
 {
     if text[at] == b'(' {
         let inner = alternatives(text, at + 1, base, rows);
-        let s = inner.shape;
-        return Part {
+        return Read {
+            value: inner.value,
             next: past(inner.next, text.len()),
-            shape: s,
         };
     }
     put_leaf(rows, base, leaf_set(text, at));
-    Part {
+    Read {
+        value: single(base),
         next: leaf_end(text, at),
-        shape: single(base),
     }
-}
-
-// Where the text begins that one `^` may bind to the front.
-fn front(text: &[u8]) -> usize
-    ensures { (result ≤ length text.now) × ((t : Text) → ok_body t.body ≡ true → text_reads t ≡ text.now → drop result text.now ≡ reads t.body) }
-{
-    if 0 < text.len() {
-        if text[0] == b'^' {
-            return 1;
-        }
-    }
-    0
 }
 
 // The position automaton of a good text: positions are the states from 1 on, and their rows stand in the work place. A size of as many as there are
@@ -427,6 +343,6 @@ pub fn walk(text: &[u8], rows: &mut [u8]) -> Shape
     requires { length rows.old ≡ rows_size }
     ensures { (result.size ≤ states) × (length rows.new ≡ rows_size) × ((t : Text) → ok_body t.body ≡ true → text_reads t ≡ text.now → Sums rows.new 1 (exp eps t.body) result) }
 {
-    let all = alternatives(text, front(text), 1, rows);
-    all.shape
+    let start = usize::from(text::is_bound(text));
+    alternatives(text, start, 1, rows).value
 }

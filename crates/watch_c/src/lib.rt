@@ -1,5 +1,6 @@
 // The C face: the library's twenty-nine functions under names of their own, over numbers and slices, and the face's version. Nothing else is here.
 // The archive's exports, in watch_archive_c, hand on to them.
+// An answer that one function alone gives is laid out there: a `From` of one use is no plainer.
 #![tactic(auto)]
 
 ghost use Rattle.std.specs.Prelude.{◌≡◌, ◌≤◌, length};
@@ -32,8 +33,9 @@ ghost use Rattle.segment_index.specs.Standing.{stand_segment, stood_by};
 ghost use Rattle.segment_machine.specs.Ways.{machine_segment};
 ghost use Rattle.watch_c.specs.Segments.{face_heard, face_heard_at};
 
-use feed::Fed;
+use feed::{Fed, Opened};
 use index_feed::Stood;
+use segment_feed::Heard;
 
 // The version of the face, by which a caller compares its header with the archive.
 pub const VERSION: u32 = 20;
@@ -104,19 +106,46 @@ pub struct WatchJoined {
     pub refusal: u32,
 }
 
-// The answer of a feed in C's layout.
-fn face(f: Fed) -> WatchFed
-    ensures { Faces f result }
-{
-    WatchFed {
-        bytes: f.bytes as u64,
-        pairs: f.pairs as u64,
-        refusal: f.refusal,
-        all: f.all,
+impl From<Fed> for WatchFed {
+    ghost from_gives = { λ f w. Faces f w };
+
+    fn from(fed: Fed) -> WatchFed {
+        WatchFed {
+            bytes: fed.bytes as u64,
+            pairs: fed.pairs as u64,
+            refusal: fed.refusal,
+            all: fed.all,
+        }
     }
 }
 
-// The answer of a feed by an index in C's layout.
+impl From<Opened> for WatchOpened {
+    ghost from_gives = { λ o w. (w.pairs ≡ o.pairs) × (w.refusal ≡ o.refusal) };
+
+    fn from(opened: Opened) -> WatchOpened {
+        WatchOpened {
+            pairs: opened.pairs as u64,
+            refusal: opened.refusal,
+        }
+    }
+}
+
+impl From<Heard> for WatchHeard {
+    ghost from_gives = { λ h w. face_heard w ≡ h };
+
+    fn from(heard: Heard) -> WatchHeard {
+        WatchHeard {
+            bytes: heard.bytes as u64,
+            pairs: heard.pairs as u64,
+            refusal: heard.refusal,
+            start: heard.start,
+            length: heard.length,
+            all: heard.all,
+        }
+    }
+}
+
+// The answer of a feed by an index in C's layout. No `From`, which would take any split: C's has 32 bits.
 fn face_stood(s: Stood) -> WatchStood
     requires { s.split ≤ 4294967295 }
     ensures { Faces s.fed (stood_fed result) × (result.split ≡ s.split) }
@@ -153,10 +182,7 @@ pub extern "C" fn watch_open(list: &[u8], flow: &mut [u8], pairs: &mut [u32]) ->
     ensures { FaceOpens (open_flow list.now flow.old pairs.old) result pairs.new flow.new }
 {
     let opened = list_flow::open_flow(list, flow, pairs);
-    WatchOpened {
-        pairs: opened.pairs as u64,
-        refusal: opened.refusal,
-    }
+    WatchOpened::from(opened)
 }
 
 // The plain feed of a piece that begins at `start`.
@@ -171,7 +197,7 @@ pub extern "C" fn watch_feed(
     ensures { FaceAnswers (plain_feed list.now flow.old start piece.now pairs.old) result pairs.new flow.new }
 {
     let f = list_feed::feed(list, flow, start, piece, pairs);
-    face(f)
+    WatchFed::from(f)
 }
 
 // The table check: 0, or the number of the refusal.
@@ -211,7 +237,7 @@ pub extern "C" fn watch_split_feed(
     let f = table_feed::feed(
         list, bound, classes, parts, rows, splits, flow, start, piece, pairs,
     );
-    face(f)
+    WatchFed::from(f)
 }
 
 // Writes the matrix of a list: 0, or the number of the refusal, which leaves the matrix as it is.
@@ -235,7 +261,7 @@ pub extern "C" fn watch_matrix_feed(
     ensures { FaceAnswers (matrix_feed list.now matrix.now flow.old start piece.now pairs.old) result pairs.new flow.new }
 {
     let f = matrix::feed(list, matrix, flow, start, piece, pairs);
-    face(f)
+    WatchFed::from(f)
 }
 
 // Fills the index of a table that the check accepts: 0, or the number of the refusal, which leaves the index as it is.
@@ -327,10 +353,7 @@ pub extern "C" fn watch_x_open(
     ensures { FaceOpens (extended_open moves.now programs.now flow.old pairs.old) result pairs.new flow.new }
 {
     let opened = machine::open_flow(moves, programs, flow, pairs);
-    WatchOpened {
-        pairs: opened.pairs as u64,
-        refusal: opened.refusal,
-    }
+    WatchOpened::from(opened)
 }
 
 // The feed of a piece that begins at `start` by an automaton with bits and counters.
@@ -346,7 +369,7 @@ pub extern "C" fn watch_x_feed(
     ensures { FaceAnswers (extended_feed moves.now programs.now flow.old start piece.now pairs.old) result pairs.new flow.new }
 {
     let f = machine::feed(moves, programs, flow, start, piece, pairs);
-    face(f)
+    WatchFed::from(f)
 }
 
 // What taking a segment answers, as C lays it out: a refusal's number or 0, and the held place at exit.
@@ -399,7 +422,7 @@ pub extern "C" fn watch_due(
 ) -> WatchPart
     ensures { FaceFinds (part_due next (length held.now) held_start held_length start (length segment.now)) result }
 {
-    let d = segment::part_due(
+    let part = segment::part_due(
         next,
         held.len(),
         held_start,
@@ -407,10 +430,17 @@ pub extern "C" fn watch_due(
         start,
         segment.len(),
     );
-    WatchPart {
-        at: d.at as u64,
-        length: d.length as u64,
-        source: d.source,
+    match part {
+        None => WatchPart {
+            at: 0,
+            length: 0,
+            source: 0,
+        },
+        Some(p) => WatchPart {
+            at: p.at as u64,
+            length: p.length as u64,
+            source: segment::source_number(p.source),
+        },
     }
 }
 
@@ -576,14 +606,7 @@ pub extern "C" fn watch_feed_segment(
         segment,
         pairs,
     );
-    WatchHeard {
-        bytes: h.bytes as u64,
-        pairs: h.pairs as u64,
-        refusal: h.refusal,
-        start: h.start,
-        length: h.length,
-        all: h.all,
-    }
+    WatchHeard::from(h)
 }
 
 // Feeds a segment to a flow by its table, in the same way.
@@ -625,14 +648,7 @@ pub extern "C" fn watch_split_feed_segment(
         segment,
         pairs,
     );
-    WatchHeard {
-        bytes: h.bytes as u64,
-        pairs: h.pairs as u64,
-        refusal: h.refusal,
-        start: h.start,
-        length: h.length,
-        all: h.all,
-    }
+    WatchHeard::from(h)
 }
 
 // What feeding a segment by an index answers, as C lays it out: the split where the flow then stands beside the rest.
@@ -724,12 +740,5 @@ pub extern "C" fn watch_x_feed_segment(
         segment,
         pairs,
     );
-    WatchHeard {
-        bytes: h.bytes as u64,
-        pairs: h.pairs as u64,
-        refusal: h.refusal,
-        start: h.start,
-        length: h.length,
-        all: h.all,
-    }
+    WatchHeard::from(h)
 }

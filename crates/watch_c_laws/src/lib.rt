@@ -99,11 +99,11 @@ fn drive_faces(
         split_pairs,
     );
     Drove {
-        listed: listed,
-        checked: checked,
-        opened: opened,
-        fed: fed,
-        split: split,
+        listed,
+        checked,
+        opened,
+        fed,
+        split,
     }
 }
 
@@ -131,10 +131,7 @@ fn drive_matrix(
 {
     let filled = watch_c::watch_fill_matrix(list, matrix);
     let fed = watch_c::watch_matrix_feed(list, matrix, flow, start, piece, pairs);
-    DroveFilled {
-        filled: filled,
-        fed: fed,
-    }
+    DroveFilled { filled, fed }
 }
 
 // What the filler of an index and a feed by what it left answered.
@@ -170,10 +167,7 @@ fn drive_index(
 {
     let filled = watch_c::watch_fill_index(list, bound, classes, parts, rows, splits, index);
     let stood = watch_c::watch_prepared_feed(splits, index, split, flow, start, piece, pairs);
-    DroveIndex {
-        filled: filled,
-        stood: stood,
-    }
+    DroveIndex { filled, stood }
 }
 
 // Calls the exported name that builds a table.
@@ -226,9 +220,9 @@ fn drive_extended(
     let opened = watch_c::watch_x_open(moves, programs, opening, first_pairs);
     let fed = watch_c::watch_x_feed(moves, programs, flow, start, piece, pairs);
     DroveExtended {
-        checked: checked,
-        opened: opened,
-        fed: fed,
+        checked,
+        opened,
+        fed,
     }
 }
 
@@ -254,10 +248,7 @@ fn drive_segment(
 {
     let taken = watch_c::watch_take(next, held, held_start, held_length, start, segment);
     let part = watch_c::watch_due(next, held, taken.start, taken.length, start, segment);
-    DroveSegment {
-        taken: taken,
-        part: part,
-    }
+    DroveSegment { taken, part }
 }
 
 // Calls the exported name that checks a certificate.

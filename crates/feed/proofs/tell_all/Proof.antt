@@ -1,7 +1,7 @@
 -- `tell_all` tells the set where it fits, so what it leaves is all of it or nothing. Assumes nothing.
 use borrow.Author.Rules.{rules}
 use Prim.Native.Nat.{◌-◌, ◌/◌}
-use mathlib.Core.Path.{refl, sym, ◌∙◌}
+use mathlib.Core.Path.{sym, ◌∙◌}
 use native.Mathlib.Omega.{arith}
 use lib.ListN.{length}
 use borrow.Author.Tests.{leb-true}
@@ -28,7 +28,7 @@ returns c =
     let e = told.before.before in
     let f = e.before in
     let a = f.args in
-    all-fits (sigs_of a.g) a.pairs.now a.words a.offset _ (sym e.if-has_room.true ∙ f.has_room.ensures) refl _ told.tell-end.ensures
+    all-fits (sigs_of a.g) a.pairs.now a.words a.offset (sym e.if-has_room.true ∙ f.has_room.ensures) _ _ told.tell-end.ensures
 
 same-length-2 : tie.Need-shape_of-pairs
 same-length-2 c = search rules
@@ -37,7 +37,7 @@ returns-2 : tie.Need-returns
 returns-2 c =
     let f = c.before in
     let a = f.args in
-    all-not (sigs_of a.g) a.pairs.now a.words a.offset _ (sym c.if-has_room.false ∙ f.has_room.ensures) refl refl
+    all-not (sigs_of a.g) a.pairs.now a.words a.offset (sym c.if-has_room.false ∙ f.has_room.ensures)
 
 pub tell_all_spec : {M : Type 1} → statement M
 tell_all_spec = tie.close (tie.spec has-room-requires tell-requires same_length returns same-length-2 returns-2)

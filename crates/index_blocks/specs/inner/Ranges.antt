@@ -1,5 +1,5 @@
 -- Two ranges of bytes that leave a place, and the first byte of a block that lies in them.
-use Rattle.std.specs.Prelude.{ℕ, zero, suc, ◌+◌, ◌-◌, ◌%◌, Bool, cond, ◌||◌, nat_le, nat_lt}
+use Rattle.std.specs.Prelude.{ℕ, zero, suc, ◌+◌, ◌-◌, ◌%◌, Bool, cond, ◌||◌, ◌==◌, nat_le, nat_lt, Option, None, Some}
 
 -- bytes in a block; what is answered where no byte of it lies in the ranges
 abbrev pub block_size : ℕ
@@ -27,3 +27,7 @@ least x y = cond (nat_lt x y) x y
 unfoldable pub met : ℕ → (ℕ → Bool) → ℕ
 met zero p = none
 met (suc n) p = least (met n p) (cond (p n) n none)
+
+-- the same, where there is one
+abbrev pub first_met : ℕ → (ℕ → Bool) → Option ℕ
+first_met n p = cond (met n p == none) None (Some (met n p))

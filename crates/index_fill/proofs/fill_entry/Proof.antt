@@ -52,7 +52,7 @@ noted c =
     let sp = stood (told t) in
     let s = begun sp in
     c.note.ensures
-    ∙ ap₂ (λ (n : ℕ) (b : Bool). note_of n b) (ap (λ (x : ℕ). s.args.m + x) t.taken.ensures) (c.named_all.ensures ∙ ap (within (set_of sp.split_set-f.result)) s.requires.1)
+    ∙ ap₂ (λ (n : ℕ) (b : Bool). note_of n b) (ap (λ (x : ℕ). s.args.m + x) t.taken.ensures) (c.covers.ensures ∙ ap (within (set_of sp.split_set-f.result)) s.requires.1)
 
 entry-place-requires : tie.Need-entry_place-at-requires
 entry-place-requires c κs = let s = c in omega (arith, s.requires.2, s.requires.6)
@@ -93,7 +93,7 @@ accepted-requires : tie.Need-accepted-requires
 accepted-requires c κs = search rules
 
 store-requires : tie.Need-store-requires
-store-requires c κs = omega (arith, inside (stood c.before).before)
+store-requires c κs = search rules
 
 taken-requires : tie.Need-taken-requires
 taken-requires c κs = (begun (stood c.before.before.before.before)).requires.6
@@ -101,14 +101,14 @@ taken-requires c κs = (begun (stood c.before.before.before.before)).requires.6
 add-note : tie.Need-overflow_add-m
 add-note c = omega (arith, few c, (begun (stood (told c))).requires.5)
 
-named-all-requires : tie.Need-named_all-requires
-named-all-requires c κs = search rules
+covers-requires : tie.Need-covers-requires
+covers-requires c κs = search rules
 
 note-requires : tie.Need-note-requires
 note-requires c κs = omega (arith, few c.before, (begun (stood (told c.before))).requires.5)
 
 store-requires-2 : tie.Need-store-requires-2
-store-requires-2 c κs = omega (arith, inside (stood (told c.before.before.before)).before)
+store-requires-2 c κs = search rules
 
 same_length : tie.Need-shape_of-work
 same_length c = search rules
@@ -153,7 +153,7 @@ fill_entry_spec =
     store-requires
     taken-requires
     add-note
-    named-all-requires
+    covers-requires
     note-requires
     store-requires-2
     same_length

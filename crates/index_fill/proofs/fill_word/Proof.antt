@@ -53,7 +53,7 @@ mul-from-bytes : tie.Need-overflow_mul-c-2
 mul-from-bytes c = omega (arith, (entry c.before).requires.5)
 
 from-bytes-requires : tie.Need-from_bytes-requires
-from-bytes-requires c κs = let s = entry c.before in omega (arith, s.requires.4, s.requires.5)
+from-bytes-requires c κs = let s = entry c.before in (search rules, omega (arith, s.requires.4, s.requires.5))
 
 word-of-requires : tie.Need-word_of-w-requires
 unfolding part

@@ -78,25 +78,25 @@ number-requires c κs =
 slice-aggregate-count : tie.Need-slice_bounds-count-end
 slice-aggregate-count c = search rules
 
-count-requires : tie.Need-count-long-requires
+count-requires : tie.Need-count-length-requires
 count-requires c κs =
     let L = c.args.list.now in
     let a : list_refusal L ≡ 0 = sym c.check_list-refusal.ensures ∙ c.if-refusal-ne-PASSED.false in
     (c.state_count-top.ensures.0, omega (arith, top-low L c.state_count-top.result a c.state_count-top.ensures.0, c.lead.ensures.1), c.lead.ensures.0)
 
-mul-long : tie.Need-overflow_mul-long
+mul-long : tie.Need-overflow_mul-length
 mul-long c =
     let L = c.args.list.now in
     let a : list_refusal L ≡ 0 = sym c.check_list-refusal.ensures ∙ c.if-refusal-ne-PASSED.false in
-    omega (arith, long-is L c.count-long.result c.count-long.ensures, long-low L a)
+    omega (arith, long-is L c.count-length.result c.count-length.ensures, long-low L a)
 
-returns-2 : tie.Need-returns-then-out-long
+returns-2 : tie.Need-returns-then-out-length
 returns-2 c =
     let L = c.args.list.now in
     let a : list_refusal L ≡ 0 = sym c.check_list-refusal.ensures ∙ c.if-refusal-ne-PASSED.false in
-    let q = long-is L c.count-long.result c.count-long.ensures in
+    let q = long-is L c.count-length.result c.count-length.ensures in
     let o = c.args.out.now in
-    answers-not L o _ _ 28 (refuses-room L (length o) a (omega (arith, q, c.if-out-long.true))) (λ z. omega arith) refl refl refl
+    answers-not L o _ _ 28 (refuses-room L (length o) a (omega (arith, q, c.if-out-length.true))) (λ z. omega arith) refl refl refl
 
 slice-aggregate-add : tie.Need-slice_bounds-add-end
 slice-aggregate-add c = search rules
@@ -108,8 +108,8 @@ add-requires : tie.Need-add-requires
 add-requires c κs =
     let L = c.args.list.now in
     let a : list_refusal L ≡ 0 = sym c.check_list-refusal.ensures ∙ c.if-refusal-ne-PASSED.false in
-    let q = long-is L c.count-long.result c.count-long.ensures in
-    (c.number.ensures, omega (arith, q, c.if-out-long.false))
+    let q = long-is L c.count-length.result c.count-length.ensures in
+    (c.number.ensures, omega (arith, q, c.if-out-length.false))
 
 same_length : tie.Need-shape_of-out
 same_length c = search rules
@@ -118,9 +118,9 @@ returns-3 : tie.Need-returns
 returns-3 c =
     let L = c.args.list.now in
     let a : list_refusal L ≡ 0 = sym c.check_list-refusal.ensures ∙ c.if-refusal-ne-PASSED.false in
-    let q = long-is L c.count-long.result c.count-long.ensures in
+    let q = long-is L c.count-length.result c.count-length.ensures in
     let o = c.args.out.now in
-    answers-all L o _ _ a (omega (arith, q, c.if-out-long.false)) refl q c.add.ensures
+    answers-all L o _ _ a (omega (arith, q, c.if-out-length.false)) refl q c.add.ensures
 
 pub fold_spec : {M : Type 1} → statement M
 fold_spec =

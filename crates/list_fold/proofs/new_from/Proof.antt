@@ -28,7 +28,7 @@ returns c =
     let k = from_low L i c.requires.0 (rw (← c.is_edge.ensures, ← c.is_accept.ensures) c.if-is_edge-is_accept.true) in
     rw (← c.is_edge.ensures, ← c.is_accept.ensures, c.if-is_edge-is_accept.true) (c.number_at.ensures.0 ∙ rw c.from-t.ensures (c.requires.2 (from L i) k))
 
-returns-2 : tie.Need-returns
+returns-2 : tie.Need-returns-else-is_edge-is_accept
 returns-2 c =
     rw (← c.is_edge.ensures, ← c.is_accept.ensures, c.if-is_edge-is_accept.false) c.from-t.ensures
 

@@ -28,7 +28,7 @@ returns c =
     let k = target-low L i c.requires.0 (rw (← c.is_edge.ensures, ← c.is_start.ensures) c.if-is_edge-is_start.true) in
     rw (← c.is_edge.ensures, ← c.is_start.ensures, c.if-is_edge-is_start.true) (c.number_at.ensures.0 ∙ rw c.target-t.ensures (c.requires.2 (target L i) k))
 
-returns-2 : tie.Need-returns
+returns-2 : tie.Need-returns-else-is_edge-is_start
 returns-2 c =
     rw (← c.is_edge.ensures, ← c.is_start.ensures, c.if-is_edge-is_start.false) c.target-t.ensures
 

@@ -1,11 +1,12 @@
 -- What the code of joining finds before it writes: one walk over a list, the new numbers, and the plan.
-use Rattle.std.specs.Prelude.{ℕ, zero, suc, ◌+◌, ◌*◌, ◌≤◌, ◌<◌, ◌≡◌, Bool, true, false, ◌&&◌, ◌||◌, not, cond, List, length, get_or, set, ltb, eqb}
+use Rattle.std.specs.Bool.{then_some}
+use Rattle.std.specs.Prelude.{ℕ, Option, zero, suc, ◌+◌, ◌*◌, ◌≤◌, ◌<◌, ◌≡◌, Bool, true, false, ◌&&◌, ◌||◌, not, cond, List, length, get_or, set, ltb, eqb}
 use Rattle.std.specs.Int.Bits.{bit_or}
 use Rattle.sets.specs.Set.{states, holds}
 use Rattle.rules.specs.Scan.{first, gather}
 use Rattle.list.specs.List.{most_records, records, is_edge, is_start, from, target, list_refusal}
 use Rattle.list.specs.Automaton.{named_by, highest}
-use Rattle.list_join.specs.Join.{stays, ever_at, once_at, two, naming, renamed, new_from, new_target, spare, join_refusal}
+use Rattle.list_join.specs.Join.{is_shared, own_state, same_state, stays, ever_at, once_at, two, naming, renamed, new_from, new_target, spare, join_refusal}
 use Rattle.list_join.specs.declared.Naming.{Naming}
 use Rattle.list_join.specs.declared.Outline.{Outline}
 use Rattle.list_join.specs.declared.Plan.{Plan}
@@ -67,6 +68,10 @@ ever marks staying = first states (λ s. holds (get_or marks s 0) 1 && not (eqb 
 abbrev pub once : List ℕ → ℕ
 once marks = first states (λ s. holds (get_or marks s 0) 1 && not (holds (get_or marks s 0) 2))
 
+-- the state k; none where it is the number of states
+abbrev pub some_state : ℕ → Option ℕ
+some_state k = then_some (ltb k states) k
+
 -- r is one past the highest place below m whose mark is not 0; 0 where there is none
 pub record Ends (w : List ℕ) (m r : ℕ) : Type 0 where
   pub most : r ≤ m
@@ -87,15 +92,15 @@ pub record Numbers (n : Naming) (top : ℕ) (new : List ℕ) : Type 0 where
 -- the naming of two lists gives each state a number in two bytes
 pub record Narrow (n : Naming) (top : ℕ) : Type 0 where
   pub next : n.next ≤ states
-  pub same : n.same < states
-  pub low : n.shared ≡ true → n.same < n.next
-  pub own : n.own ≤ top
+  pub same : same_state n < states
+  pub low : is_shared n ≡ true → same_state n < n.next
+  pub own : own_state n ≤ top
   pub below : top < states
 
 -- r says whether each state up to the highest that is marked gets the number of a state; where one does not, it is not the shared one
 pub record Fitted (n : Naming) (top : ℕ) (w : List ℕ) (r : Bool) : Type 0 where
   pub room : r ≡ true → (t : ℕ) → t ≤ top → (get_or w t 0 ≡ 0 → ⊥) → renamed n t < states
-  pub over : r ≡ false → (t : ℕ) × (t ≤ top) × (get_or w t 0 ≡ 0 → ⊥) × (n.shared ≡ true → t ≡ n.own → ⊥) × (states ≤ renamed n t)
+  pub over : r ≡ false → (t : ℕ) × (t ≤ top) × (get_or w t 0 ≡ 0 → ⊥) × (is_shared n ≡ true → t ≡ own_state n → ⊥) × (states ≤ renamed n t)
 
 -- the refusal, and where nothing refuses the naming, and the other list's highest state
 pub record Plans (A : List ℕ) (used lent : ℕ) (B : List ℕ) (p : Plan) : Type 0 where

@@ -10,7 +10,7 @@ renew-refusal-requires c κs = search rules
 
 from-bytes-requires : tie.Need-from_bytes-requires
 from-bytes-requires c κs =
-    omega (arith, renews-long c.args.flow.now _ c.renew_refusal-refusal.ensures c.if-refusal-eq-PASSED.true)
+    (search rules, omega (arith, renews-long c.args.flow.now _ c.renew_refusal-refusal.ensures c.if-refusal-eq-PASSED.true))
 
 save-requires : tie.Need-save-requires
 save-requires c κs = search rules

@@ -25,11 +25,11 @@ counters-at-requires c κs = search rules
 whole-number-requires : tie.Need-whole_number-requires
 whole-number-requires c κs = search rules
 
-add-eight-bytes : tie.Need-overflow_add-at-3
-add-eight-bytes c = search rules
+add-whole-number : tie.Need-overflow_add-at-3
+add-whole-number c = search rules
 
-eight-bytes-requires : tie.Need-eight_bytes-requires
-eight-bytes-requires c κs = search rules
+whole-number-requires-2 : tie.Need-whole_number-requires-2
+whole-number-requires-2 c κs = search rules
 
 returns : tie.Need-returns
 unfolding config_at
@@ -38,7 +38,7 @@ returns c =
     let b = a.b.now in
     let e : a.at + a.bits + 8 ≡ a.at + (a.bits + 8) = omega arith in
     config-one _ (config_at a.bits (drop a.at b)) c.whole_number.ensures
-    (c.eight_bytes.ensures ∙ sym (ap (λ (d : List ℕ). num 8 (take 8 d)) (drop-drop a.bits a.at b)))
+    (c.whole_number-2.ensures ∙ sym (ap (λ (d : List ℕ). num 8 (take 8 d)) (drop-drop a.bits a.at b)))
     (c.counters_at-counters.ensures ∙ ap (λ (k : ℕ). fours counter_count (drop k b)) e ∙ sym (ap (λ (d : List ℕ). fours counter_count d) (drop-drop (a.bits + 8) a.at b)))
 
 pub config_at_spec : {M : Type 1} → statement M
@@ -49,6 +49,6 @@ config_at_spec =
     add-counters-at-2
     counters-at-requires
     whole-number-requires
-    add-eight-bytes
-    eight-bytes-requires
+    add-whole-number
+    whole-number-requires-2
     returns)

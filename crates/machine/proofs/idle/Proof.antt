@@ -22,17 +22,17 @@ loop-holds c =
     let a = c.args in
     (search rules, laid_none (λ j. num 8 (take 8 (drop (program_size * a.q + 8 * j) a.programs.now))))
 
-mul-eight-bytes : tie.Need-overflow_mul-q invariant-loop decreases-loop
-mul-eight-bytes c = search rules
+mul-whole-number : tie.Need-overflow_mul-q invariant-loop decreases-loop
+mul-whole-number c = search rules
 
-mul-eight-bytes-2 : tie.Need-overflow_mul-k invariant-loop decreases-loop
-mul-eight-bytes-2 c = search rules
+mul-whole-number-2 : tie.Need-overflow_mul-k invariant-loop decreases-loop
+mul-whole-number-2 c = search rules
 
-add-eight-bytes : tie.Need-overflow_add-q invariant-loop decreases-loop
-add-eight-bytes c = search rules
+add-whole-number : tie.Need-overflow_add-q invariant-loop decreases-loop
+add-whole-number c = search rules
 
-eight-bytes-requires : tie.Need-eight_bytes-all-requires invariant-loop decreases-loop
-eight-bytes-requires c κs = search rules
+whole-number-requires : tie.Need-whole_number-all-requires invariant-loop decreases-loop
+whole-number-requires c κs = search rules
 
 add-k : tie.Need-overflow_step-k invariant-loop decreases-loop
 add-k c = search rules
@@ -44,7 +44,7 @@ loop-again : tie.Need-loop-k-preserved invariant-loop decreases-loop
 loop-again c =
     let a = c.args in
     let l = c.loop-k in
-    (omega arith, rw c.eight_bytes-all.ensures (laid_more (λ j. num 8 (take 8 (drop (program_size * a.q + 8 * j) a.programs.now))) l.k l.all l.invariant.1))
+    (omega arith, rw c.whole_number-all.ensures (laid_more (λ j. num 8 (take 8 (drop (program_size * a.q + 8 * j) a.programs.now))) l.k l.all l.invariant.1))
 
 returns : tie.Need-returns invariant-loop decreases-loop
 returns c =
@@ -60,10 +60,10 @@ idle_spec =
     invariant-loop
     decreases-loop
     loop-holds
-    mul-eight-bytes
-    mul-eight-bytes-2
-    add-eight-bytes
-    eight-bytes-requires
+    mul-whole-number
+    mul-whole-number-2
+    add-whole-number
+    whole-number-requires
     add-k
     loop-less
     loop-again

@@ -58,7 +58,7 @@ returns c =
     (λ z. c.if-refusal-ne-PASSED.true (e ∙ z)) (rw e at c.refused.ensures)
 
 from-bytes-requires : tie.Need-from_bytes-requires
-from-bytes-requires c κs = omega (arith, (good-flow (entry c.before).args.flow.now (passes c).good).0)
+from-bytes-requires c κs = (search rules, omega (arith, (good-flow (entry c.before).args.flow.now (passes c).good).0))
 
 feed-bytes-requires : tie.Need-feed_bytes-ran-requires
 feed-bytes-requires c κs =

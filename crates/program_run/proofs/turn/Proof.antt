@@ -15,7 +15,7 @@ returns : tie.Need-returns-then-rest-eq0
 returns c =
     let start = c in
     let e = c.put_last.ensures in
-    λ R a. spoken-end _ _ _ _ start.requires.1 R _ a _ _ _ _ c.if-rest-eq0.true e.0 e.1
+    λ R a. spoken-end _ _ _ _ start.args.split start.requires.1 R _ a _ _ _ _ c.if-rest-eq0.true e.0 e.1
 
 slice-aggregate-feed-by : tie.Need-slice_bounds-feed_by-end
 slice-aggregate-feed-by c = search rules
@@ -37,7 +37,7 @@ returns-2 c =
     let feeding = c in
     let start = c in
     let e = c.put_last-then-stood-ne-PASSED.ensures in
-    λ R a. spoken-refused _ _ _ _ start.requires.1 R _ a _ _ (λ i. (c.shared_slice_known-4-1.given i).fits) _ _ _ feeding.feed_by-stood.ensures c.if-rest-eq0.false _ _ e.0 c.if-stood-ne-PASSED.true e.1
+    λ R a. spoken-refused _ _ _ _ start.args.split start.requires.1 R _ a _ _ (λ i. (c.shared_slice_known-4-1.given i).fits) _ _ _ feeding.feed_by-stood.ensures c.if-rest-eq0.false _ _ e.0 c.if-stood-ne-PASSED.true e.1
 
 slice-aggregate-put-pairs : tie.Need-slice_bounds-put_pairs-end
 slice-aggregate-put-pairs c = search rules
@@ -45,7 +45,7 @@ slice-aggregate-put-pairs c = search rules
 put-pairs-requires : tie.Need-put_pairs-requires
 put-pairs-requires c κs =
     let a = c.args in
-    let f = spoken-fit a.list.now a.splits.now a.index.now a.by a.flow.now a.offset a.rest.now _ _ _ c.feed_by-stood.ensures in
+    let f = spoken-fit a.list.now a.splits.now a.index.now a.by a.split a.flow.now a.offset a.rest.now _ _ _ c.feed_by-stood.ensures in
     (omega (arith, f), omega (arith, f, c.requires.0))
 
 same-length-4 : tie.Need-shape_of-flow
@@ -59,7 +59,7 @@ returns-3 c =
     let feeding = c in
     let start = c in
     let e = c.put_pairs.ensures in
-    λ R a. spoken-lines _ _ _ _ start.requires.1 R _ a _ _ (λ i. (c.shared_slice_known-4-1.given i).fits) _ _ _ feeding.feed_by-stood.ensures c.if-rest-eq0.false _ _ e.0 c.if-stood-ne-PASSED.false e.1
+    λ R a. spoken-lines _ _ _ _ start.args.split start.requires.1 R _ a _ _ (λ i. (c.shared_slice_known-4-1.given i).fits) _ _ _ feeding.feed_by-stood.ensures c.if-rest-eq0.false _ _ e.0 c.if-stood-ne-PASSED.false e.1
 
 pub turn_spec : {M : Type 1} → statement M
 turn_spec =

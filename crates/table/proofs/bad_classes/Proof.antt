@@ -5,7 +5,7 @@ use mathlib.Core.Bool.{◌||◌, not}
 use Prim.Native.Nat.{ℕ}
 use lib.ListN.{length}
 use lib.Dec.{eqb, ltb}
-use Rattle.table.specs.Table.{byte_values, most_class, largest, bad_classes}
+use Rattle.table.specs.Table.{byte_values, most_class, bad_classes}
 use Rattle.table.proofs.bad_classes.Statement.{statement}
 use Rattle.table.proofs.bad_classes.Tie as tie
 

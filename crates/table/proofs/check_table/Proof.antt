@@ -1,7 +1,6 @@
 -- `check_table` tests the list, then the sizes, then the entries. Assumes nothing.
 use borrow.Author.Rules.{rules}
 use mathlib.Core.Path.{sym, ◌∙◌}
-use Rattle.numbers.specs.Number.{before}
 use Rattle.table.specs.Table.{Table}
 use Rattle.table.proofs.Verdict.{list-first, size-first}
 use Rattle.table.proofs.check_table.Statement.{statement}

@@ -2,14 +2,12 @@
 use borrow.Author.Rules.{rules}
 use borrow.Author.Tests.{not-true, not-false}
 use mathlib.Core.Path.{◌≡◌, sym, ap, ◌∙◌}
-use mathlib.Core.Bool.{true, ◌&&◌}
+use mathlib.Core.Bool.{true, not, ◌&&◌}
 use Prim.Native.Nat.{ℕ}
-use native.Mathlib.Omega.{arith}
-use Rattle.numbers.specs.Number.{before}
 use Rattle.rules.specs.Scan.{every}
 use Rattle.list.specs.Automaton.{start}
-use Rattle.table.specs.Table.{Table, split_count, slots, is_split, split_of, good_slots, in_order}
-use Rattle.table.proofs.Found.{found_some, found-no}
+use Rattle.table.specs.Table.{Table, split_count, slots, is_split, good_slots, in_order}
+use Rattle.table.proofs.Found.{said}
 use Rattle.table.proofs.Verdict.{refused-9, refused-10, refused-11, refused-12, refused-13, passed, few-parts, splits-ordered, splits-below, rows-closed, good_splits, good_rows, good_unions, closed}
 use Rattle.table.proofs.entries_refusal.Statement.{statement}
 use Rattle.table.proofs.entries_refusal.Tie as tie
@@ -37,10 +35,10 @@ behind-10 c = c.before.before
 abbrev entry-11 : tie.Else-not-unions_good → tie.Start
 entry-11 c = entry-10 (behind-10 c)
 
-abbrev behind-11 : tie.After-find_sorted → tie.Else-not-unions_good
-behind-11 c = c.before.before.before
+abbrev behind-11 : tie.After-is_none → tie.Else-not-unions_good
+behind-11 c = c.before.before.before.before
 
-abbrev entry-12 : tie.Else-split_count-find_sorted → tie.Start
+abbrev entry-12 : tie.Else-is_none → tie.Start
 entry-12 c = entry-11 (behind-11 c.before)
 
 -- what each test says, and what it has passed
@@ -59,15 +57,13 @@ passed-10 c = sym c.rows_good.ensures ∙ not-false _ c.if-not-rows_good.false-r
 passed-11 : (c : tie.Else-not-unions_good) → good_unions (table (entry-11 c)) ≡ true
 passed-11 c = sym c.unions_good.ensures ∙ not-false _ c.if-not-unions_good.false-raw
 
-found : (c : tie.After-find_sorted)
-    → c.find_sorted.result ≡ split_of (entry-11 (behind-11 c)).args.splits.now (start (entry-11 (behind-11 c)).args.list.now)
-found c = c.find_sorted.ensures ∙ ap (split_of (entry-11 (behind-11 c)).args.splits.now) c.start_set.ensures
+said-12 : (c : tie.After-is_none) → is_split (entry-11 (behind-11 c)).args.splits.now (start (entry-11 (behind-11 c)).args.list.now) ≡ not c.is_none.result
+said-12 c =
+    let a = (entry-11 (behind-11 c)).args in
+    ap (is_split a.splits.now) (sym c.start_set.ensures) ∙ said a.splits.now _ c.find_sorted.result c.find_sorted.ensures.0 c.find_sorted.ensures.1 ∙ c.is_none.ensures
 
-passed-12 : (c : tie.Else-split_count-find_sorted) → is_split (entry-12 c).args.splits.now (start (entry-12 c).args.list.now) ≡ true
-passed-12 c =
-    let f = c.before in
-    let a = (entry-12 c).args in
-    found_some a.splits.now (start a.list.now) f.split_count.result f.find_sorted.result f.split_count.ensures (found f) (omega arith)
+passed-12 : (c : tie.Else-is_none) → is_split (entry-12 c).args.splits.now (start (entry-12 c).args.list.now) ≡ true
+passed-12 c = said-12 c.before ∙ ap not c.if-is_none.false
 
 said-13 : (c : tie.After-leads) → c.leads.result ≡ closed (entry-12 c.before).args.list.now (table (entry-12 c.before))
 said-13 c =
@@ -109,25 +105,25 @@ returns-3 c =
     let s = entry-10 e in
     refused-11 s.args.list.now s.args.bound (table s) s.requires.0 s.requires.1 (passed-9 (behind-9 e)) (passed-10 e) (sym c.unions_good.ensures ∙ not-true _ c.if-not-unions_good.true-raw)
 
-split-count-requires : tie.Need-split_count-requires
-split-count-requires c κs = search rules
-
 start-set-requires : tie.Need-start_set-requires
 start-set-requires c κs = search rules
 
 find-sorted-requires : tie.Need-find_sorted-requires
 find-sorted-requires c κs =
-    let e = c.before.before in
+    let e = c.before in
     let s = entry-11 e in
     splits-ordered s.args.bound (table s) (passed-9 (behind-9 (behind-10 e)))
 
-returns-4 : tie.Need-returns-then-split_count-find_sorted
+is-none-requires : tie.Need-is_none-requires
+is-none-requires c κs = search rules
+
+returns-4 : tie.Need-returns-then-is_none
 returns-4 c =
     let f = c.before in
     let e = behind-11 f in
     let s = entry-11 e in
     refused-12 s.args.list.now s.args.bound (table s) s.requires.0 s.requires.1 (passed-9 (behind-9 (behind-10 e))) (passed-10 (behind-10 e)) (passed-11 e)
-    (found-no s.args.splits.now (start s.args.list.now) f.split_count.result f.find_sorted.result f.split_count.ensures (found f) c.if-split_count-find_sorted.true)
+    (said-12 f ∙ ap not c.if-is_none.true)
 
 leads-requires : tie.Need-leads-requires
 leads-requires c κs =
@@ -161,9 +157,9 @@ entries_refusal_spec =
     returns-2
     unions-good-requires
     returns-3
-    split-count-requires
     start-set-requires
     find-sorted-requires
+    is-none-requires
     returns-4
     leads-requires
     returns-5

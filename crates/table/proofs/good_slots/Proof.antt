@@ -8,7 +8,6 @@ use Prim.Native.Nat.{◌+◌, ◌-◌, ◌≤◌, ◌<◌}
 use native.Mathlib.Omega.{arith}
 use lib.ListN.{drop}
 use lib.Dec.{ltb, leb}
-use Rattle.numbers.specs.Number.{before}
 use Rattle.rules.proofs.Scanning.{choose, both}
 use Rattle.table.specs.Table.{slots, good_slots}
 use Rattle.table.proofs.Entries.{slots-cons, slots_end}

@@ -3,7 +3,6 @@ use borrow.Author.Rules.{rules}
 use mathlib.Core.Path.{ap₂, ◌∙◌}
 use Prim.Native.Nat.{ℕ, ◌+◌, ◌*◌, ◌^◌, ◌≤◌}
 use native.Mathlib.Omega.{arith}
-use Rattle.numbers.specs.Number.{before}
 use Rattle.sets.specs.Set.{set_size, set_at}
 use Rattle.table.specs.Table.{most_parts, row}
 use Rattle.table.proofs.Entries.{classes-fit, rows_fit}

@@ -7,7 +7,6 @@ use mathlib.Core.List.{List}
 use Prim.Native.Nat.{ℕ, ◌-◌, ◌≤◌}
 use native.Mathlib.Omega.{arith}
 use lib.Dec.{eqb}
-use Rattle.numbers.specs.Number.{before}
 use Rattle.sets.specs.Set.{set_of}
 use Rattle.rules.specs.Scan.{every}
 use Rattle.rules.proofs.Scanning.{choose}

@@ -23,7 +23,7 @@ returns-2 : tie.Need-returns-then-b-at-lt-BYTES
 returns-2 c = c.end_set.ensures
 
 from-bytes-requires : tie.Need-from_bytes-requires
-from-bytes-requires c κs = omega arith
+from-bytes-requires c κs = (search rules, omega arith)
 
 returns-3 : tie.Need-returns
 returns-3 c = c.from_bytes.ensures

@@ -7,7 +7,6 @@ use mathlib.Core.List.{List}
 use Prim.Native.Nat.{ℕ, ◌-◌, ◌≤◌}
 use native.Mathlib.Omega.{arith}
 use lib.Dec.{eqb}
-use Rattle.numbers.specs.Number.{before}
 use Rattle.rules.specs.Scan.{every}
 use Rattle.table.specs.Table.{split_count, part, split_set, slots, used_slots, joined}
 use Rattle.table.proofs.Turns.{every-none, every_more, every-stops, every-ends}

@@ -55,7 +55,7 @@ mul-from-bytes : tie.Need-overflow_mul-c invariant-loop decreases-loop
 mul-from-bytes c = omega (arith, to-come c.before.before.before)
 
 from-bytes-requires : tie.Need-from_bytes-requires invariant-loop decreases-loop
-from-bytes-requires c κs = omega (arith, to-come c.before.before.before, c.loop-c.invariant.1.long, c.requires.0)
+from-bytes-requires c κs = (search rules, omega (arith, to-come c.before.before.before, c.loop-c.invariant.1.long, c.requires.0))
 
 step-requires : tie.Need-step-requires invariant-loop decreases-loop
 step-requires c κs = search rules
@@ -67,7 +67,7 @@ mul-store : tie.Need-overflow_mul-c-then-edge invariant-loop decreases-loop
 mul-store c = omega (arith, to-come c.before.before.before.before.before.before.before)
 
 store-requires : tie.Need-store-requires invariant-loop decreases-loop
-store-requires c κs = omega (arith, to-come c.before.before.before.before.before.before.before, c.loop-c.invariant.1.long, c.requires.0)
+store-requires c κs = search rules
 
 add-c : tie.Need-overflow_step-c invariant-loop decreases-loop
 add-c c = omega (arith, to-come c.before.before.before)

@@ -71,7 +71,7 @@ from-bytes-requires c κs =
     let here = c in
     let a = (entry here.before).args in
     let p = split-passes a.list.now a.bound (given here.before) a.flow.now a.start a.piece.now (verdict-0 here) in
-    omega (arith, (good-flow a.flow.now p.0).0)
+    (search rules, omega (arith, (good-flow a.flow.now p.0).0))
 
 feed-bytes-requires : tie.Need-feed_bytes-ran-requires
 feed-bytes-requires c κs =

@@ -1,7 +1,8 @@
--- An item without its mark, and a mark in numbers, as the code has them.
-use Rattle.std.specs.Prelude.{ℕ, ◌≡◌, Bool, true, ◌&&◌, not, List, [], ◌∷◌, ◌++◌, eqb}
+-- An item without its mark, and what a mark says, as the code has them.
+use Rattle.std.specs.Prelude.{ℕ, ◌≡◌, ◌≤◌, Bool, true, ◌&&◌, not, List, [], ◌∷◌, ◌++◌, eqb}
 use Rattle.text.specs.Grammar.{Leaf, Body, Mark, bare, star, more, maybe, rep, ok_leaf, ok_body, spell_leaf, reads, number}
 use Rattle.text_marks.specs.declared.Times.{Times}
+use Rattle.text_marks.specs.declared.Times.TheVariants.{Once, Star, Plus, Maybe, Between}
 
 -- an item without its mark
 pub data Atom : Type 0 where
@@ -17,32 +18,29 @@ abbrev pub atom_then : Atom → List ℕ → List ℕ
 atom_then (byte l) y = spell_leaf l ++ y
 atom_then (brackets x) y = 40 ∷ (reads x ++ (41 ∷ y))
 
--- a mark in numbers
-abbrev pub mark_kind : Mark → ℕ
-mark_kind bare = 0
-mark_kind star = 1
-mark_kind more = 2
-mark_kind maybe = 3
-mark_kind (rep m n) = 4
+-- what a mark says, as the code has it
+abbrev pub times_of : Mark → Times
+times_of bare = Once
+times_of star = Star
+times_of more = Plus
+times_of maybe = Maybe
+times_of (rep m n) = Between (number m) (number n)
 
-abbrev pub least_of : Mark → ℕ
-least_of bare = 0
-least_of star = 0
-least_of more = 0
-least_of maybe = 0
-least_of (rep m n) = number m
+-- a repeat's numbers are at most n
+abbrev pub UpTo : ℕ → Times → Type 0
+UpTo n Once = Unit {0}
+UpTo n Star = Unit {0}
+UpTo n Plus = Unit {0}
+UpTo n Maybe = Unit {0}
+UpTo n (Between least most) = (least ≤ n) × (most ≤ n)
 
-abbrev pub most_of : Mark → ℕ
-most_of bare = 0
-most_of star = 0
-most_of more = 0
-most_of maybe = 0
-most_of (rep m n) = number n
-
-pub record Marks (m : Mark) (r : Times) : Type 0 where
-  pub kinds : r.kind ≡ mark_kind m
-  pub leasts : r.least ≡ least_of m
-  pub mosts : r.most ≡ most_of m
+-- a repeat at most no times
+abbrev pub Never : Times → Type 0
+Never Once = ⊥
+Never Star = ⊥
+Never Plus = ⊥
+Never Maybe = ⊥
+Never (Between least most) = most ≡ 0
 
 -- no byte of a list is d
 unfoldable pub without : ℕ → List ℕ → Bool

@@ -1,9 +1,7 @@
 -- `copy_row` meets its promise. Assumes nothing.
 use borrow.Author.Rules.{rules}
-use native.Mathlib.Omega.{arith}
 use Prim.Native.Nat.{◌<◌, ◌+◌, ◌*◌, ◌^◌}
-use mathlib.Core.Path.{◌≡◌, sym, ap, subst, ◌∙◌}
-use lib.ListN.{length}
+use mathlib.Core.Path.{sym, ap, subst, ◌∙◌}
 use Rattle.sets.specs.Set.{byte_count, set_size, set_of, byte_set_of}
 use Rattle.text_walk.specs.inner.Rows.{row_size}
 use Rattle.sets_words.specs.inner.Further.{further}
@@ -49,9 +47,7 @@ add-store-3 : tie.Need-overflow_add-t-4
 add-store-3 c = search rules
 
 store-requires-2 : tie.Need-store-requires-2
-store-requires-2 c κs =
-    let l : length c.store.new.b ≡ length c.args.rows.now = c.store.auto.b in
-    omega (arith, c.requires.0, c.requires.1)
+store-requires-2 c κs = search rules
 
 same_length : tie.Need-shape_of-rows
 same_length c =

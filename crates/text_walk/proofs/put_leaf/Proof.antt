@@ -2,8 +2,7 @@
 use borrow.Author.Rules.{rules}
 use native.Mathlib.Omega.{arith}
 use Prim.Native.Nat.{◌*◌}
-use mathlib.Core.Path.{◌≡◌, ap, ◌∙◌}
-use lib.ListN.{length}
+use mathlib.Core.Path.{ap, ◌∙◌}
 use Rattle.numbers.specs.Number.{placed}
 use Rattle.sets.specs.Set.{set_words, byte_words, set_bytes, byte_set_of}
 use Rattle.sets.proofs.Sets.{words-lt, empty-words}
@@ -26,9 +25,7 @@ add-store : tie.Need-overflow_add-t
 add-store c = search rules
 
 store-requires-2 : tie.Need-store-requires-then-t-lt-STATES
-store-requires-2 c κs =
-    let l : length c.store.new.b ≡ length c.args.rows.now = c.store.auto.b in
-    omega (arith, c.requires)
+store-requires-2 c κs = search rules
 
 same_length : tie.Need-shape_of-rows
 same_length c =

@@ -1,0 +1,27 @@
+-- What follows of a run on arrays from what holds of it. Assumes nothing.
+use Rattle.std.proofs.Common.{ℕ, List}
+use Rattle.program_text.specs.Hand.{OnArrays}
+use Rattle.program_text.specs.declared.Ends.{Ends}
+use Rattle.program_text.specs.declared.Ends.TheVariants.{Descriptors, Arrays}
+
+pub on-all : (e : Ends) (S : List ℕ → List ℕ → Type 0) → ((i a : List ℕ) → S i a) → OnArrays e S
+on-all (Descriptors i o) S f = tt
+on-all (Arrays i a) S f = f i.now a.now
+
+pub on_one : (e : Ends) (P S : List ℕ → List ℕ → Type 0) → OnArrays e P → ((i a : List ℕ) → P i a → S i a) → OnArrays e S
+on_one (Descriptors i o) P S p f = tt
+on_one (Arrays i a) P S p f = f i.now a.now p
+
+pub on_two : (e : Ends) (P Q S : List ℕ → List ℕ → Type 0) → OnArrays e P → OnArrays e Q → ((i a : List ℕ) → P i a → Q i a → S i a) → OnArrays e S
+on_two (Descriptors i o) P Q S p q f = tt
+on_two (Arrays i a) P Q S p q f = f i.now a.now p q
+
+pub on_three : (e : Ends) (P Q R S : List ℕ → List ℕ → Type 0) → OnArrays e P → OnArrays e Q → OnArrays e R
+    → ((i a : List ℕ) → P i a → Q i a → R i a → S i a) → OnArrays e S
+on_three (Descriptors i o) P Q R S p q t f = tt
+on_three (Arrays i a) P Q R S p q t f = f i.now a.now p q t
+
+pub on_four : (e : Ends) (P Q R T S : List ℕ → List ℕ → Type 0) → OnArrays e P → OnArrays e Q → OnArrays e R → OnArrays e T
+    → ((i a : List ℕ) → P i a → Q i a → R i a → T i a → S i a) → OnArrays e S
+on_four (Descriptors i o) P Q R T S p q t u f = tt
+on_four (Arrays i a) P Q R T S p q t u f = f i.now a.now p q t u

@@ -1,2 +1,0 @@
--- The laws of the tape.
-pub mod Zeros

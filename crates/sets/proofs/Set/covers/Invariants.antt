@@ -1,0 +1,7 @@
+use Rattle.std.proofs.Common.{get_or}
+use Rattle.sets.proofs.Words.{Laid}
+use Rattle.sets.proofs.Within.{beyond}
+use Rattle.sets.proofs.Set.covers.Given as goal
+
+abbrev pub invariant-loop-i : goal.invariant-loop-i
+invariant-loop-i g l = Laid (λ j. beyond (get_or l.b j 0) (get_or l.a j 0)) l.i l.extra

@@ -1,0 +1,6 @@
+-- `watch_feed` hands on what the library's feed answers and leaves. Assumes nothing.
+use Rattle.watch_c.proofs.Facing.{faced}
+use Rattle.watch_c.proofs.watch_feed.Goals as goal
+
+pub returns : goal.returns
+returns c = faced c.feed-f.ensures c.from.ensures
