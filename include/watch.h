@@ -391,7 +391,7 @@ extern "C" {
 #define WATCH_MOST_STACK 39360
 
 /* Bytes of stack that a call of watch_compile takes at most. */
-#define WATCH_COMPILE_STACK 243008
+#define WATCH_COMPILE_STACK 233728
 
 /* States are the numbers below this one. */
 #define WATCH_STATES 1024

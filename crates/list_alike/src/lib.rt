@@ -100,24 +100,20 @@ fn add_edges(list: &[u8], keys: &mut [u64]) {
     add_marks(&marks, keys);
 }
 
-// The byte that stands at a place, where there is one.
-fn byte_on(places: &[Option<u8>], at: usize) -> Option<u8> {
-    places.get(at).copied().flatten()
-}
-
 // Says whether a byte has the key of byte c.
 fn same_key(keys: &[u64], d: u8, c: u8) -> bool {
     key_at(keys, d as usize) == key_at(keys, c as usize)
 }
 
-// The place at which a byte with the key of byte c stands, or a free one. The places are tried in turn, from the key's own, round the end.
-fn place_of(keys: &[u64], places: &[Option<u8>], c: u8) -> usize {
+// The place at which a byte with the key of byte c stands, or one at which 0 stands. The places are tried in turn, from the key's own, round the end.
+// Bytes, and not options of them: those take twice the room on the stack.
+fn place_of(keys: &[u64], places: &[u8], c: u8) -> usize {
     let key = key_at(keys, c as usize);
     for j in 0..PLACES {
         let at = ((key % 257) as usize + j) % PLACES;
-        match byte_on(places, at) {
-            Some(d) if !same_key(keys, d, c) => {}
-            _ => return at,
+        let d = list::byte_at(places, at);
+        if d == 0 || same_key(keys, d, c) {
+            return at;
         }
     }
     0
@@ -154,19 +150,19 @@ fn edges_alike(list: &[u8], c: u8, d: u8) -> bool
 }
 
 // A byte on which the list steps as on c: the one with its key that stands at a place, where every edge goes alike on both, or c.
-fn alike_to(list: &[u8], keys: &[u64], places: &mut [Option<u8>], c: u8) -> u8
+fn alike_to(list: &[u8], keys: &[u64], places: &mut [u8], c: u8) -> u8
     ensures { Alike list.now result c }
 {
     let at = place_of(keys, places, c);
-    match byte_on(places, at) {
-        Some(d) if same_key(keys, d, c) => if edges_alike(list, d, c) { d } else { c },
-        _ => {
-            if let Some(place) = places.get_mut(at) {
-                *place = Some(c);
-            }
-            c
+    let d = list::byte_at(places, at);
+    if d < c && same_key(keys, d, c) {
+        if edges_alike(list, d, c) {
+            return d;
         }
+        return c;
     }
+    put_byte(places, at, c);
+    c
 }
 
 // Gives each byte one on which the list steps as on it. Bytes of one key, with what is added of the edges, are compared with the lowest of them.
@@ -176,7 +172,7 @@ pub fn fill_alikes(list: &[u8], keys: &mut [u64], alikes: &mut [u8])
 {
     add_edges(list, keys);
     // A table in an array: the library has no heap.
-    let mut places = [None; PLACES];
+    let mut places = [0u8; PLACES];
     for c in 0..BYTE_VALUES {
         alikes[c] = alike_to(list, keys, &mut places, c as u8);
     }

@@ -15,7 +15,6 @@ ghost use Rattle.list_fold.specs.inner.Known.{gives, Linked, Known};
 ghost use Rattle.list_fold.specs.Fold.{folded, FoldAnswers};
 
 use sets::StateSet;
-use std::cmp::Ordering;
 
 // What folding answers: a refusal's number or 0, and the length of the folded list.
 #[derive(Clone, Copy)]
@@ -65,16 +64,18 @@ fn link(list: &[u8], head: &mut [u16], next: &mut [u16])
     }
 }
 
-// The chief of p, where s joins r.
+// The chief of p, where s joins r. By two tests: a comparison as a value costs the fold up to twice the time.
 fn chief_of(leads: &[u16], s: usize, r: usize, p: usize) -> usize
     requires { s ≤ length leads.now }
     ensures { result ≡ chief (take s leads.now ++ (r ∷ [])) p }
 {
-    match p.cmp(&s) {
-        Ordering::Less => number_at(leads, p),
-        Ordering::Equal => r,
-        Ordering::Greater => p,
+    if p < s {
+        return number_at(leads, p);
     }
+    if p == s {
+        return r;
+    }
+    p
 }
 
 // Says whether the edges i and j have the same mark, where s joins r.

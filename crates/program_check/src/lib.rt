@@ -6,13 +6,12 @@
 ghost use Rattle.std.specs.Prelude.{◌≡◌, length};
 ghost use Rattle.program_turn.specs.State.{state_size};
 
-use program_files::{Ending, Unread};
+use program_files::Ending;
 use program_turn::Kind;
-use std::alloc::AllocError;
 use std::fmt;
 
-// The bytes of a list that are read: more than the longest has, so that a longer one is seen as too long.
-const MOST_READ: u64 = 65544;
+// The bytes of a state that are read: one more than it has, so that a longer one is seen as too long.
+const STATE_READ: usize = 4305;
 
 // What is not good about a box.
 #[derive(Clone, Copy, PartialEq, Eq, Debug)]
@@ -24,7 +23,6 @@ enum Fault {
     OtherList,
     BadRecord,
     BadPlace,
-    OutOfMemory,
 }
 
 impl fmt::Display for Fault {
@@ -43,14 +41,7 @@ impl fmt::Display for Fault {
                 f,
                 "the state has a kind or a held place that there is none of"
             ),
-            Fault::OutOfMemory => write!(f, "out of memory"),
         }
-    }
-}
-
-impl From<AllocError> for Fault {
-    fn from(_error: AllocError) -> Fault {
-        Fault::OutOfMemory
     }
 }
 
@@ -90,16 +81,15 @@ fn check_lines(rt: &HostRuntime, file: &[u8]) -> Result<(), Fault> {
 }
 
 // Checks the file of names at a path, where there is one.
-fn check_names(rt: &HostRuntime, path: &str) -> Result<(), Fault> {
-    let file = match program_files::read_texts(rt, path) {
-        Ok(file) => file,
-        Err(Unread::NotOpened) => return Ok(()),
-        Err(Unread::OutOfMemory) => return Err(Fault::OutOfMemory),
+fn check_names(rt: &HostRuntime, path: &[u8]) -> Result<(), Fault> {
+    let mut room = program_files::texts_buffer();
+    let Some(file) = program_files::read_start(rt, path, &mut room) else {
+        return Ok(());
     };
     if file.len() > program_files::MOST_TEXTS {
         return Err(Fault::NamesTooLong);
     }
-    check_lines(rt, file.as_slice())
+    check_lines(rt, file)
 }
 
 // ---- the state
@@ -128,53 +118,53 @@ fn check_parts(rt: &HostRuntime, list: &[u8], state: &[u8]) -> Result<(), Fault>
 }
 
 // Checks the state at a path, which is one of a list with nothing behind it.
-fn check_state(rt: &HostRuntime, list: &[u8], path: &str) -> Result<(), Fault> {
-    let state = match program_files::read_start(rt, path, program_turn::STATE_SIZE as u64 + 1) {
-        Ok(state) => state,
-        Err(Unread::NotOpened) => return Err(Fault::StateNotRead),
-        Err(Unread::OutOfMemory) => return Err(Fault::OutOfMemory),
+fn check_state(rt: &HostRuntime, list: &[u8], path: &[u8]) -> Result<(), Fault> {
+    let mut room = [0u8; STATE_READ];
+    let Some(state) = program_files::read_start(rt, path, &mut room) else {
+        return Err(Fault::StateNotRead);
     };
     if state.len() != program_turn::STATE_SIZE {
         return Err(Fault::NoState);
     }
-    check_parts(rt, list, state.as_slice())
+    check_parts(rt, list, state)
 }
 
 // ---- the command
 
 // Checks what is in a folder, and a state where one is named.
-fn check_box(rt: &HostRuntime, folder: &str, state: Option<&str>) -> Result<Ending, Fault> {
-    let rules = format!(in rt.alloc(); "{folder}/rules.bin")?;
-    let names = format!(in rt.alloc(); "{folder}/names")?;
-    // A list that cannot be opened counts as an empty one.
-    let list = match program_files::read_start(rt, rules.as_str(), MOST_READ) {
-        Ok(list) => list,
-        Err(Unread::NotOpened) => Vec::new(rt.alloc()),
-        Err(Unread::OutOfMemory) => return Err(Fault::OutOfMemory),
-    };
-    let refusal = list::check_list(list.as_slice());
+fn check_box(rt: &HostRuntime, folder: &[u8], state: &[u8]) -> Result<Ending, Fault> {
+    let mut room = io::buffer();
+    let rules = program_files::path_of(&mut room, folder, b"/rules.bin");
+    let mut bytes = program_text::list_buffer();
+    let n = program_text::read_rules(rt, rules, &mut bytes);
+    let list = &bytes[..n];
+    let refusal = list::check_list(list);
     if refusal != rules::PASSED {
         return Ok(Ending::RefusedBy(refusal));
     }
-    say_list(rt, list.as_slice());
-    check_names(rt, names.as_str())?;
-    if let Some(state) = state {
-        check_state(rt, list.as_slice(), state)?;
+    say_list(rt, list);
+    let mut beside = io::buffer();
+    let names = program_files::path_of(&mut beside, folder, b"/names");
+    check_names(rt, names)?;
+    if !state.is_empty() {
+        check_state(rt, list, state)?;
     }
     Ok(Ending::Passed)
 }
 
-// `watch check DIR [STATE]`.
-pub fn check(rt: &HostRuntime, folder: &str, state: Option<&str>) {
+// `watch check DIR [STATE]`; the state has no bytes where none is named. Paths are bytes; one that is no UTF-8 names no file.
+pub fn check_folder(rt: &HostRuntime, folder: &[u8], state: &[u8]) {
     let ending = match check_box(rt, folder, state) {
         Ok(ending) => ending,
         Err(fault) => {
             let _ = eprintln!(rt; "watch: {fault}");
-            if fault == Fault::OutOfMemory {
-                return;
-            }
             Ending::Refused
         }
     };
     let _ = println!(rt; "{ending}");
+}
+
+// The same, by paths that are texts.
+pub fn check(rt: &HostRuntime, folder: &str, state: Option<&str>) {
+    check_folder(rt, folder.as_bytes(), state.unwrap_or("").as_bytes());
 }

@@ -1,40 +1,62 @@
-// What the commands on files share: reading a file; the number and the name at the front of a line; and how a command ends. That they are safe and end is
-// shown, and that what is split off a line and what is left of it are that line.
+// What the commands on files share: paths; reading a file; the number and the name at the front of a line; and how a command ends. That they are safe and end
+// is shown, and that what is split off a line and what is left of it are that line. Paths and files stand in arrays: so there is no memory that may be missing.
 #![tactic(auto)]
 
-ghost use Rattle.std.specs.Prelude.{◌≡◌, ◌+◌, ◌-◌, ◌≤◌, ◌++◌, length, take, drop, IfSome};
+ghost use Rattle.std.specs.Prelude.{◌≡◌, ◌+◌, ◌-◌, ◌<◌, ◌≤◌, ◌++◌, length, take, drop, IfSome};
+ghost use Rattle.io.specs.Counts.{IsPrefixLen};
 
 use std::fmt;
-use std::fs::File;
-use std::io::{ErrorKind, Read};
+use std::os::fd::AsRawFd;
 
 // The most bytes of a file of texts.
 pub const MOST_TEXTS: usize = 1048576;
 
+// ---- paths
+
+// Puts two runs of bytes at the text's start, one after the other; answers where they end, 0 where they have not the room.
+pub fn put_both(text: &mut [u8], first: &[u8], second: &[u8]) -> usize
+    ensures prefix_len { IsPrefixLen result text.new }
+    ensures text_after { 0 < result → take result text.new ≡ first.now ++ second.now }
+{
+    if text.len() < first.len() {
+        return 0;
+    }
+    if text.len() - first.len() < second.len() {
+        return 0;
+    }
+    let at = program_text::put_bytes(text, 0, first);
+    program_text::put_bytes(text, at, second)
+}
+
+// The path of two parts, in an array that is lent; an empty one, which names no file, where it has not the room.
+pub fn path_of<'a>(room: &'a mut [u8], first: &[u8], second: &[u8]) -> &'a [u8] {
+    let n = put_both(room, first, second);
+    &room[..n]
+}
+
 // ---- files
 
-// Why a file is not read: it cannot be opened, or there is no memory for its bytes.
-#[derive(Clone, Copy, PartialEq, Eq, Debug)]
-pub enum Unread {
-    NotOpened,
-    OutOfMemory,
+// Zeros for a place. Behind a call its length is known without its bytes.
+fn zeros<const N: usize>() -> [u8; N]
+    ensures { N ≡ length result }
+{
+    [0; N]
 }
 
-// Reads a file up to its end, a read that fails, or the most bytes that are asked for.
-pub fn read_start(rt: &HostRuntime, path: &str, most: u64) -> Result<Vec<u8>, Unread> {
-    let Ok(file) = File::open(rt, path) else {
-        return Err(Unread::NotOpened);
-    };
-    let mut bytes = Vec::new(rt.alloc());
-    match file.take(most).read_to_end(&mut bytes) {
-        Err(error) if error.kind() == ErrorKind::OutOfMemory => Err(Unread::OutOfMemory),
-        _ => Ok(bytes),
-    }
+// Zeros for a file of texts: a byte more than it may have, so that a longer one is seen as too long.
+pub fn texts_buffer() -> [u8; 1048577]
+    ensures { 1048577 ≡ length result }
+{
+    zeros()
 }
 
-// Reads a file of texts, or of one that is longer a byte more than it may have, so that it is seen as too long.
-pub fn read_texts(rt: &HostRuntime, path: &str) -> Result<Vec<u8>, Unread> {
-    read_start(rt, path, MOST_TEXTS as u64 + 1)
+// Reads a file into what is lent, up to its end, a read that fails, or as many bytes as are lent; none where it cannot be opened.
+pub fn read_start<'a>(rt: &HostRuntime, path: &[u8], bytes: &'a mut [u8]) -> Option<&'a [u8]>
+    ensures { IfSome result (λ b. length b.now ≤ length bytes.old) }
+{
+    let file = program_system::open_read(rt, path).ok()?;
+    let n = io::read_full(file.as_raw_fd(), bytes);
+    Some(&bytes[..n])
 }
 
 // ---- lines

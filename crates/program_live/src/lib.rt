@@ -15,7 +15,7 @@ ghost use Rattle.program_live.specs.Live as def;
 use program_text::Taken;
 use program_turn::{Kind, Next};
 use std::fs;
-use std::fs::{File, OpenOptions};
+use std::fs::File;
 use std::io::{Error, ErrorKind, Read, Seek, SeekFrom};
 use std::os::fd::AsRawFd;
 
@@ -200,7 +200,7 @@ impl Reach<'_> {
         Unit {
             start: Some(0),
             from: 0,
-            to: program_system::read_some(self.rt, self.line, bytes).unwrap_or(0),
+            to: program_system::read_some(self.rt, self.line, bytes),
             at: 0,
         }
     }
@@ -445,15 +445,15 @@ struct LiveLine<'a> {
     rt: &'a HostRuntime,
     kind: Kind,
     list: &'a [u8],
-    line: &'a str,
-    name: &'a str,
-    lines: &'a str,
+    line: &'a [u8],
+    name: &'a [u8],
+    lines: &'a [u8],
 }
 
 impl LiveLine<'_> {
     // Loads the saved state; answers whether there is one.
     fn load(&self, state: &mut [u8]) -> Result<bool, Told> {
-        let file = match File::open(self.rt, self.name) {
+        let file = match program_system::open_read(self.rt, self.name) {
             Err(error) if error.kind() == ErrorKind::NotFound => return Ok(false),
             opened => or_say(self.rt, "watch: the state cannot be read", opened)?,
         };
@@ -526,7 +526,7 @@ impl LiveLine<'_> {
         or_say(
             self.rt,
             "watch: the line cannot be opened",
-            File::open(self.rt, self.line),
+            program_system::open_read(self.rt, self.line),
         )
     }
 
@@ -539,14 +539,15 @@ impl LiveLine<'_> {
                 rt: self.rt,
                 line: Some(line),
                 lines: Some(lines),
-                name: Some(self.name),
+                // (it is a text, as the state was looked for by it)
+                name: program_system::text_of(self.name).ok(),
             }),
         }
     }
 
     // Begins: the lines are emptied.
     fn begin(&self) -> Result<(), Told> {
-        let opened = File::create(self.rt, self.lines);
+        let opened = program_system::open_overwrite(self.rt, self.lines);
         let lines = or_say(self.rt, "watch: the lines cannot be opened", opened)?;
         let line = self.open_line()?;
         self.between(&line, &lines).watch(self.kind, &mut [0; 1]);
@@ -557,10 +558,7 @@ impl LiveLine<'_> {
     fn resume(&self, state: &mut [u8]) -> Result<(), Told>
         requires { length state.old ≡ state_size }
     {
-        let opened = OpenOptions::new()
-            .read(true)
-            .write(true)
-            .open(self.rt, self.lines);
+        let opened = program_system::open_update(self.rt, self.lines);
         let lines = or_say(self.rt, "watch: the lines cannot be opened", opened)?;
         self.cut_lines(&lines, numbers::number_at(state, program_turn::LINES_AT, 8))?;
         let line = self.open_line()?;
@@ -580,17 +578,17 @@ impl LiveLine<'_> {
     }
 }
 
-// Watches a live line by the list in a file: from its saved state on, or from the beginning where there is none.
-pub fn watch_line(
+// Watches a live line by the list in a file: from its saved state on, or from the beginning where there is none. Paths are bytes; one that is no UTF-8 names no file.
+pub fn live(
     rt: &HostRuntime,
     segments: bool,
-    rules: &str,
-    line: &str,
-    name: &str,
-    lines: &str,
+    rules: &[u8],
+    line: &[u8],
+    name: &[u8],
+    lines: &[u8],
 ) {
     let mut list = program_text::list_buffer();
-    let n = program_text::read_list(rt, rules, &mut list);
+    let n = program_text::read_rules(rt, rules, &mut list);
     let live = LiveLine {
         rt,
         kind: if segments {
@@ -606,10 +604,29 @@ pub fn watch_line(
     let _told = live.watch().is_err();
 }
 
+// The same, by paths that are texts.
+pub fn watch_line(
+    rt: &HostRuntime,
+    segments: bool,
+    rules: &str,
+    line: &str,
+    name: &str,
+    lines: &str,
+) {
+    live(
+        rt,
+        segments,
+        rules.as_bytes(),
+        line.as_bytes(),
+        name.as_bytes(),
+        lines.as_bytes(),
+    );
+}
+
 // Watches a line of segments that is recorded on standard input, by the list in a file; lines go to standard output.
-pub fn watch_recorded(rt: &HostRuntime, rules: &str) {
+pub fn recorded(rt: &HostRuntime, rules: &[u8]) {
     let mut list = program_text::list_buffer();
-    let n = program_text::read_list(rt, rules, &mut list);
+    let n = program_text::read_rules(rt, rules, &mut list);
     let line = Line {
         list: &list[..n],
         keeping: false,
@@ -621,4 +638,9 @@ pub fn watch_recorded(rt: &HostRuntime, rules: &str) {
         }),
     };
     line.watch(Kind::Segments, &mut [0; 1]);
+}
+
+// The same, by a path that is a text.
+pub fn watch_recorded(rt: &HostRuntime, rules: &str) {
+    recorded(rt, rules.as_bytes());
 }

@@ -3,18 +3,42 @@
 #![tactic(auto)]
 
 ghost use Rattle.std.specs.Io.{ReadsAtMost};
+ghost use Rattle.io.specs.Counts.{IsPrefixLen};
 
-use std::fs::File;
+use std::fs::{File, OpenOptions};
 use std::io;
-use std::io::{Error, Read, Write, writer};
+use std::io::{Error, ErrorKind, Read, Write, writer};
 
 // What a device answers that cannot be synced, since it is no file.
 const NO_FILE: i32 = 22;
 
+// ---- paths
+
+// The text of a path; one that is no UTF-8 names no file.
+pub fn text_of(path: &[u8]) -> Result<&str, Error> {
+    str::from_utf8(path).map_err(|_| Error::from(ErrorKind::InvalidInput))
+}
+
+// Opens a file to read it.
+pub fn open_read(rt: &HostRuntime, path: &[u8]) -> Result<File, Error> {
+    File::open(rt, text_of(path)?)
+}
+
+// Opens a file to write it, empty; where there is none, a new one.
+pub fn open_overwrite(rt: &HostRuntime, path: &[u8]) -> Result<File, Error> {
+    File::create(rt, text_of(path)?)
+}
+
+// Opens a file to read and write it, with its bytes as they are.
+pub fn open_update(rt: &HostRuntime, path: &[u8]) -> Result<File, Error> {
+    let text = text_of(path)?;
+    OpenOptions::new().read(true).write(true).open(rt, text)
+}
+
 // ---- files
 
 // Reads what has come of a file, or of standard input where none is lent; answers how many bytes came.
-pub fn read_some(rt: &HostRuntime, file: Option<&File>, bytes: &mut [u8]) -> io::Result<usize>
+pub fn try_read(rt: &HostRuntime, file: Option<&File>, bytes: &mut [u8]) -> io::Result<usize>
     ensures { ReadsAtMost result bytes.new }
 {
     match file {
@@ -24,6 +48,13 @@ pub fn read_some(rt: &HostRuntime, file: Option<&File>, bytes: &mut [u8]) -> io:
         }
         None => rt.stdin().read(bytes),
     }
+}
+
+// The same, where a read that fails counts as one of no bytes.
+pub fn read_some(rt: &HostRuntime, file: Option<&File>, bytes: &mut [u8]) -> usize
+    ensures { IsPrefixLen result bytes.new }
+{
+    try_read(rt, file, bytes).unwrap_or(0)
 }
 
 // Writes all the bytes to a file, or to standard output where none is lent.

@@ -96,6 +96,7 @@ fn piece_of(offset: u64) -> Option<usize>
 // How many bytes of piece k stand before an offset.
 fn bytes_before(k: usize, offset: u64) -> usize
     requires { k ≤ 4096 }
+    ensures { result ≤ 4096 }
 {
     offset.saturating_sub(start_of(k)).min(PIECE as u64) as usize
 }
@@ -293,20 +294,37 @@ fn number(word: &str) -> Option<u32> {
     }
 }
 
+// The same of a word as bytes.
+fn number_in(word: &[u8]) -> Option<u32> {
+    number(str::from_utf8(word).ok()?)
+}
+
 // `watch why DIR FLOW SIGNATURE OFFSET`, of the list at a path: a line for each offset from 0 on, the state there and the record that led to it.
-pub fn why_told(rt: &HostRuntime, path: &str, flow: &str, signature: &str, offset: &str) {
-    let (Some(signature), Some(offset)) = (number(signature), number(offset)) else {
+// Paths and words are bytes; a path that is no UTF-8 names no file.
+pub fn why(rt: &HostRuntime, path: &[u8], flow: &[u8], signature: &[u8], offset: &[u8]) {
+    let (Some(signature), Some(offset)) = (number_in(signature), number_in(offset)) else {
         let _said = eprintln!(rt;
             "watch: signature and offset are numbers up to 4294967295"
         ).is_ok();
         return;
     };
     let mut list = program_text::list_buffer();
-    let n = program_text::read_list(rt, path, &mut list);
-    match File::open(rt, flow) {
+    let n = program_text::read_rules(rt, path, &mut list);
+    match program_system::open_read(rt, flow) {
         Ok(file) => explain(rt, &list[..n], &file, signature, offset as u64),
         Err(_) => {
             let _said = eprintln!(rt; "watch: the flow cannot be opened").is_ok();
         }
     }
+}
+
+// The same, by texts.
+pub fn why_told(rt: &HostRuntime, path: &str, flow: &str, signature: &str, offset: &str) {
+    why(
+        rt,
+        path.as_bytes(),
+        flow.as_bytes(),
+        signature.as_bytes(),
+        offset.as_bytes(),
+    );
 }

@@ -98,7 +98,9 @@ pub fn front<T>(all: &mut [T], n: usize) -> &mut [T]
 }
 
 // Reads a run into the front of a field: the input's next byte says how many zeros it has, the one after how many bytes follow them. Answers the rest of the field.
-fn read_run(field: &mut [u8]) -> &mut [u8] {
+fn read_run(field: &mut [u8]) -> &mut [u8]
+    ensures { length result.now ≤ length field.old }
+{
     let [zeros, written] = read_array::<2>();
     let n = field.len().min(usize::from(zeros));
     let (blank, rest) = field.split_at_mut(n);

@@ -2,7 +2,7 @@
 // The numbers are those of the definitions, one by one; `take` and `due` have them as C gives them.
 #![tactic(auto)]
 
-ghost use Rattle.std.specs.Prelude.{◌≡◌, ◌&&◌, ◌||◌, length};
+ghost use Rattle.std.specs.Prelude.{◌≡◌, ◌&&◌, ◌||◌, ◌≤◌, ◌++◌, length, drop};
 ghost use Rattle.segment.specs.Resend.{distance, ahead, has_next, all_before, bad_sizes, early, full, up_to, taking, part_due, due};
 ghost use Rattle.segment.specs.Post.{Takes, number_of, Finds};
 
@@ -117,6 +117,16 @@ fn refuses(next: u32, h: usize, p: u32, n: usize, q: u32, s: usize) -> bool
     bad_sizes(h, n, s) || early(next, q, s) && full(next, p, n, s)
 }
 
+// Copies the segment to the front of the held buffer. Byte by byte: of a copy of all at once the compiler makes a call of C's memmove.
+fn copy(held: &mut [u8], segment: &[u8])
+    requires { length segment.now ≤ length held.old }
+    ensures { held.new ≡ segment.now ++ drop (length segment.now) held.old }
+{
+    for i in 0..segment.len() {
+        held[i] = segment[i];
+    }
+}
+
 // Takes a segment whose first byte has number `start`, where the next byte due has number `next`: drops it, holds it, or refuses it with 18.
 // Where nothing is refused, a held place whose bytes all came before is answered with length 0.
 pub fn take(
@@ -138,7 +148,7 @@ pub fn take(
         };
     }
     if early(next, start, segment.len()) {
-        held[..segment.len()].copy_from_slice(segment);
+        copy(held, segment);
         return Held {
             refusal: rules::PASSED,
             start,

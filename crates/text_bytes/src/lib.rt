@@ -81,7 +81,7 @@ fn class_set(text: &[u8], at: usize) -> ByteSet
     ensures { (ms : List Member) (y : List ℕ) → ok_members ms ≡ true → drop at text.now ≡ spell_members ms ++ (93 ∷ y) → (c : ℕ) → c < 256 → holds (byte_set_of result) c ≡ members_have ms c }
 {
     let mut next = at;
-    let mut set = ByteSet::EMPTY;
+    let mut set = ByteSet::empty();
     // A step is a whole member.
     while next < text.len() && text[next] != b']' {
         let more = member_of(text, next, set);
@@ -96,7 +96,7 @@ pub fn leaf_set(text: &[u8], at: usize) -> ByteSet
     requires { at < length text.now }
     ensures { (l : Leaf) (y : List ℕ) → ok_leaf l ≡ true → drop at text.now ≡ spell_leaf l ++ y → (c : ℕ) → c < 256 → holds (byte_set_of result) c ≡ leaf_has l c }
 {
-    let none = ByteSet::EMPTY;
+    let none = ByteSet::empty();
     match text[at] {
         b'.' => span(none, 0, 255),
         b'[' => {

@@ -38,7 +38,7 @@ fn any_arrows(bound: bool) -> Incoming
     ensures { (set_of result.from ≡ cond bound 0 (insert states 0 0)) × ((c : ℕ) → c < 256 → holds (byte_set_of result.letter) c ≡ true) }
 {
     let none = StateSet::EMPTY;
-    let letter = span(ByteSet::EMPTY, 0, 255);
+    let letter = span(ByteSet::empty(), 0, 255);
     if bound {
         return Incoming { from: none, letter };
     }

@@ -3,7 +3,7 @@
 // A place in the text is a number, since the promises say what is left of the text behind it.
 #![tactic(auto)]
 
-ghost use Rattle.std.specs.Prelude.{◌≡◌, ℕ, ◌≤◌, ◌<◌, ◌+◌, length, drop, get_or, eqb, cond, false};
+ghost use Rattle.std.specs.Prelude.{◌≡◌, true, ℕ, ◌≤◌, ◌<◌, ◌+◌, length, drop, get_or, eqb, cond, false};
 ghost use Rattle.std.specs.Bool.{then_some};
 ghost use Rattle.text.specs.Grammar.{amid, special, class_special, is_hex};
 ghost use Rattle.text.specs.Acceptor.{begin, fresh, after, esc, lone1, cesc, chex2, to, tesc, thex1, thex2, num, live, can, members, mode, verdict};
@@ -314,6 +314,39 @@ fn inside(text: &[u8], at: usize, from: Inner) -> Result<usize, Fault>
 
 // ---- alternatives, sequences and items
 
+// Whether a letter stands for itself at a place, with no mark behind it.
+fn is_lone(text: &[u8], at: usize) -> bool
+    requires { at < length text.now }
+    ensures { result ≡ true → (d : ℕ) → d ≤ 16 → verdict (live d fresh) at (drop at text.now) ≡ verdict (live d fresh) (at + 1) (drop (at + 1) text.now) }
+{
+    if is_special(text[at]) {
+        return false;
+    }
+    if at + 1 == text.len() {
+        return true;
+    }
+    match text[at + 1] {
+        b'{' => false,
+        b'*' | b'+' | b'?' => false,
+        _ => true,
+    }
+}
+
+// The place behind the letters from a place on that stand for themselves: most of a long text is such, and none needs more than a look.
+fn letters(text: &[u8], at: usize) -> usize
+    requires { at ≤ length text.now }
+    ensures { (at ≤ result) × (result ≤ length text.now)
+        × ((d : ℕ) → d ≤ 16 → verdict (live d fresh) at (drop at text.now) ≡ verdict (live d fresh) result (drop result text.now)) }
+{
+    // By index: the place is what is answered.
+    for next in at..text.len() {
+        if !is_lone(text, next) {
+            return next;
+        }
+    }
+    text.len()
+}
+
 // Sequences with bars between them, up to a closing bracket or the end.
 #[cycle(alternatives_item_sequence)]
 fn alternatives(text: &[u8], at: usize, depth: usize) -> Result<usize, Fault>
@@ -334,10 +367,10 @@ fn sequence(text: &[u8], at: usize, depth: usize) -> Result<usize, Fault>
     requires { (at ≤ length text.now) × (depth ≤ 16) }
     ensures { (verdict (live depth fresh) at (drop at text.now) ≡ went text.now depth result) × Ahead at (length text.now) result × Pauses text.now result }
 {
-    let mut next = at;
+    let mut next = letters(text, at);
     // A step is a whole item.
     while next < text.len() && text[next] != b'|' && text[next] != b')' {
-        next = item(text, next, depth)?;
+        next = letters(text, item(text, next, depth)?);
     }
     Ok(next)
 }

@@ -24,12 +24,18 @@ fn short(word: &str) -> &str {
     if word.len() > MOST_WORD { "" } else { word }
 }
 
+// The path of a folder's list, in an array that is lent.
+fn rules_of<'a>(room: &'a mut [u8], folder: &str) -> &'a str {
+    let path = program_files::path_of(room, folder.as_bytes(), b"/rules.bin");
+    str::from_utf8(path).unwrap_or("")
+}
+
 // Does what a command says.
-fn perform(rt: &HostRuntime, command: Command<'_>) -> Result<(), AllocError> {
-    let alloc = rt.alloc();
+fn perform(rt: &HostRuntime, command: Command<'_>) {
+    let mut room = io::buffer();
     match command {
         Command::Run { folder } => {
-            let rules = format!(in alloc; "{folder}/rules.bin")?;
+            let rules = rules_of(&mut room, folder);
             program_run::start(rt, rules.as_bytes());
         }
         Command::Check { folder, state } => program_check::check(rt, folder, state),
@@ -40,8 +46,8 @@ fn perform(rt: &HostRuntime, command: Command<'_>) -> Result<(), AllocError> {
             signature,
             offset,
         } => {
-            let rules = format!(in alloc; "{folder}/rules.bin")?;
-            program_why::why_told(rt, rules.as_str(), flow, signature, offset);
+            let rules = rules_of(&mut room, folder);
+            program_why::why_told(rt, rules, flow, signature, offset);
         }
         Command::Live {
             segments,
@@ -50,15 +56,14 @@ fn perform(rt: &HostRuntime, command: Command<'_>) -> Result<(), AllocError> {
             state,
             lines,
         } => {
-            let rules = format!(in alloc; "{folder}/rules.bin")?;
-            program_live::watch_line(rt, segments, rules.as_str(), line, state, lines);
+            let rules = rules_of(&mut room, folder);
+            program_live::watch_line(rt, segments, rules, line, state, lines);
         }
         Command::Segments { folder } => {
-            let rules = format!(in alloc; "{folder}/rules.bin")?;
-            program_live::watch_recorded(rt, rules.as_str());
+            let rules = rules_of(&mut room, folder);
+            program_live::watch_recorded(rt, rules);
         }
     }
-    Ok(())
 }
 
 // Does what the words of the command line say, or says how the program is called. Words that are no UTF-8 are those of no command.
@@ -76,13 +81,14 @@ fn answer(rt: &HostRuntime) -> Result<(), AllocError> {
         Ok(command) => perform(rt, command),
         Err(_) => {
             let _ = rt.eprint(USAGE);
-            Ok(())
         }
     }
+    Ok(())
 }
 
+// Where there is no memory for the words, they are those of no command.
 fn main(rt: HostRuntime) {
     if answer(&rt).is_err() {
-        let _ = eprintln!(rt; "watch: out of memory");
+        let _ = rt.eprint(USAGE);
     }
 }

@@ -1,5 +1,5 @@
 -- Each return is a case of the definition. Assumes nothing.
-use Rattle.std.proofs.Common.{◌≡◌, ℕ, List, length, length-take-le, refl, sym, ap, ◌∙◌, arith}
+use Rattle.std.proofs.Common.{◌≡◌, ℕ, List, length, refl, sym, ap, ◌∙◌, arith}
 use Rattle.segment.specs.Resend as resend
 use Rattle.segment.specs.Post.{Takes}
 use Rattle.segment.specs.declared.Held.{Held}
@@ -21,23 +21,11 @@ returns-then-refuses c =
     let a = c.args in
     is _ _ _ _ (take-refused a.next a.held.now a.held_start a.held_length a.start a.segment.now (sym c.refuses.ensures ∙ c.if-refuses.true)) refl refl refl refl
 
-pub slice_bounds-copy_from_slice-end : goal.slice_bounds-copy_from_slice-end
-slice_bounds-copy_from_slice-end c =
+pub copy-requires : goal.copy-requires
+copy-requires c =
     let a = c.args in
     let k = kept-fits a.next a.held.now a.held_start a.held_length a.start a.segment.now (sym c.refuses.ensures ∙ c.if-refuses.false) (sym c.early.ensures ∙ c.if-early.true) in
     omega (arith, k.0, k.1)
-
-pub slice_bounds-copy_from_slice-end-then-early : goal.slice_bounds-copy_from_slice-end-then-early
-slice_bounds-copy_from_slice-end-then-early c =
-    let a = c.args in
-    let k = kept-fits a.next a.held.now a.held_start a.held_length a.start a.segment.now (sym c.refuses.ensures ∙ c.if-refuses.false) (sym c.early.ensures ∙ c.if-early.true) in
-    omega (arith, k.0, k.1, length-take-le (length a.segment.now) a.held.now (omega (arith, k.0, k.1)))
-
-pub copy_from_slice-requires : goal.copy_from_slice-requires
-copy_from_slice-requires c =
-    let a = c.args in
-    let k = kept-fits a.next a.held.now a.held_start a.held_length a.start a.segment.now (sym c.refuses.ensures ∙ c.if-refuses.false) (sym c.early.ensures ∙ c.if-early.true) in
-    length-take-le (length a.segment.now) a.held.now (omega (arith, k.0, k.1))
 
 pub overflow_cast-result : goal.overflow_cast-result
 overflow_cast-result c =
@@ -48,7 +36,7 @@ pub returns-then-early : goal.returns-then-early
 returns-then-early c =
     let a = c.args in
     is _ _ _ _ (take-kept a.next a.held.now a.held_start a.held_length a.start a.segment.now (sym c.refuses.ensures ∙ c.if-refuses.false) (sym c.early.ensures ∙ c.if-early.true))
-    refl refl refl (rw c.copy_from_slice.ensures.after)
+    refl refl refl c.copy.ensures
 
 pub returns-then-all_before : goal.returns-then-all_before
 returns-then-all_before c =

@@ -1,11 +1,11 @@
 use Rattle.std.proofs.Common.{◌≡◌, get_or, ap, ◌∙◌, arith}
-use Rattle.sets.specs.Set.{byte_set_of, holds, byte_words}
-use Rattle.sets.proofs.Sets.{empty-words, holds-empty}
+use Rattle.sets.specs.Set.{byte_set_of, holds}
+use Rattle.sets.proofs.Sets.{holds-empty}
 use Rattle.text_bytes.proofs.Bytes.{had-start, had-end, had-more, had-gone}
 use Rattle.text_bytes.proofs.class_set.Goals as goal
 
 pub loop-next-init : goal.loop-next-init
-loop-next-init c = had-start c.args.text.now c.args.at (byte_set_of _) (λ x. ap (λ z. holds z x) (empty-words byte_words) ∙ holds-empty x)
+loop-next-init c = had-start c.args.text.now c.args.at (byte_set_of _) (λ x. ap (λ z. holds z x) c.empty-set.ensures ∙ holds-empty x)
 
 pub loop-next-preserved : goal.loop-next-preserved
 loop-next-preserved c =

@@ -1,21 +1,15 @@
-use Rattle.std.proofs.Common.{sym, ap, ◌∙◌, inl, inr, ◌⊎◌, ◌≡◌, ◌<◌, ◌≤◌, ◌+◌, ℕ, false, length, get_or, replicate, arith}
-use Rattle.numbers.specs.Number.{num}
-use Rattle.sets.specs.Set.{byte_set_of, holds, byte_words}
-use Rattle.sets.proofs.Sets.{empty-words, holds-empty}
+use Rattle.std.proofs.Common.{sym, ap, ◌∙◌, inl, inr, ◌⊎◌, ◌≡◌, ◌<◌, ◌≤◌, ◌+◌, ℕ, false, length, get_or, arith}
+use Rattle.sets.specs.Set.{byte_set_of, holds}
+use Rattle.sets.proofs.Sets.{holds-empty}
 use Rattle.text_bytes.proofs.Bytes.{adds_none, leaf-any, leaf-negated, leaf-members, leaf-space, leaf-single}
 use Rattle.text_bytes.proofs.leaf_set.Goals as goal
 use Rattle.text_bytes.proofs.leaf_set.Goals.{else-at-text-via-then-at-text+else-text-at-eq94, else-at-text-via-else-at-text}
 
-none : ℕ
-none = num 64 (replicate byte_words 0)
-
-none-holds : (x : ℕ) → holds none x ≡ false
-unfolding none
-none-holds x = ap (λ z. holds z x) (empty-words byte_words) ∙ holds-empty x
+none-holds : (none : ℕ) → none ≡ 0 → (x : ℕ) → holds none x ≡ false
+none-holds none e x = ap (λ z. holds z x) e ∙ holds-empty x
 
 pub returns-in-46 : goal.returns-in-46
-unfolding none
-returns-in-46 c = leaf-any c.args.text.now c.args.at (byte_set_of c.span.result) c.in-46.is (adds_none none (byte_set_of c.span.result) 0 255 none-holds c.span.ensures)
+returns-in-46 c = leaf-any c.args.text.now c.args.at (byte_set_of c.span.result) c.in-46.is (adds_none (byte_set_of c.empty-none.result) (byte_set_of c.span.result) 0 255 (none-holds _ c.empty-none.ensures) c.span.ensures)
 
 pub returns-then-text-at-eq94 : goal.returns-then-text-at-eq94
 returns-then-text-at-eq94 c =
@@ -33,13 +27,11 @@ returns-else-at-text c =
     leaf-members T n (byte_set_of c.class_set-in-91.result) c.in-91.is other c.class_set-in-91.ensures
 
 pub returns-in_default : goal.returns-in_default
-unfolding none
 returns-in_default c =
     leaf-space c.args.text.now c.args.at (byte_set_of c.span-blank.result) (byte_set_of c.span-in_default.result) (sym c.white.ensures ∙ c.if-white.true)
-    (adds_none none (byte_set_of c.span-blank.result) 32 32 none-holds c.span-blank.ensures) c.span-in_default.ensures
+    (adds_none (byte_set_of c.empty-none.result) (byte_set_of c.span-blank.result) 32 32 (none-holds _ c.empty-none.ensures) c.span-blank.ensures) c.span-in_default.ensures
 
 pub returns-in_default-2 : goal.returns-in_default-2
-unfolding none
 returns-in_default-2 c =
     let T = c.args.text.now in
     let n = c.args.at in
@@ -47,4 +39,4 @@ returns-in_default-2 c =
     let n46 : get_or T n 0 ≡ 46 → ⊥ = λ z. omega arith in
     let n91 : get_or T n 0 ≡ 91 → ⊥ = λ z. omega arith in
     leaf-single T n (byte_set_of c.span-in_default-2.result) s.result.value s.result.next n46 n91 (sym c.white.ensures ∙ c.if-white.false) s.ensures.2
-    (adds_none none (byte_set_of c.span-in_default-2.result) s.result.value s.result.value none-holds c.span-in_default-2.ensures)
+    (adds_none (byte_set_of c.empty-none.result) (byte_set_of c.span-in_default-2.result) s.result.value s.result.value (none-holds _ c.empty-none.ensures) c.span-in_default-2.ensures)
